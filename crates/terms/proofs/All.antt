@@ -1,0 +1,62 @@
+-- All: what holds of each element of a list, carried through the list's operations.
+use mathlib.Core.Path.{_≡_, refl}
+use mathlib.Core.Bool.{Bool, true, false, cond}
+use mathlib.Core.List.{List, [], _∷_, _++_, map}
+use Prim.Native.Nat.{ℕ, zero, suc, _+_, _<_}
+use native.Mathlib.Omega.{arith}
+use lib.ListN.{length, getD}
+use Rattle.terms.specs.Lists.{All, keep, range}
+
+module _ {A : Type 0} where
+  pub all-always : (P : A → Type 0) → ((x : A) → P x) → (l : List A) → All P l
+  all-always P f [] = tt
+  all-always P f (x ∷ l) = (f x, all-always P f l)
+
+  pub all-implies : (P Q : A → Type 0) → ((x : A) → P x → Q x) → (l : List A) → All P l → All Q l
+  all-implies P Q f [] a = tt
+  all-implies P Q f (x ∷ l) a = (f x (a .0), all-implies P Q f l (a .1))
+
+  pub all-both : (P Q : A → Type 0) (l : List A) → All P l → All Q l → All (λ x. P x × Q x) l
+  all-both P Q [] a b = tt
+  all-both P Q (x ∷ l) a b = ((a .0, b .0), all-both P Q l (a .1) (b .1))
+
+  pub all-append : (P : A → Type 0) (l m : List A) → All P l → All P m → All P (l ++ m)
+  all-append P [] m a b = b
+  all-append P (x ∷ l) m a b = (a .0, all-append P l m (a .1) b)
+
+  pub all-left : (P : A → Type 0) (l m : List A) → All P (l ++ m) → All P l
+  all-left P [] m a = tt
+  all-left P (x ∷ l) m a = (a .0, all-left P l m (a .1))
+
+  pub all-right : (P : A → Type 0) (l m : List A) → All P (l ++ m) → All P m
+  all-right P [] m a = a
+  all-right P (x ∷ l) m a = all-right P l m (a .1)
+
+  -- By index, and back.
+  pub all-at : (P : A → Type 0) (d : A) (l : List A) → All P l → (i : ℕ) → i < length l → P (getD l i d)
+  all-at P d [] a i h = absurd (omega arith)
+  all-at P d (x ∷ l) a zero h = a .0
+  all-at P d (x ∷ l) a (suc i) h = all-at P d l (a .1) i (omega arith)
+
+  pub at-all : (P : A → Type 0) (d : A) (l : List A) → ((i : ℕ) → i < length l → P (getD l i d)) → All P l
+  at-all P d [] h = tt
+  at-all P d (x ∷ l) h = (h zero (omega arith), at-all P d l (λ i k. h (suc i) (omega arith)))
+
+  -- What is kept passes the test.
+  pub all-keep : (P : A → Type 0) (t : A → Bool) (l : List A) → All P l → All (λ x. P x × (t x ≡ true)) (keep t l)
+  all-keep P t [] a = tt
+  all-keep P t (x ∷ l) a = go (t x) refl (all-keep P t l (a .1))
+    where
+      go : (b : Bool) → t x ≡ b → All (λ y. P y × (t y ≡ true)) (keep t l) →
+          All (λ y. P y × (t y ≡ true)) (cond b (x ∷ keep t l) (keep t l))
+      go true e rest = ((a .0, e), rest)
+      go false e rest = rest
+
+pub all-map : {A B : Type 0} (P : B → Type 0) (f : A → B) (l : List A) → All (λ x. P (f x)) l → All P (map f l)
+all-map P f [] a = tt
+all-map P f (x ∷ l) a = (a .0, all-map P f l (a .1))
+
+pub all-range : (from n : ℕ) → All (λ k. k < from + n) (range from n)
+all-range from zero = tt
+all-range from (suc n) =
+    (omega arith, all-implies (λ k. k < suc from + n) (λ k. k < from + suc n) (λ k h. omega arith) (range (suc from) n) (all-range (suc from) n))

@@ -1,0 +1,77 @@
+-- Incident: the theorems on document 01's vocabulary A and its pattern wait(up, free).
+--
+--   A                      document 01's vocabulary A as a signature: step 0, button 1, queue 2
+--   p                      the pattern wait(up, free)
+--   incident               the situation wait(up, full)
+--   listed                 the leftovers are done, wait(down, _) and wait(up, full)
+--   incident-third         the situation fits the third leftover
+--   incident-only-third    .. and neither the pattern nor another leftover
+--   inhabited              each of A's sorts has a ground term
+--   each-has-its-own       each leftover has a ground term that fits it and nothing else
+--
+use mathlib.Core.Path.{_≡_, refl, sym, _∙_}
+use mathlib.Core.List.{List, [], _∷_}
+use Prim.Native.Nat.{ℕ, _<_}
+use native.Mathlib.Omega.{arith}
+use lib.ListN.{getD}
+use Rattle.terms.specs.Signature.{Symbol, Signature, WellFormed}
+use Rattle.terms.specs.Term.{Term, any, app, nil, cons, Ground, gapp, gnil, gcons, Sorted, SortedG, Linear}
+use Rattle.terms.specs.Filling.{Fits}
+use Rattle.terms.specs.Matcher.{noFilling}
+use Rattle.terms.specs.Listing.{listing, withEntries, Inhabited}
+use Rattle.terms.proofs.Term.{linear-well-sorted}
+use Rattle.terms.proofs.Theorems.{matcher-is-exact, entries-are-sound, partition, strike-out, first-empty-is-exact}
+
+abbrev word : ℕ → List ℕ → Symbol
+word s ks = record { result = s; arguments = ks }
+
+-- wait, up, down, free, full, done.
+abbrev A : Signature
+A = record {
+  sorts = 3;
+  symbols = word 0 (1 ∷ 2 ∷ []) ∷ word 1 [] ∷ word 1 [] ∷ word 2 [] ∷ word 2 [] ∷ word 0 [] ∷ [];
+}
+
+abbrev p : Term
+p = app 0 (cons (app 1 nil) (cons (app 3 nil) nil))
+
+abbrev incident : Ground
+incident = gapp 0 (gcons (gapp 1 gnil) (gcons (gapp 4 gnil) gnil))
+
+listed :
+    listing A p ≡
+    app 5 nil ∷ app 0 (cons (app 2 nil) (cons any nil)) ∷ app 0 (cons (app 1 nil) (cons (app 4 nil) nil)) ∷ []
+listed = refl
+
+well-formed : WellFormed A
+well-formed = omega arith
+
+p-sorted : Sorted A p 0
+p-sorted = omega arith
+
+p-linear : Linear p
+p-linear = tt
+
+incident-sorted : SortedG A incident 0
+incident-sorted = omega arith
+
+incident-third : Fits A (getD (withEntries A p) 3 any) 0 incident
+incident-third =
+    let sound = entries-are-sound A p 0 p-sorted p-linear .1 .1 .0 in
+    let well = linear-well-sorted A (getD (withEntries A p) 3 any) 0 (sound .0) (sound .1) in
+    let r = matcher-is-exact A (getD (withEntries A p) 3 any) 0 incident noFilling well incident-sorted .0 refl in
+    (noFilling, r .0, r .1)
+
+incident-only-third : (j : ℕ) → j < 4 → Fits A (getD (withEntries A p) j any) 0 incident → j ≡ 3
+incident-only-third j b h =
+    let one = partition A p 0 well-formed p-sorted p-linear incident incident-sorted in
+    one .3 j b h ∙ sym (one .3 3 (omega arith) incident-third)
+
+inhabited : Inhabited A
+inhabited = first-empty-is-exact A well-formed .missed .0 refl
+
+each-has-its-own :
+    (i : ℕ) → i < 3 →
+    (g : Ground) × SortedG A g 0 × Fits A (getD (listing A p) i any) 0 g × (Fits A p 0 g → ⊥) ×
+    ((j : ℕ) → j < 3 → Fits A (getD (listing A p) j any) 0 g → j ≡ i)
+each-has-its-own = strike-out A p 0 well-formed inhabited p-sorted p-linear

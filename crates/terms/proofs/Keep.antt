@@ -1,0 +1,46 @@
+-- Keep: laws of the elements that pass a test.
+use mathlib.Core.Path.{_≡_, refl, sym, _∙_, ap, fun-ext}
+use mathlib.Core.Bool.{Bool, true, false, cond, _&&_, _||_, and-false}
+use mathlib.Core.List.{List, [], _∷_}
+use Prim.Native.Nat.{ℕ}
+use lib.Dec.{eqb}
+use borrow.Author.Tests.{eqb-true}
+use Rattle.terms.specs.Lists.{occurs, NoneTwice, keep}
+
+module _ {A : Type 0} where
+  pub keep-keep : (p q : A → Bool) (l : List A) → keep p (keep q l) ≡ keep (λ x. q x && p x) l
+  keep-keep p q [] = refl
+  keep-keep p q (x ∷ l) = go (q x) (keep-keep p q l)
+    where
+      go : (b : Bool) → keep p (keep q l) ≡ keep (λ x. q x && p x) l →
+          keep p (cond b (x ∷ keep q l) (keep q l)) ≡ cond (b && p x) (x ∷ keep (λ x. q x && p x) l) (keep (λ x. q x && p x) l)
+      go true e = ap (λ k. cond (p x) (x ∷ k) k) e
+      go false e = e
+
+  pub keep-same : (p q : A → Bool) (l : List A) → ((x : A) → p x ≡ q x) → keep p l ≡ keep q l
+  keep-same p q l e = ap (λ test. keep test l) (fun-ext e)
+
+  pub keep-all : (l : List A) → keep (λ x. true) l ≡ l
+  keep-all [] = refl
+  keep-all (x ∷ l) = ap (λ k. x ∷ k) (keep-all l)
+
+pub occurs-keep : (p : ℕ → Bool) (n : ℕ) (l : List ℕ) → occurs n (keep p l) ≡ (p n && occurs n l)
+occurs-keep p n [] = sym (and-false (p n))
+occurs-keep p n (m ∷ l) = go (p m) (eqb n m) refl refl (occurs-keep p n l)
+  where
+    go : (b c : Bool) → p m ≡ b → eqb n m ≡ c → occurs n (keep p l) ≡ (p n && occurs n l) →
+        occurs n (cond b (m ∷ keep p l) (keep p l)) ≡ (p n && (c || occurs n l))
+    go true true e f ih = let pn : p n ≡ true = ap p (eqb-true n m f) ∙ e in rw (f, pn)
+    go true false e f ih = rw f ih
+    go false true e f ih =
+        let pn : p n ≡ false = ap p (eqb-true n m f) ∙ e in
+        ih ∙ ap (λ b. b && occurs n l) pn ∙ ap (λ b. b && true) (sym pn)
+    go false false e f ih = ih
+
+pub none-twice-keep : (p : ℕ → Bool) (l : List ℕ) → NoneTwice l → NoneTwice (keep p l)
+none-twice-keep p [] h = tt
+none-twice-keep p (n ∷ l) h = go (p n) (none-twice-keep p l (h .1))
+  where
+    go : (b : Bool) → NoneTwice (keep p l) → NoneTwice (cond b (n ∷ keep p l) (keep p l))
+    go true k = (occurs-keep p n l ∙ ap (λ b. p n && b) (h .0) ∙ and-false (p n), k)
+    go false k = k

@@ -1,0 +1,31 @@
+-- The proofs of what specs/ states: Theorems has all of them, and Incident uses them.
+-- On lists and tests.
+pub mod Bools
+pub mod All
+pub mod Occurs
+pub mod Keep
+pub mod Distinct
+pub mod Count
+pub mod First
+pub mod Members
+-- On terms and fillings.
+pub mod Signature
+pub mod Term
+pub mod Binding
+pub mod Fill
+pub mod Matcher
+pub mod Filling
+-- On substitutions.
+pub mod Variables
+pub mod Substitution
+-- On listings.
+pub mod Entries
+pub mod Fit
+pub mod Partition
+pub mod StrikeOut
+pub mod Represents
+-- On empty sorts.
+pub mod Inhabited
+-- All of it.
+pub mod Theorems
+pub mod Incident

@@ -1,0 +1,111 @@
+-- Partition: every ground term of the sort is counted once among the pattern and its entries.
+use mathlib.Core.Path.{_≡_, refl, sym, _∙_, ap₂, subst}
+use mathlib.Core.Bool.{Bool, true, false, not, _&&_}
+use mathlib.Core.List.{List, [], _∷_, map}
+use Prim.Native.Nat.{ℕ, _+_, _<_}
+use native.Mathlib.Omega.{arith}
+use lib.Dec.{eqb}
+use lib.ListN.{length, getD}
+use borrow.Author.Tests.{eq-eqb, eqb-true}
+use Rattle.terms.specs.Lists.{range}
+use Rattle.terms.specs.Signature.{Signature, result, arguments}
+use Rattle.terms.specs.Term.{Term, any, var, app, Terms, nil, cons, Ground, gapp, Grounds, gnil, gcons, Sorted, SortedAll, SortedG, SortedGs, Linear}
+use Rattle.terms.specs.Listing.{others, opened, closeNone, listing, listingAll, withEntries, Partition}
+use Rattle.terms.proofs.Bools.{eqb-sym, and-always, and-where}
+use Rattle.terms.proofs.Count.{bit, count, count-append, count-map, count-same, count-never, count-keep, count-range, count-one}
+use Rattle.terms.proofs.Members.{only-one-same}
+use Rattle.terms.proofs.All.{all-at}
+use Rattle.terms.proofs.Fit.{fit, fitAll, open-fits, fit-fits, fits-fit}
+use Rattle.terms.proofs.Entries.{none-closed-open, entries-linear}
+
+-- A symbol with every place open fits the terms of that symbol and no others.
+opened-fits : (S : Signature) (h k : ℕ) (gs : Grounds) → SortedGs S gs (arguments S k) → fit (opened S h) (gapp k gs) ≡ eqb h k
+opened-fits S h k gs a = go (eqb h k) refl
+  where
+    go : (b : Bool) → eqb h k ≡ b → fit (opened S h) (gapp k gs) ≡ eqb h k
+    go true e = and-always (eqb h k) _ (open-fits S gs (arguments S h) (rw (eqb-true h k e) a))
+    go false e = rw e
+
+-- Among the other symbols of f's result sort, k of that sort stands once, unless it is f.
+count-others : (S : Signature) (f k : ℕ) → k < length (S .symbols) → result S k ≡ result S f →
+    count (λ h. eqb h k) (others S f) ≡ bit (not (eqb k f))
+count-others S f k below e =
+    count-keep (λ h. eqb h k) _ (range 0 (length (S .symbols))) ∙
+    count-same _ _ (range 0 (length (S .symbols))) (λ h. and-where _ _ (eqb h k) (there h)) ∙
+    go (eqb k f)
+  where
+    there : (h : ℕ) → eqb h k ≡ true → (not (eqb h f) && eqb (result S h) (result S f)) ≡ not (eqb k f)
+    there h d = rw (eqb-true h k d) (and-always (not (eqb k f)) _ (eq-eqb (result S k) (result S f) e))
+
+    go : (b : Bool) → count (λ h. not b && eqb h k) (range 0 (length (S .symbols))) ≡ bit (not b)
+    go true = count-never (λ h. false) (range 0 (length (S .symbols))) (λ h. refl)
+    go false = count-range k 0 (length (S .symbols)) (omega arith) (omega arith)
+
+-- The entries of f with the places ts, counted by the two parts of the listing.
+count-app : (S : Signature) (f : ℕ) (ts : Terms) (k : ℕ) (gs : Grounds) → SortedGs S gs (arguments S k) →
+    k < length (S .symbols) → result S k ≡ result S f →
+    (k ≡ f → bit (fitAll ts gs) + count (λ es. fitAll es gs) (listingAll S ts) ≡ 1) →
+    bit (fit (app f ts) (gapp k gs)) + count (λ e. fit e (gapp k gs)) (listing S (app f ts)) ≡ 1
+count-app S f ts k gs a below e rest = rw (parts, eqb-sym f k) (go (eqb k f) refl)
+  where
+    parts : count (λ e. fit e (gapp k gs)) (listing S (app f ts)) ≡ bit (not (eqb k f)) + count (λ es. eqb f k && fitAll es gs) (listingAll S ts)
+    parts =
+        count-append (λ e. fit e (gapp k gs)) (map (opened S) (others S f)) (map (app f) (listingAll S ts)) ∙
+        ap₂ (λ m n. m + n)
+        (count-map (λ e. fit e (gapp k gs)) (opened S) (others S f) ∙
+        count-same _ _ (others S f) (λ h. opened-fits S h k gs a) ∙ count-others S f k below e)
+        (count-map (λ e. fit e (gapp k gs)) (app f) (listingAll S ts))
+
+    go : (b : Bool) → eqb k f ≡ b → bit (b && fitAll ts gs) + (bit (not b) + count (λ es. b && fitAll es gs) (listingAll S ts)) ≡ 1
+    go true d = omega (arith, rest (eqb-true k f d))
+    go false d = omega (arith, count-never (λ (es : Terms). false) (listingAll S ts) (λ es. refl))
+
+-- The entries of one more place, counted by the two parts of the listing.
+count-cons : (S : Signature) (t : Term) (ts : Terms) (ks : List ℕ) (g : Ground) (gs : Grounds) → SortedAll S ts ks → SortedGs S gs ks →
+    bit (fit t g) + count (λ e. fit e g) (listing S t) ≡ 1 →
+    bit (fitAll ts gs) + count (λ es. fitAll es gs) (listingAll S ts) ≡ 1 →
+    bit (fitAll (cons t ts) (gcons g gs)) + count (λ es. fitAll es (gcons g gs)) (listingAll S (cons t ts)) ≡ 1
+count-cons S t ts ks g gs h a one rest = rw parts (go (fit t g) one)
+  where
+    parts : count (λ es. fitAll es (gcons g gs)) (listingAll S (cons t ts)) ≡
+        count (λ e. fit e g) (listing S t) + count (λ es. fit t g && fitAll es gs) (listingAll S ts)
+    parts =
+        count-append (λ es. fitAll es (gcons g gs)) (map (λ e. cons e (closeNone ts)) (listing S t)) (map (cons t) (listingAll S ts)) ∙
+        ap₂ (λ m n. m + n)
+        (count-map (λ es. fitAll es (gcons g gs)) (λ e. cons e (closeNone ts)) (listing S t) ∙
+        count-same _ _ (listing S t) (λ e. and-always (fit e g) _ (rw (none-closed-open S ts ks h) (open-fits S gs ks a))))
+        (count-map (λ es. fitAll es (gcons g gs)) (cons t) (listingAll S ts))
+
+    go : (b : Bool) → bit b + count (λ e. fit e g) (listing S t) ≡ 1 →
+        bit (b && fitAll ts gs) + (count (λ e. fit e g) (listing S t) + count (λ es. b && fitAll es gs) (listingAll S ts)) ≡ 1
+    go true o = omega arith
+    go false o = omega (arith, count-never (λ (es : Terms). false) (listingAll S ts) (λ es. refl))
+
+mutual
+  counted-once : (S : Signature) (p : Term) (s : ℕ) (g : Ground) → Sorted S p s → SortedG S g s →
+      bit (fit p g) + count (λ e. fit e g) (listing S p) ≡ 1
+  counted-once S any s g h a = refl
+  counted-once S (var n) s g h a = refl
+  counted-once S (app f ts) s (gapp k gs) h a =
+      count-app S f ts k gs (a .2) (a .0) (a .1 ∙ sym (h .1))
+      (λ e. counted-once-all S ts (arguments S f) gs (h .2) (subst (λ n. SortedGs S gs (arguments S n)) e (a .2)))
+
+  counted-once-all : (S : Signature) (ts : Terms) (ks : List ℕ) (gs : Grounds) → SortedAll S ts ks → SortedGs S gs ks →
+      bit (fitAll ts gs) + count (λ es. fitAll es gs) (listingAll S ts) ≡ 1
+  counted-once-all S nil [] gnil h a = refl
+  counted-once-all S nil [] (gcons g gs) h a = absurd a
+  counted-once-all S nil (k ∷ ks) gs h a = absurd h
+  counted-once-all S (cons t ts) [] gs h a = absurd h
+  counted-once-all S (cons t ts) (k ∷ ks) gnil h a = absurd a
+  counted-once-all S (cons t ts) (k ∷ ks) (gcons g gs) h a =
+      count-cons S t ts ks g gs (h .1) (a .1) (counted-once S t k g (h .0) (a .0)) (counted-once-all S ts ks gs (h .1) (a .1))
+
+pub partition : Partition
+partition S p s wf h u g k =
+    only-one-same _ _ (length (withEntries S p))
+    (λ i b. fit-fits S (getD (withEntries S p) i any) s g (linear i b) k)
+    (λ i b. fits-fit S (getD (withEntries S p) i any) s g)
+    (count-one (λ e. fit e g) any (withEntries S p) (counted-once S p s g h k))
+  where
+    linear : (i : ℕ) → i < length (withEntries S p) → Linear (getD (withEntries S p) i any)
+    linear = all-at Linear any (withEntries S p) (u, entries-linear S p [] u)

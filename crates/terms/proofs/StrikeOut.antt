@@ -1,0 +1,61 @@
+-- StrikeOut: over inhabited sorts each entry has a ground term that fits it and nothing else.
+--
+--   instance      a pattern of a sort of the signature has a ground term that fits it
+--
+use mathlib.Core.Path.{_≡_, refl, subst}
+use mathlib.Core.Bool.{true}
+use mathlib.Core.List.{List, [], _∷_}
+use Prim.Native.Nat.{ℕ, suc, _<_}
+use native.Mathlib.Omega.{arith}
+use lib.ListN.{length, getD}
+use Rattle.terms.specs.Lists.{All}
+use Rattle.terms.specs.Signature.{Signature, arguments, WellFormed}
+use Rattle.terms.specs.Term.{Term, any, var, app, Terms, nil, cons, Ground, gapp, Grounds, gnil, gcons, Sorted, SortedAll, SortedG, SortedGs, Linear}
+use Rattle.terms.specs.Filling.{Fits}
+use Rattle.terms.specs.Listing.{listing, Inhabited, StrikeOut}
+use Rattle.terms.proofs.Bools.{eqb-refl, and-both}
+use Rattle.terms.proofs.Signature.{symbol-sorts}
+use Rattle.terms.proofs.All.{all-at}
+use Rattle.terms.proofs.Fit.{fit, fitAll, fit-fits}
+use Rattle.terms.proofs.Entries.{entries-are-sound}
+use Rattle.terms.proofs.Partition.{partition}
+
+mutual
+  instance : (S : Signature) (t : Term) (s : ℕ) → WellFormed S → Inhabited S → s < S .sorts → Sorted S t s →
+      (g : Ground) × SortedG S g s × (fit t g ≡ true)
+  instance S any s wf full b h = let w = full s b in (w .0, w .1, refl)
+  instance S (var n) s wf full b h = let w = full s b in (w .0, w .1, refl)
+  instance S (app f ts) s wf full b h =
+      let w = instance-all S ts (arguments S f) wf full (symbol-sorts S wf f (h .0) .1) (h .2) in
+      (gapp f (w .0), (h .0, h .1, w .1), and-both _ _ (eqb-refl f) (w .2))
+
+  instance-all : (S : Signature) (ts : Terms) (ks : List ℕ) → WellFormed S → Inhabited S → All (λ k. k < S .sorts) ks → SortedAll S ts ks →
+      (gs : Grounds) × SortedGs S gs ks × (fitAll ts gs ≡ true)
+  instance-all S nil [] wf full b h = (gnil, tt, refl)
+  instance-all S nil (k ∷ ks) wf full b h = absurd h
+  instance-all S (cons t ts) [] wf full b h = absurd h
+  instance-all S (cons t ts) (k ∷ ks) wf full b h =
+      let w = instance S t k wf full (b .0) (h .0) in
+      let v = instance-all S ts ks wf full (b .1) (h .1) in
+      (gcons (w .0) (v .0), (w .1, v .1), and-both _ _ (w .2) (v .2))
+
+-- A pattern that has an entry has a symbol at its root, so its sort is one of the signature's.
+listed-sort : (S : Signature) (p : Term) (s i : ℕ) → WellFormed S → Sorted S p s → i < length (listing S p) → s < S .sorts
+listed-sort S any s i wf h b = absurd (omega arith)
+listed-sort S (var n) s i wf h b = absurd (omega arith)
+listed-sort S (app f ts) s i wf h b = subst (λ k. k < S .sorts) (h .1) (symbol-sorts S wf f (h .0) .0)
+
+pub strike-out : StrikeOut
+strike-out S p s wf full h u i b =
+    let sound = all-at (λ e. Sorted S e s × Linear e) any (listing S p) (entries-are-sound S p s h u) i b in
+    let w = instance S (getD (listing S p) i any) s wf full (listed-sort S p s i wf h b) (sound .0) in
+    let fits : Fits S (getD (listing S p) i any) s (w .0) =
+    fit-fits S (getD (listing S p) i any) s (w .0) (sound .1) (w .1) (w .2) in
+    let one = partition S p s wf h u (w .0) (w .1) in
+    let here : suc i ≡ one .0 = one .3 (suc i) (omega arith) fits in (
+      w .0,
+      w .1,
+      fits,
+      (λ e. omega (arith, one .3 0 (omega arith) e)),
+      (λ j k e. omega (arith, one .3 (suc j) (omega arith) e)),
+    )

@@ -1,0 +1,48 @@
+-- Theorems: what is proved of the notions of specs/, in one place.
+--
+--   each-choice-has-a-filling     any choice of ground terms of the sorts due is a filling's
+--   equal-where-they-agree        two fillings are equal exactly where they give the same values
+--   one-filling                   no two fillings turn a pattern into the same ground term
+--   matcher-is-exact              the matcher finds a filling exactly where there is one, and that one
+--   matching-is-fitting           for a ground term, matching by a substitution is the same as having a filling
+--   entries-are-sound             each entry of a listing is a linear pattern of the pattern's sort
+--   partition                     every ground term fits exactly one of a linear pattern and its entries
+--   strike-out                    over inhabited sorts each entry has a ground term that fits it and nothing else
+--   listing-represents            the entries represent the non-instances of a linear pattern
+--   first-empty-is-exact          the lowest sort without a ground term is found, and none where there is no such sort
+--
+use Rattle.terms.specs.Filling.{EachChoiceHasAFilling, EqualWhereTheyAgree, OneFilling}
+use Rattle.terms.specs.Substitution.{MatchingIsFitting}
+use Rattle.terms.specs.Matcher.{MatcherIsExact}
+use Rattle.terms.specs.Listing.{Partition, StrikeOut, EntriesAreSound, ListingRepresents}
+use Rattle.terms.specs.Inhabited.{FirstEmptyIsExact}
+
+pub each-choice-has-a-filling : EachChoiceHasAFilling
+each-choice-has-a-filling = Rattle.terms.proofs.Filling.each-choice-has-a-filling
+
+pub equal-where-they-agree : EqualWhereTheyAgree
+equal-where-they-agree = Rattle.terms.proofs.Filling.equal-where-they-agree
+
+pub one-filling : OneFilling
+one-filling = Rattle.terms.proofs.Filling.one-filling
+
+pub matcher-is-exact : MatcherIsExact
+matcher-is-exact = Rattle.terms.proofs.Matcher.matcher-is-exact
+
+pub matching-is-fitting : MatchingIsFitting
+matching-is-fitting = Rattle.terms.proofs.Substitution.matching-is-fitting
+
+pub entries-are-sound : EntriesAreSound
+entries-are-sound = Rattle.terms.proofs.Entries.entries-are-sound
+
+pub partition : Partition
+partition = Rattle.terms.proofs.Partition.partition
+
+pub strike-out : StrikeOut
+strike-out = Rattle.terms.proofs.StrikeOut.strike-out
+
+pub listing-represents : ListingRepresents
+listing-represents = Rattle.terms.proofs.Represents.listing-represents
+
+pub first-empty-is-exact : FirstEmptyIsExact
+first-empty-is-exact = Rattle.terms.proofs.Inhabited.first-empty-is-exact

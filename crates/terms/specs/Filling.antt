@@ -1,0 +1,96 @@
+-- Filling: what turns a pattern into a ground term (document 01: filling, fits).
+--
+--   Binding, Filling        the ground term of each variable, and of each open place from left to right
+--   valueOf l n             what the bindings l give the variable n
+--   openAt f i              what the filling f gives the i-th open place, counted from 0
+--   fill p f                the filling f carried out on p
+--   IsFilling S p s f       f is a filling of the pattern p of sort s
+--   Fits S p s g            some filling turns p into g (document 01: g fits p)
+--   EachChoiceHasAFilling   any choice of ground terms of the sorts due is a filling's
+--   EqualWhereTheyAgree     two fillings are equal exactly where they give the same values
+--   OneFilling              no two fillings turn a pattern into the same ground term
+--
+use mathlib.Core.Path.{_≡_}
+use mathlib.Core.Bool.{true, cond}
+use mathlib.Core.List.{List, [], _∷_, map}
+use mathlib.Core.Logic.{_↔_}
+use Prim.Native.Nat.{ℕ, _<_}
+use lib.Dec.{eqb}
+use lib.ListN.{length, getD, drop}
+use Rattle.terms.specs.Lists.{All, occurs, distinct}
+use Rattle.terms.specs.Signature.{Signature}
+use Rattle.terms.specs.Term.{Term, any, var, app, Terms, nil, cons, Ground, gapp, Grounds, gnil, gcons, SortedG, Occurrence, occurrences, WellSorted, names, openSorts, openings}
+
+pub record Binding : Type 0 where
+  pub name : ℕ
+  pub value : Ground
+
+pub record Filling : Type 0 where
+  pub named : List Binding
+  pub opened : List Ground
+
+-- What is read off a list that has no such entry.
+abbrev pub noGround : Ground
+noGround = gapp 0 gnil
+
+abbrev pub valueOf : List Binding → ℕ → Ground
+valueOf [] n = noGround
+valueOf (b ∷ bs) n = cond (eqb n (b .name)) (b .value) (valueOf bs n)
+
+abbrev pub openAt : Filling → ℕ → Ground
+openAt f i = getD (f .opened) i noGround
+
+-- Document 01: "it puts that term in wherever the name stands, at the open place .. or at the root".
+-- The ground terms gs are those of the open places of the term, and of places behind it.
+abbrev mutual
+  pub fillFrom : List Binding → Term → List Ground → Ground
+  fillFrom bs any gs = getD gs 0 noGround
+  fillFrom bs (var n) gs = valueOf bs n
+  fillFrom bs (app f ts) gs = gapp f (fillAll bs ts gs)
+
+  pub fillAll : List Binding → Terms → List Ground → Grounds
+  fillAll bs nil gs = gnil
+  fillAll bs (cons t ts) gs = gcons (fillFrom bs t gs) (fillAll bs ts (drop (openings t) gs))
+
+abbrev pub fill : Term → Filling → Ground
+fill p f = fillFrom (f .named) p (f .opened)
+
+-- The ground terms gs have the sorts ks, one each.
+abbrev pub SortedEach : Signature → List Ground → List ℕ → Type 0
+SortedEach S [] [] = Unit {0}
+SortedEach S [] (k ∷ ks) = ⊥
+SortedEach S (g ∷ gs) [] = ⊥
+SortedEach S (g ∷ gs) (k ∷ ks) = SortedG S g k × SortedEach S gs ks
+
+-- Document 01: a filling "gives each of its names, each of its open places and a 255 at its root
+-- one complete term of the kind due there, and nothing else". Bindings stand by first occurrence.
+pub record IsFilling (S : Signature) (p : Term) (s : ℕ) (f : Filling) : Type 0 where
+  pub keys : map (λ b. b .name) (f .named) ≡ distinct (names p)
+  pub bound : All (λ o. SortedG S (valueOf (f .named) (o .name)) (o .sort)) (occurrences S p s)
+  pub placed : SortedEach S (f .opened) (openSorts S p s)
+
+-- Document 01: "A complete situation fits a pattern .. when some filling turns it into that situation."
+abbrev pub Fits : Signature → Term → ℕ → Ground → Type 0
+Fits S p s g = (f : Filling) × IsFilling S p s f × (fill p f ≡ g)
+
+-- The filling f gives the variables of p and its open places the values that the choices v and w give.
+pub record Chosen (S : Signature) (p : Term) (s : ℕ) (v w : ℕ → Ground) (f : Filling) : Type 0 where
+  pub named : (n : ℕ) → occurs n (names p) ≡ true → valueOf (f .named) n ≡ v n
+  pub opened : (i : ℕ) → i < length (openSorts S p s) → openAt f i ≡ w i
+
+abbrev pub EachChoiceHasAFilling : Type 0
+EachChoiceHasAFilling =
+    (S : Signature) (p : Term) (s : ℕ) → WellSorted S p s → (v w : ℕ → Ground) →
+    All (λ o. SortedG S (v (o .name)) (o .sort)) (occurrences S p s) →
+    ((i : ℕ) → i < length (openSorts S p s) → SortedG S (w i) (getD (openSorts S p s) i 0)) →
+    (f : Filling) × IsFilling S p s f × Chosen S p s v w f
+
+abbrev pub EqualWhereTheyAgree : Type 0
+EqualWhereTheyAgree =
+    (S : Signature) (p : Term) (s : ℕ) (f h : Filling) → WellSorted S p s → IsFilling S p s f → IsFilling S p s h →
+    (f ≡ h) ↔ Chosen S p s (valueOf (h .named)) (openAt h) f
+
+abbrev pub OneFilling : Type 0
+OneFilling =
+    (S : Signature) (p : Term) (s : ℕ) (f h : Filling) → WellSorted S p s → IsFilling S p s f → IsFilling S p s h →
+    fill p f ≡ fill p h → f ≡ h

@@ -1,0 +1,46 @@
+-- Lists: the few notions on lists that the theory needs beside the library's.
+--
+--   All P l          P holds of each element of l
+--   occurs n l       n is an element of l
+--   NoneTwice l      no number stands twice in l
+--   without n l      l with every n left out
+--   distinct l       the numbers of l, each once, by first occurrence
+--   range from n     from, from + 1, .., n numbers in all
+--   keep test l      the elements of l that pass the test, in their order
+--   OnlyOne P n      P holds of exactly one index below n
+--
+use mathlib.Core.Path.{_≡_}
+use mathlib.Core.Bool.{Bool, true, false, cond, not, _||_}
+use mathlib.Core.List.{List, [], _∷_}
+use Prim.Native.Nat.{ℕ, zero, suc, _<_}
+use lib.Dec.{eqb}
+
+abbrev pub All : {A : Type 0} → (A → Type 0) → List A → Type 0
+All P [] = Unit {0}
+All P (x ∷ l) = P x × All P l
+
+abbrev pub occurs : ℕ → List ℕ → Bool
+occurs n [] = false
+occurs n (m ∷ l) = eqb n m || occurs n l
+
+abbrev pub NoneTwice : List ℕ → Type 0
+NoneTwice [] = Unit {0}
+NoneTwice (n ∷ l) = (occurs n l ≡ false) × NoneTwice l
+
+abbrev pub keep : {A : Type 0} → (A → Bool) → List A → List A
+keep test [] = []
+keep test (x ∷ l) = cond (test x) (x ∷ keep test l) (keep test l)
+
+abbrev pub without : ℕ → List ℕ → List ℕ
+without n l = keep (λ m. not (eqb n m)) l
+
+abbrev pub distinct : List ℕ → List ℕ
+distinct [] = []
+distinct (n ∷ l) = n ∷ without n (distinct l)
+
+abbrev pub range : ℕ → ℕ → List ℕ
+range from zero = []
+range from (suc n) = from ∷ range (suc from) n
+
+abbrev pub OnlyOne : (ℕ → Type 0) → ℕ → Type 0
+OnlyOne P n = (i : ℕ) × (i < n) × P i × ((j : ℕ) → j < n → P j → j ≡ i)

@@ -1,0 +1,1 @@
+// The theory of terms: specs/ and proofs/ alone, no code.
