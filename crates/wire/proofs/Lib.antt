@@ -1,0 +1,37 @@
+-- The proofs of what specs/ states: Theorems has all of them.
+-- On tests and refusals.
+pub mod Cond
+pub mod Outside
+pub mod Refusals
+-- On maps, names and words.
+pub mod Map
+pub mod Seen
+pub mod Words
+-- On vocabularies: where their records stand, how they are read and refused.
+pub mod Bytes
+pub mod WordsSteps
+pub mod VocabularyWritten
+pub mod Records
+pub mod RecordBytes
+pub mod Parts
+pub mod WordsRead
+pub mod VocabularyRead
+pub mod VocabulariesInverse
+pub mod VocabularyRefusals
+-- On terms: writing and reading them.
+pub mod Node
+pub mod WriteRead
+pub mod ReadWrite
+pub mod Levels
+pub mod WholeTerms
+pub mod TermsInverse
+pub mod Limits
+pub mod Complete
+-- On terms: refusing them.
+pub mod Scan
+pub mod NodeLines
+pub mod ScanPath
+pub mod TermRefusals
+-- All of it.
+pub mod Starred
+pub mod Theorems

@@ -1,0 +1,57 @@
+-- Starred: document 01's starred cases hold, by one computation over the whole table.
+use mathlib.Core.Path.{_≡_, refl, ap, ap₂}
+use mathlib.Core.Bool.{Bool, true, false, _&&_, false≢true}
+use mathlib.Core.List.{List, [], _∷_}
+use Prim.Native.Nat.{ℕ}
+use lib.Dec.{eqb}
+use borrow.Author.Tests.{eqb-true}
+use Rattle.terms.specs.Lists.{All}
+use Rattle.terms.proofs.Bools.{and-parts}
+use Rattle.wire.specs.Reply.{Reply, accepted, refused}
+use Rattle.wire.specs.Starred.{Row, replyTo, starred, StarredHold}
+
+abbrev sameNumbers : List ℕ → List ℕ → Bool
+sameNumbers [] [] = true
+sameNumbers [] (n ∷ ns) = false
+sameNumbers (m ∷ ms) [] = false
+sameNumbers (m ∷ ms) (n ∷ ns) = eqb m n && sameNumbers ms ns
+
+same-numbers : (l k : List ℕ) → sameNumbers l k ≡ true → l ≡ k
+same-numbers [] [] e = refl
+same-numbers [] (n ∷ ns) e = absurd (false≢true e)
+same-numbers (m ∷ ms) [] e = absurd (false≢true e)
+same-numbers (m ∷ ms) (n ∷ ns) e =
+    let c = and-parts (eqb m n) (sameNumbers ms ns) e in
+    ap₂ _∷_ (eqb-true m n (c .0)) (same-numbers ms ns (c .1))
+
+abbrev sameReply : Reply → Reply → Bool
+sameReply (accepted l) (accepted k) = sameNumbers l k
+sameReply (accepted l) (refused n i q) = false
+sameReply (refused n i q) (accepted l) = false
+sameReply (refused n i q) (refused m j r) = eqb n m && (eqb i j && eqb q r)
+
+same-reply : (x y : Reply) → sameReply x y ≡ true → x ≡ y
+same-reply (accepted l) (accepted k) e = ap accepted (same-numbers l k e)
+same-reply (accepted l) (refused n i q) e = absurd (false≢true e)
+same-reply (refused n i q) (accepted l) e = absurd (false≢true e)
+same-reply (refused n i q) (refused m j r) e =
+    let c = and-parts (eqb n m) (eqb i j && eqb q r) e in
+    let d = and-parts (eqb i j) (eqb q r) (c .1) in
+    let x = eqb-true n m (c .0) in
+    let y = eqb-true i j (d .0) in
+    let z = eqb-true q r (d .1) in
+    cc
+
+-- The one test over all rows.
+abbrev allHold : List Row → Bool
+allHold [] = true
+allHold (r ∷ rs) = sameReply (replyTo (r .call)) (r .reply) && allHold rs
+
+all-hold : (rs : List Row) → allHold rs ≡ true → All (λ r. replyTo (r .call) ≡ r .reply) rs
+all-hold [] e = tt
+all-hold (r ∷ rs) e =
+    let c = and-parts (sameReply (replyTo (r .call)) (r .reply)) (allHold rs) e in
+    (same-reply (replyTo (r .call)) (r .reply) (c .0), all-hold rs (c .1))
+
+pub starred-hold : StarredHold
+starred-hold = all-hold starred refl

@@ -1,0 +1,40 @@
+-- Theorems: what is proved of the bytes, in one place.
+--
+--   vocabularies-inverse     a vocabulary is accepted exactly where it is the writing of a good one
+--   terms-inverse            a term is read exactly where it is the writing of a good one, with no limits
+--   limits-are-a-test        a term is accepted by a call exactly where it is read with no limits and has at most 4,096 bytes and 32 levels
+--   complete-is-ground       a good term is complete exactly where it is a ground term of its kind
+--   no-gap-is-complete       a term has no gap exactly where it is complete
+--   vocabulary-refusals      a vocabulary is refused exactly by lines 1 to 6 of the refusal list
+--   term-refusals            a term is refused exactly by lines 7 to 15 of the refusal list
+--   starred-hold             every starred case has the reply that document 01 gives
+--
+use Rattle.wire.specs.Checks.{VocabulariesInverse, TermsInverse, LimitsAreATest}
+use Rattle.wire.specs.Complete.{CompleteIsGround, NoGapIsComplete}
+use Rattle.wire.specs.VocabularyLines.{VocabularyRefusals}
+use Rattle.wire.specs.TermLines.{TermRefusals}
+use Rattle.wire.specs.Starred.{StarredHold}
+
+pub vocabularies-inverse : VocabulariesInverse
+vocabularies-inverse = Rattle.wire.proofs.VocabulariesInverse.vocabularies-inverse
+
+pub terms-inverse : TermsInverse
+terms-inverse = Rattle.wire.proofs.TermsInverse.terms-inverse
+
+pub limits-are-a-test : LimitsAreATest
+limits-are-a-test = Rattle.wire.proofs.Limits.limits-are-a-test
+
+pub complete-is-ground : CompleteIsGround
+complete-is-ground = Rattle.wire.proofs.Complete.complete-is-ground
+
+pub no-gap-is-complete : NoGapIsComplete
+no-gap-is-complete = Rattle.wire.proofs.Complete.no-gap-is-complete
+
+pub vocabulary-refusals : VocabularyRefusals
+vocabulary-refusals = Rattle.wire.proofs.VocabularyRefusals.vocabulary-refusals
+
+pub term-refusals : TermRefusals
+term-refusals = Rattle.wire.proofs.TermRefusals.term-refusals
+
+pub starred-hold : StarredHold
+starred-hold = Rattle.wire.proofs.Starred.starred-hold

@@ -1,0 +1,29 @@
+-- VocabulariesInverse: a vocabulary is accepted exactly where it is the writing of a good one.
+use mathlib.Core.Path.{_≡_, _∙_, ap}
+use mathlib.Core.List.{List}
+use Prim.Native.Nat.{ℕ}
+use native.Mathlib.Omega.{arith}
+use Rattle.terms.proofs.Theorems.{first-empty-is-exact}
+use Rattle.wire.specs.Reply.{Reading, accept, refuse}
+use Rattle.wire.specs.Vocabulary.{Vocabulary, signature, encodeVocabulary}
+use Rattle.wire.specs.Reading.{finished, readVocabulary}
+use Rattle.wire.specs.Checks.{GoodVocabulary, VocabulariesInverse}
+use Rattle.wire.proofs.Words.{sound-well-formed}
+use Rattle.wire.proofs.VocabularyWritten.{read-written}
+use Rattle.wire.proofs.VocabularyRead.{Accepted, VocabularyRead, vocabulary-read}
+
+accepted : (b : List ℕ) (W : Vocabulary) (r : Reading Vocabulary) → VocabularyRead b r → r ≡ accept W → Accepted b W
+accepted b W (accept X) read e = let same : X ≡ W = cc in rw same at read
+accepted b W (refuse n q) read e = let z : _≡_ {A = ℕ} 0 1 = cc in absurd (omega arith)
+
+-- A good vocabulary is read again from its writing.
+pub read-good : (W : Vocabulary) → GoodVocabulary W → readVocabulary (encodeVocabulary W) ≡ accept W
+read-good W good =
+    read-written W (good .sound)
+    ∙ ap (finished W) (first-empty-is-exact (signature W) (sound-well-formed W (good .sound)) .missed .1 (good .inhabited))
+
+pub vocabularies-inverse : VocabulariesInverse
+vocabularies-inverse b W bytes = (
+  (λ e. let read = accepted b W (readVocabulary b) (vocabulary-read b bytes) e in (read .good, read .bytes)),
+  (λ h. ap readVocabulary (h .1) ∙ read-good W (h .0)),
+)

@@ -1,0 +1,33 @@
+-- Refusals: what it means that the refusal list decides on a number.
+--
+--   rank n               lines of one rank are told apart by their bytes
+--   Sooner n q m r       number n at place q comes before number m at place r
+--   Decides Line n q     of all lines that fit, n at q is the one that is given
+--   RefusesBy            a reading refuses with a number exactly where its line decides
+--
+-- `Line n q` says that the line of number n fits the input at the place q.
+--
+use mathlib.Core.Path.{_≡_}
+use mathlib.Core.Bool.{true, false, cond}
+use mathlib.Core.Logic.{_↔_, _⊎_}
+use Prim.Native.Nat.{ℕ, _<_, _≤_}
+use lib.Dec.{eqb}
+use Rattle.wire.specs.Reply.{Reading, accept, refuse}
+use Rattle.wire.specs.Reading.{outside}
+
+-- "between 3 and 4 the earlier byte decides"; "for 9 to 14 the earliest byte decides".
+abbrev pub rank : ℕ → ℕ
+rank n = cond (outside 9 14 n) (cond (eqb n 4) 3 n) 9
+
+-- The numbers in the order of the list; in one rank the earlier byte, "at one byte the lower number".
+abbrev pub Sooner : ℕ → ℕ → ℕ → ℕ → Type 0
+Sooner n q m r = (rank n < rank m) ⊎ ((rank n ≡ rank m) × ((q < r) ⊎ ((q ≡ r) × (n ≤ m))))
+
+-- "A number is given only where its line fits."
+pub record Decides (Line : ℕ → ℕ → Type 0) (n q : ℕ) : Type 0 where
+  pub fits : Line n q
+  pub first : (m r : ℕ) → Line m r → Sooner n q m r
+
+pub record RefusesBy {A : Type 0} (Line : ℕ → ℕ → Type 0) (reading : Reading A) : Type 0 where
+  pub given : (n q : ℕ) → (reading ≡ refuse n q) ↔ Decides Line n q
+  pub some : ((n : ℕ) × (q : ℕ) × Line n q) ↔ ((a : A) → reading ≡ accept a → ⊥)

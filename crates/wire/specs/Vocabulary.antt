@@ -1,0 +1,67 @@
+-- Vocabulary: document 01's "Vocabulary bytes".
+--
+--   Word                a record: result kind, place map (its arity), the kinds of the places
+--   Vocabulary          the number of kinds, and the words
+--   signature W         the signature that W writes
+--   word W f, mapOf W f the word of number f, and its place map
+--   Sound W             document 01's limits on numbers
+--   encodeVocabulary W  the bytes of W
+--
+use mathlib.Core.Path.{_≡_}
+use mathlib.Core.List.{List, [], _∷_, _++_, map}
+use Prim.Native.Nat.{ℕ, _<_, _≤_, _^_}
+use lib.ListN.{length, getD}
+use Rattle.terms.specs.Lists.{All}
+use Rattle.terms.specs.Signature.{Symbol, Signature}
+use Rattle.wire.specs.Map.{places, writeMap, flags, ones}
+
+pub record Word : Type 0 where
+  pub result : ℕ
+  pub arity : ℕ
+  pub kinds : List ℕ
+
+pub record Vocabulary : Type 0 where
+  pub kinds : ℕ
+  pub words : List Word
+
+abbrev pub symbolOf : Word → Symbol
+symbolOf w = record { result = w .result; arguments = w .kinds }
+
+abbrev pub signature : Vocabulary → Signature
+signature W = record { sorts = W .kinds; symbols = map symbolOf (W .words) }
+
+abbrev pub noWord : Word
+noWord = record { result = 0; arity = 0; kinds = [] }
+
+abbrev pub word : Vocabulary → ℕ → Word
+word W f = getD (W .words) f noWord
+
+abbrev pub mapOf : Vocabulary → ℕ → ℕ
+mapOf W f = word W f .arity
+
+-- "A word has as many places as its map has ones." Every kind that a record names is one.
+pub record SoundWord (k : ℕ) (w : Word) : Type 0 where
+  pub result : w .result < k
+  pub arity : w .arity < 2 ^ places
+  pub count : length (w .kinds) ≡ ones (flags (w .arity))
+  pub kinds : All (λ s. s < k) (w .kinds)
+
+-- "Byte 0 is the number of kinds, 1 to 16. Byte 1 is the number of words, 1 to 96."
+pub record Sound (W : Vocabulary) : Type 0 where
+  pub someKind : 1 ≤ W .kinds
+  pub fewKinds : W .kinds ≤ 16
+  pub someWord : 1 ≤ length (W .words)
+  pub fewWords : length (W .words) ≤ 96
+  pub words : All (SoundWord (W .kinds)) (W .words)
+
+-- "one byte result kind, one byte place map, then one kind byte for each standing bit of the map".
+abbrev pub encodeWord : Word → List ℕ
+encodeWord w = w .result ∷ (writeMap (w .arity) ++ w .kinds)
+
+abbrev pub encodeWords : List Word → List ℕ
+encodeWords [] = []
+encodeWords (w ∷ ws) = encodeWord w ++ encodeWords ws
+
+-- "Nothing follows the last record."
+abbrev pub encodeVocabulary : Vocabulary → List ℕ
+encodeVocabulary W = W .kinds ∷ length (W .words) ∷ encodeWords (W .words)

@@ -1,0 +1,1 @@
+// How vocabularies and terms are written and read: specs/ and proofs/ alone, no code.
