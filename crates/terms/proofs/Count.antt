@@ -2,6 +2,7 @@
 --
 --   bit b            1 for true, 0 for false
 --   count t l        how many elements of l pass the test t
+--   OnlyOne P n      P holds of exactly one index below n
 --   Implies p q      whatever passes p passes q
 --
 use mathlib.Core.Path.{_≡_, refl, sym, _∙_, ap, ap₂}
@@ -12,12 +13,15 @@ use native.Mathlib.Omega.{arith}
 use lib.Dec.{eqb}
 use lib.ListN.{length, getD}
 use borrow.Author.Tests.{ne-eqb, eqb-true, eqb-false}
-use Rattle.terms.specs.Lists.{occurs, keep, range, OnlyOne}
+use Rattle.terms.specs.Lists.{occurs, keep, range}
 use Rattle.terms.proofs.Occurs.{occurs-cases}
 
 abbrev pub bit : Bool → ℕ
 bit true = 1
 bit false = 0
+
+abbrev pub OnlyOne : (ℕ → Type 0) → ℕ → Type 0
+OnlyOne P n = (i : ℕ) × (i < n) × P i × ((j : ℕ) → j < n → P j → j ≡ i)
 
 bit-mono : (a b : Bool) → (a ≡ true → b ≡ true) → bit a ≤ bit b
 bit-mono true b h = rw (h refl) (omega arith)

@@ -10,9 +10,9 @@ use borrow.Author.Tests.{eqb-true}
 use Rattle.terms.specs.Lists.{All, NoneTwice, range}
 use Rattle.terms.specs.Signature.{Signature, result, arguments}
 use Rattle.terms.specs.Term.{Term, any, var, app, Terms, nil, cons, Sorted, SortedAll, names, namesAll, Linear}
-use Rattle.terms.specs.Listing.{others, allOpen, opened, closeNone, listing, listingAll, EntriesAreSound}
+use Rattle.terms.specs.Listing.{others, allOpen, opened, openEvery, listing, listingAll, EntriesAreLinearPatterns}
 use Rattle.terms.proofs.Bools.{and-parts}
-use Rattle.terms.proofs.All.{all-always, all-implies, all-both, all-append, all-keep, all-map, all-range}
+use Rattle.terms.proofs.All.{all-always, all-implies, all-both, all-append, all-left, all-right, all-keep, all-map, all-range}
 use Rattle.terms.proofs.Occurs.{none-twice-front}
 
 open-sorted : (S : Signature) (ks : List ℕ) → SortedAll S (allOpen ks) ks
@@ -20,11 +20,11 @@ open-sorted S [] = tt
 open-sorted S (k ∷ ks) = (tt, open-sorted S ks)
 
 -- The places of a sorted term, none of them closed, are open places of the sorts due.
-pub none-closed-open : (S : Signature) (ts : Terms) (ks : List ℕ) → SortedAll S ts ks → closeNone ts ≡ allOpen ks
-none-closed-open S nil [] h = refl
-none-closed-open S nil (k ∷ ks) h = absurd h
-none-closed-open S (cons t ts) [] h = absurd h
-none-closed-open S (cons t ts) (k ∷ ks) h = ap (cons any) (none-closed-open S ts ks (h .1))
+pub open-every-all-open : (S : Signature) (ts : Terms) (ks : List ℕ) → SortedAll S ts ks → openEvery ts ≡ allOpen ks
+open-every-all-open S nil [] h = refl
+open-every-all-open S nil (k ∷ ks) h = absurd h
+open-every-all-open S (cons t ts) [] h = absurd h
+open-every-all-open S (cons t ts) (k ∷ ks) h = ap (cons any) (open-every-all-open S ts ks (h .1))
 
 -- Each of the other symbols, with every place open, is of the sort.
 others-sorted : (S : Signature) (f s : ℕ) → result S f ≡ s → All (λ h. Sorted S (opened S h) s) (others S f)
@@ -55,10 +55,10 @@ mutual
   entries-sorted-all S nil ks h = tt
   entries-sorted-all S (cons t ts) [] h = absurd h
   entries-sorted-all S (cons t ts) (k ∷ ks) h =
-      all-append (λ es. SortedAll S es (k ∷ ks)) (map (λ e. cons e (closeNone ts)) (listing S t)) (map (cons t) (listingAll S ts))
-      (all-map (λ es. SortedAll S es (k ∷ ks)) (λ e. cons e (closeNone ts)) (listing S t)
-      (all-implies (λ e. Sorted S e k) (λ e. SortedAll S (cons e (closeNone ts)) (k ∷ ks))
-      (λ e a. (a, rw (none-closed-open S ts ks (h .1)) (open-sorted S ks))) (listing S t) (entries-sorted S t k (h .0))))
+      all-append (λ es. SortedAll S es (k ∷ ks)) (map (λ e. cons e (openEvery ts)) (listing S t)) (map (cons t) (listingAll S ts))
+      (all-map (λ es. SortedAll S es (k ∷ ks)) (λ e. cons e (openEvery ts)) (listing S t)
+      (all-implies (λ e. Sorted S e k) (λ e. SortedAll S (cons e (openEvery ts)) (k ∷ ks))
+      (λ e a. (a, rw (open-every-all-open S ts ks (h .1)) (open-sorted S ks))) (listing S t) (entries-sorted S t k (h .0))))
       (all-map (λ es. SortedAll S es (k ∷ ks)) (cons t) (listingAll S ts)
       (all-implies (λ es. SortedAll S es ks) (λ es. SortedAll S (cons t es) (k ∷ ks)) (λ es a. (h .0, a)) (listingAll S ts)
       (entries-sorted-all S ts ks (h .1))))
@@ -67,13 +67,37 @@ open-names : (ks : List ℕ) → namesAll (allOpen ks) ≡ []
 open-names [] = refl
 open-names (k ∷ ks) = open-names ks
 
-none-closed-names : (ts : Terms) → namesAll (closeNone ts) ≡ []
-none-closed-names nil = refl
-none-closed-names (cons t ts) = none-closed-names ts
+open-every-names : (ts : Terms) → namesAll (openEvery ts) ≡ []
+open-every-names nil = refl
+open-every-names (cons t ts) = open-every-names ts
+
+-- The names of an entry are names of the pattern.
+mutual
+  pub entries-names : (S : Signature) (P : ℕ → Type 0) (p : Term) → All P (names p) → All (λ e. All P (names e)) (listing S p)
+  entries-names S P any a = tt
+  entries-names S P (var n) a = tt
+  entries-names S P (app f ts) a =
+      all-append (λ e. All P (names e)) (map (opened S) (others S f)) (map (app f) (listingAll S ts))
+      (all-map (λ e. All P (names e)) (opened S) (others S f)
+      (all-always (λ h. All P (names (opened S h))) (λ h. rw (open-names (arguments S h)) tt) (others S f)))
+      (all-map (λ e. All P (names e)) (app f) (listingAll S ts) (entries-names-all S P ts a))
+
+  entries-names-all : (S : Signature) (P : ℕ → Type 0) (ts : Terms) → All P (namesAll ts) → All (λ es. All P (namesAll es)) (listingAll S ts)
+  entries-names-all S P nil a = tt
+  entries-names-all S P (cons t ts) a =
+      let here = all-left P (names t) (namesAll ts) a in
+      let behind = all-right P (names t) (namesAll ts) a in
+      all-append (λ es. All P (namesAll es)) (map (λ e. cons e (openEvery ts)) (listing S t)) (map (cons t) (listingAll S ts))
+      (all-map (λ es. All P (namesAll es)) (λ e. cons e (openEvery ts)) (listing S t)
+      (all-implies (λ e. All P (names e)) (λ e. All P (names e ++ namesAll (openEvery ts)))
+      (λ e h. rw (open-every-names ts, append-nil) h) (listing S t) (entries-names S P t here)))
+      (all-map (λ es. All P (namesAll es)) (cons t) (listingAll S ts)
+      (all-implies (λ es. All P (namesAll es)) (λ es. All P (names t ++ namesAll es))
+      (λ es h. all-append P (names t) (namesAll es) here h) (listingAll S ts) (entries-names-all S P ts behind)))
 
 -- Behind any names l, an entry has no name twice where the pattern has none: it keeps names of lower places only.
 mutual
-  pub entries-linear : (S : Signature) (p : Term) (l : List ℕ) → NoneTwice (l ++ names p) → All (λ e. NoneTwice (l ++ names e)) (listing S p)
+  entries-linear : (S : Signature) (p : Term) (l : List ℕ) → NoneTwice (l ++ names p) → All (λ e. NoneTwice (l ++ names e)) (listing S p)
   entries-linear S any l u = tt
   entries-linear S (var n) l u = tt
   entries-linear S (app f ts) l u =
@@ -86,15 +110,15 @@ mutual
   entries-linear-all S nil l u = tt
   entries-linear-all S (cons t ts) l u =
       let v : NoneTwice ((l ++ names t) ++ namesAll ts) = rw append-assoc u in
-      all-append (λ es. NoneTwice (l ++ namesAll es)) (map (λ e. cons e (closeNone ts)) (listing S t)) (map (cons t) (listingAll S ts))
-      (all-map (λ es. NoneTwice (l ++ namesAll es)) (λ e. cons e (closeNone ts)) (listing S t)
-      (all-implies (λ e. NoneTwice (l ++ names e)) (λ e. NoneTwice (l ++ (names e ++ namesAll (closeNone ts))))
-      (λ e a. rw (none-closed-names ts, append-nil) a) (listing S t)
+      all-append (λ es. NoneTwice (l ++ namesAll es)) (map (λ e. cons e (openEvery ts)) (listing S t)) (map (cons t) (listingAll S ts))
+      (all-map (λ es. NoneTwice (l ++ namesAll es)) (λ e. cons e (openEvery ts)) (listing S t)
+      (all-implies (λ e. NoneTwice (l ++ names e)) (λ e. NoneTwice (l ++ (names e ++ namesAll (openEvery ts))))
+      (λ e a. rw (open-every-names ts, append-nil) a) (listing S t)
       (entries-linear S t l (none-twice-front (l ++ names t) (namesAll ts) v))))
       (all-map (λ es. NoneTwice (l ++ namesAll es)) (cons t) (listingAll S ts)
       (all-implies (λ es. NoneTwice ((l ++ names t) ++ namesAll es)) (λ es. NoneTwice (l ++ (names t ++ namesAll es)))
       (λ es a. rw append-assoc at a) (listingAll S ts) (entries-linear-all S ts (l ++ names t) v)))
 
-pub entries-are-sound : EntriesAreSound
-entries-are-sound S p s h u =
+pub entries-are-linear-patterns : EntriesAreLinearPatterns
+entries-are-linear-patterns S p s h u =
     all-both (λ e. Sorted S e s) Linear (listing S p) (entries-sorted S p s h) (entries-linear S p [] u)

@@ -10,7 +10,7 @@ use lib.Seq.{ext-getD}
 use Rattle.terms.specs.Lists.{occurs, distinct}
 use Rattle.terms.specs.Signature.{Signature}
 use Rattle.terms.specs.Term.{Ground, SortedG, occurrences, names, openSorts}
-use Rattle.terms.specs.Filling.{Filling, noGround, valueOf, openAt, SortedEach, IsFilling, Chosen, EachChoiceHasAFilling, EqualWhereTheyAgree, OneFilling}
+use Rattle.terms.specs.Filling.{Filling, noGround, valueOf, openAt, SortedEach, IsFilling, Gives, EachChoiceHasAFilling, EqualWhereTheyAgree, OneFilling}
 use Rattle.terms.specs.Matcher.{matcher}
 use Rattle.terms.proofs.All.{all-implies, all-both}
 use Rattle.terms.proofs.Distinct.{occurs-distinct, none-twice-distinct}
@@ -35,7 +35,7 @@ values-sorted S [] w h = tt
 values-sorted S (k ∷ ks) w h = (h 0 (omega arith), values-sorted S ks (λ i. w (suc i)) (λ i l. h (suc i) (omega arith)))
 
 pub each-choice-has-a-filling : EachChoiceHasAFilling
-each-choice-has-a-filling S p s well v w vs ws = (f, record { keys = keys-given v ns; bound = bound; placed = values-sorted S (openSorts S p s) w ws }, chosen)
+each-choice-has-a-filling S p s well v w vs ws = (f, record { keys = keys-given v ns; bound = bound; placed = values-sorted S (openSorts S p s) w ws }, gives)
   where
     ns : List ℕ
     ns = distinct (names p)
@@ -47,21 +47,21 @@ each-choice-has-a-filling S p s well v w vs ws = (f, record { keys = keys-given 
     value n o = value-given v ns n (occurs-distinct n (names p) ∙ o)
 
     bound : Bound S (given v ns) p s
-    bound = all-implies _ _ (λ o h. rw (value (o .name) (h .0)) (h .1)) (occurrences S p s) (all-both _ _ (occurrences S p s) (occurrences-named S p s (well .sorted)) vs)
+    bound = all-implies _ _ (λ o h. rw (value (o .name) (h .0)) (h .1)) (occurrences S p s) (all-both _ _ (occurrences S p s) (occurrences-named S p s well) vs)
 
-    chosen : Chosen S p s v w f
-    chosen = record { named = value; opened = values-at (length (openSorts S p s)) w }
+    gives : Gives S p s v w f
+    gives = record { named = value; opened = values-at (length (openSorts S p s)) w }
 
 pub equal-where-they-agree : EqualWhereTheyAgree
-equal-where-they-agree S p s f h well i j = (agree, equal)
+equal-where-they-agree S p s f h i j = (agree, equal)
   where
     size : (k : Filling) → IsFilling S p s k → length (k .opened) ≡ length (openSorts S p s)
     size k filling = sorted-each-length S (k .opened) (openSorts S p s) (filling .placed)
 
-    agree : f ≡ h → Chosen S p s (valueOf (h .named)) (openAt h) f
+    agree : f ≡ h → Gives S p s (valueOf (h .named)) (openAt h) f
     agree e = record { named = λ n o. ap (λ k. valueOf (k .named) n) e; opened = λ n l. ap (λ k. openAt k n) e }
 
-    equal : Chosen S p s (valueOf (h .named)) (openAt h) f → f ≡ h
+    equal : Gives S p s (valueOf (h .named)) (openAt h) f → f ≡ h
     equal c =
         ap₂ (λ bs gs. record { named = bs; opened = gs })
         (bindings-equal (f .named) (h .named) (i .keys ∙ sym (j .keys))

@@ -3,6 +3,7 @@
 --   fit t g                g has the symbols of t wherever t has one: each variable stands for anything
 --   fitAll ts gs           the same of the terms at a symbol's places, which are as many
 --   fit-fits, fits-fit     the test against `Fits`
+--   fit-once               .. and against `FitsOnce`
 --
 use mathlib.Core.Path.{_≡_, refl, sym, _∙_, ap}
 use mathlib.Core.Bool.{Bool, true, false, _&&_, false≢true}
@@ -13,13 +14,14 @@ use lib.Dec.{eqb}
 use lib.ListN.{drop}
 use Rattle.terms.specs.Lists.{NoneTwice}
 use Rattle.terms.specs.Signature.{Signature}
-use Rattle.terms.specs.Term.{Term, any, var, app, Terms, nil, cons, Ground, gapp, Grounds, gnil, gcons, SortedG, SortedGs, names, namesAll, Linear, openings}
-use Rattle.terms.specs.Filling.{Binding, Filling, fillFrom, fillAll, Fits}
+use Rattle.terms.specs.Term.{Term, any, var, app, Terms, nil, cons, Ground, gapp, Grounds, gnil, gcons, Sorted, SortedG, SortedGs, names, namesAll, Linear, openings}
+use Rattle.terms.specs.Filling.{Binding, Filling, fillFrom, fillAll, Fits, FitsOnce}
 use Rattle.terms.specs.Matcher.{withOpen, withName, matchFrom, matchAll, noFilling}
 use Rattle.terms.specs.Listing.{allOpen}
 use Rattle.terms.proofs.Bools.{eqb-refl, and-parts, and-both}
 use Rattle.terms.proofs.Occurs.{none-twice-front, none-twice-last}
 use Rattle.terms.proofs.Binding.{keysOf}
+use Rattle.terms.proofs.Filling.{one-filling}
 use Rattle.terms.proofs.Matcher.{match-name-new, match-app, match-cons, matcher-sound}
 
 abbrev mutual
@@ -82,6 +84,16 @@ fit-fits S p s g u k e =
     let r = fit-match p g noFilling u e in
     let q = matcher-sound S p s g (r .0) k (r .1) in
     (r .0, q .0, q .1)
+
+pub fit-once : (S : Signature) (p : Term) (s : ℕ) (g : Ground) → Sorted S p s → Linear p → SortedG S g s → fit p g ≡ true → FitsOnce S p s g
+fit-once S p s g h u k e =
+    let r = fit-fits S p s g u k e in
+    record {
+      filling = r .0;
+      fills = r .1;
+      turns = r .2;
+      only = λ f i d. one-filling S p s f (r .0) h i (r .1) (d ∙ sym (r .2));
+    }
 
 pub fits-fit : (S : Signature) (p : Term) (s : ℕ) (g : Ground) → Fits S p s g → fit p g ≡ true
 fits-fit S p s g (f, h, e) = ap (fit p) (sym e) ∙ fit-fill p (f .named) (f .opened)

@@ -18,9 +18,9 @@ use Rattle.terms.specs.Signature.{Symbol, Signature, WellFormed}
 use Rattle.terms.specs.Term.{Term, any, app, nil, cons, Ground, gapp, gnil, gcons, Sorted, SortedG, Linear}
 use Rattle.terms.specs.Filling.{Fits}
 use Rattle.terms.specs.Matcher.{noFilling}
-use Rattle.terms.specs.Listing.{listing, withEntries, Inhabited}
-use Rattle.terms.proofs.Term.{linear-well-sorted}
-use Rattle.terms.proofs.Theorems.{matcher-is-exact, entries-are-sound, partition, strike-out, first-empty-is-exact}
+use Rattle.terms.specs.Inhabited.{Inhabited}
+use Rattle.terms.specs.Listing.{listing, withEntries}
+use Rattle.terms.proofs.Theorems.{matcher-is-exact, entries-are-linear-patterns, partition, strike-out, first-empty-is-exact}
 
 abbrev word : ℕ → List ℕ → Symbol
 word s ks = record { result = s; arguments = ks }
@@ -57,15 +57,14 @@ incident-sorted = omega arith
 
 incident-third : Fits A (getD (withEntries A p) 3 any) 0 incident
 incident-third =
-    let sound = entries-are-sound A p 0 p-sorted p-linear .1 .1 .0 in
-    let well = linear-well-sorted A (getD (withEntries A p) 3 any) 0 (sound .0) (sound .1) in
-    let r = matcher-is-exact A (getD (withEntries A p) 3 any) 0 incident noFilling well incident-sorted .0 refl in
+    let entry = entries-are-linear-patterns A p 0 p-sorted p-linear .1 .1 .0 in
+    let r = matcher-is-exact A (getD (withEntries A p) 3 any) 0 incident noFilling (entry .0) incident-sorted .0 refl in
     (noFilling, r .0, r .1)
 
 incident-only-third : (j : ℕ) → j < 4 → Fits A (getD (withEntries A p) j any) 0 incident → j ≡ 3
 incident-only-third j b h =
-    let one = partition A p 0 well-formed p-sorted p-linear incident incident-sorted in
-    one .3 j b h ∙ sym (one .3 3 (omega arith) incident-third)
+    let one = partition A p 0 p-sorted p-linear incident incident-sorted in
+    one .only j b h ∙ sym (one .only 3 (omega arith) incident-third)
 
 inhabited : Inhabited A
 inhabited = first-empty-is-exact A well-formed .missed .0 refl

@@ -26,8 +26,7 @@ use borrow.Author.Tests.{eqb-true, not-true, not-false}
 use Rattle.terms.specs.Lists.{All, occurs, range}
 use Rattle.terms.specs.Signature.{Symbol, Signature, noSymbol, symbol, result, arguments, WellFormed}
 use Rattle.terms.specs.Term.{Ground, gapp, Grounds, gnil, gcons, SortedG, SortedGs}
-use Rattle.terms.specs.Listing.{Inhabited}
-use Rattle.terms.specs.Inhabited.{Empty, LeastEmpty, covered, joined, grow, reached, first, firstEmpty, FirstEmptyIsExact}
+use Rattle.terms.specs.Inhabited.{Inhabited, Empty, LeastEmpty, covered, joined, grow, reached, first, firstEmpty, FirstEmptyIsExact}
 use Rattle.terms.proofs.Signature.{symbol-sorts}
 use Rattle.terms.proofs.Bools.{and-parts, and-both, false-of-not, iff-same}
 use Rattle.terms.proofs.All.{all-implies, all-at, at-all}

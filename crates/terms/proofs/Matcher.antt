@@ -11,7 +11,7 @@ use lib.Seq.{take-add, take-all, drop-at, append-snoc}
 use borrow.Author.Tests.{eqb-true}
 use Rattle.terms.specs.Lists.{occurs, distinct}
 use Rattle.terms.specs.Signature.{Signature}
-use Rattle.terms.specs.Term.{Term, any, var, app, Terms, nil, cons, Ground, gapp, Grounds, gnil, gcons, SortedG, WellSorted, names, namesAll, openSorts, openings, openingsAll, same}
+use Rattle.terms.specs.Term.{Term, any, var, app, Terms, nil, cons, Ground, gapp, Grounds, gnil, gcons, SortedG, Sorted, names, namesAll, openSorts, openings, openingsAll, same}
 use Rattle.terms.specs.Filling.{Binding, Filling, valueOf, fillFrom, fillAll, fill, SortedEach, IsFilling}
 use Rattle.terms.specs.Matcher.{withOpen, withName, matchName, matchFrom, matchAll, matcher, noFilling, MatcherIsExact}
 use Rattle.terms.proofs.Bools.{eqb-refl}
@@ -78,9 +78,9 @@ match-back p f k l =
     (ap (given (valueOf (f .named))) (add-names-none (names p) ∙ sym k) ∙ given-values (f .named) (rw k (none-twice-distinct (names p))))
     (take-all (openings p) (f .opened) (omega arith))
 
-pub matcher-finds : (S : Signature) (p : Term) (s : ℕ) (f : Filling) → WellSorted S p s → IsFilling S p s f → matcher p (fill p f) ≡ some f
+pub matcher-finds : (S : Signature) (p : Term) (s : ℕ) (f : Filling) → Sorted S p s → IsFilling S p s f → matcher p (fill p f) ≡ some f
 matcher-finds S p s f w i =
-    match-back p f (i .keys) (sorted-each-length S (f .opened) (openSorts S p s) (i .placed) ∙ length-open-sorts S p s (w .sorted))
+    match-back p f (i .keys) (sorted-each-length S (f .opened) (openSorts S p s) (i .placed) ∙ length-open-sorts S p s w)
 
 -- What is found: f with bindings and ground terms added, which turn the term, here given by what it is
 -- filled to, its names and its number of open places, into g.

@@ -10,13 +10,12 @@ use borrow.Author.Tests.{eq-eqb, eqb-true}
 use Rattle.terms.specs.Lists.{range}
 use Rattle.terms.specs.Signature.{Signature, result, arguments}
 use Rattle.terms.specs.Term.{Term, any, var, app, Terms, nil, cons, Ground, gapp, Grounds, gnil, gcons, Sorted, SortedAll, SortedG, SortedGs, Linear}
-use Rattle.terms.specs.Listing.{others, opened, closeNone, listing, listingAll, withEntries, Partition}
+use Rattle.terms.specs.Listing.{others, opened, openEvery, listing, listingAll, withEntries, Partition}
 use Rattle.terms.proofs.Bools.{eqb-sym, and-always, and-where}
 use Rattle.terms.proofs.Count.{bit, count, count-append, count-map, count-same, count-never, count-keep, count-range, count-one}
-use Rattle.terms.proofs.Members.{only-one-same}
 use Rattle.terms.proofs.All.{all-at}
-use Rattle.terms.proofs.Fit.{fit, fitAll, open-fits, fit-fits, fits-fit}
-use Rattle.terms.proofs.Entries.{none-closed-open, entries-linear}
+use Rattle.terms.proofs.Fit.{fit, fitAll, open-fits, fit-once, fits-fit}
+use Rattle.terms.proofs.Entries.{open-every-all-open, entries-are-linear-patterns}
 
 -- A symbol with every place open fits the terms of that symbol and no others.
 opened-fits : (S : Signature) (h k : ℕ) (gs : Grounds) → SortedGs S gs (arguments S k) → fit (opened S h) (gapp k gs) ≡ eqb h k
@@ -70,10 +69,10 @@ count-cons S t ts ks g gs h a one rest = rw parts (go (fit t g) one)
     parts : count (λ es. fitAll es (gcons g gs)) (listingAll S (cons t ts)) ≡
         count (λ e. fit e g) (listing S t) + count (λ es. fit t g && fitAll es gs) (listingAll S ts)
     parts =
-        count-append (λ es. fitAll es (gcons g gs)) (map (λ e. cons e (closeNone ts)) (listing S t)) (map (cons t) (listingAll S ts)) ∙
+        count-append (λ es. fitAll es (gcons g gs)) (map (λ e. cons e (openEvery ts)) (listing S t)) (map (cons t) (listingAll S ts)) ∙
         ap₂ (λ m n. m + n)
-        (count-map (λ es. fitAll es (gcons g gs)) (λ e. cons e (closeNone ts)) (listing S t) ∙
-        count-same _ _ (listing S t) (λ e. and-always (fit e g) _ (rw (none-closed-open S ts ks h) (open-fits S gs ks a))))
+        (count-map (λ es. fitAll es (gcons g gs)) (λ e. cons e (openEvery ts)) (listing S t) ∙
+        count-same _ _ (listing S t) (λ e. and-always (fit e g) _ (rw (open-every-all-open S ts ks h) (open-fits S gs ks a))))
         (count-map (λ es. fitAll es (gcons g gs)) (cons t) (listingAll S ts))
 
     go : (b : Bool) → bit b + count (λ e. fit e g) (listing S t) ≡ 1 →
@@ -101,11 +100,12 @@ mutual
       count-cons S t ts ks g gs (h .1) (a .1) (counted-once S t k g (h .0) (a .0)) (counted-once-all S ts ks gs (h .1) (a .1))
 
 pub partition : Partition
-partition S p s wf h u g k =
-    only-one-same _ _ (length (withEntries S p))
-    (λ i b. fit-fits S (getD (withEntries S p) i any) s g (linear i b) k)
-    (λ i b. fits-fit S (getD (withEntries S p) i any) s g)
-    (count-one (λ e. fit e g) any (withEntries S p) (counted-once S p s g h k))
-  where
-    linear : (i : ℕ) → i < length (withEntries S p) → Linear (getD (withEntries S p) i any)
-    linear = all-at Linear any (withEntries S p) (u, entries-linear S p [] u)
+partition S p s h u g k =
+    let one = count-one (λ e. fit e g) any (withEntries S p) (counted-once S p s g h k) in
+    let entry = all-at (λ e. Sorted S e s × Linear e) any (withEntries S p) ((h, u), entries-are-linear-patterns S p s h u) (one .0) (one .1) in
+    record {
+      index = one .0;
+      below = one .1;
+      once = fit-once S (getD (withEntries S p) (one .0) any) s g (entry .0) (entry .1) k (one .2);
+      only = λ j b f. one .3 j b (fits-fit S (getD (withEntries S p) j any) s g f);
+    }

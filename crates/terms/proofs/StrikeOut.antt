@@ -12,12 +12,13 @@ use Rattle.terms.specs.Lists.{All}
 use Rattle.terms.specs.Signature.{Signature, arguments, WellFormed}
 use Rattle.terms.specs.Term.{Term, any, var, app, Terms, nil, cons, Ground, gapp, Grounds, gnil, gcons, Sorted, SortedAll, SortedG, SortedGs, Linear}
 use Rattle.terms.specs.Filling.{Fits}
-use Rattle.terms.specs.Listing.{listing, Inhabited, StrikeOut}
+use Rattle.terms.specs.Inhabited.{Inhabited}
+use Rattle.terms.specs.Listing.{listing, StrikeOut}
 use Rattle.terms.proofs.Bools.{eqb-refl, and-both}
 use Rattle.terms.proofs.Signature.{symbol-sorts}
 use Rattle.terms.proofs.All.{all-at}
 use Rattle.terms.proofs.Fit.{fit, fitAll, fit-fits}
-use Rattle.terms.proofs.Entries.{entries-are-sound}
+use Rattle.terms.proofs.Entries.{entries-are-linear-patterns}
 use Rattle.terms.proofs.Partition.{partition}
 
 mutual
@@ -47,15 +48,15 @@ listed-sort S (app f ts) s i wf h b = subst (λ k. k < S .sorts) (h .1) (symbol-
 
 pub strike-out : StrikeOut
 strike-out S p s wf full h u i b =
-    let sound = all-at (λ e. Sorted S e s × Linear e) any (listing S p) (entries-are-sound S p s h u) i b in
-    let w = instance S (getD (listing S p) i any) s wf full (listed-sort S p s i wf h b) (sound .0) in
+    let entry = all-at (λ e. Sorted S e s × Linear e) any (listing S p) (entries-are-linear-patterns S p s h u) i b in
+    let w = instance S (getD (listing S p) i any) s wf full (listed-sort S p s i wf h b) (entry .0) in
     let fits : Fits S (getD (listing S p) i any) s (w .0) =
-    fit-fits S (getD (listing S p) i any) s (w .0) (sound .1) (w .1) (w .2) in
-    let one = partition S p s wf h u (w .0) (w .1) in
-    let here : suc i ≡ one .0 = one .3 (suc i) (omega arith) fits in (
+    fit-fits S (getD (listing S p) i any) s (w .0) (entry .1) (w .1) (w .2) in
+    let one = partition S p s h u (w .0) (w .1) in
+    let here : suc i ≡ one .index = one .only (suc i) (omega arith) fits in (
       w .0,
       w .1,
       fits,
-      (λ e. omega (arith, one .3 0 (omega arith) e)),
-      (λ j k e. omega (arith, one .3 (suc j) (omega arith) e)),
+      (λ e. omega (arith, one .only 0 (omega arith) e)),
+      (λ j k e. omega (arith, one .only (suc j) (omega arith) e)),
     )

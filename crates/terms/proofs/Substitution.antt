@@ -1,6 +1,6 @@
 -- Substitution: for a ground term, matching is the same as having a filling.
 --
---   general-sorted       the general term of a sorted pattern is a term of its sort
+--   with-variables-sorted   a sorted pattern with its variables is a term of its sort
 --   valueBy f            the terms that the filling f gives the variables of names and of open places
 --   fits-matches         a filling is a substitution
 --   toGround t           the ground term that t is, where it holds no variable
@@ -19,8 +19,8 @@ use borrow.Author.Tests.{eqb-true}
 use Rattle.terms.specs.Lists.{All, occurs}
 use Rattle.terms.specs.Signature.{Signature, arguments}
 use Rattle.terms.specs.Term.{Term, any, var, app, Terms, nil, cons, Ground, gapp, Grounds, gnil, gcons, Sorted, SortedAll, SortedG, SortedGs, Occurrence, occurrences, Consistent, WellSorted, names, openSorts, openings}
-use Rattle.terms.specs.Filling.{Filling, noGround, valueOf, openAt, fillFrom, fillAll, fill, Fits, Chosen}
-use Rattle.terms.specs.Substitution.{Var, name, place, sortOf, Tm, tvar, tapp, Tms, tnil, tcons, SortedT, SortedTs, Substitution, carry, carryAll, asTm, asTms, generalFrom, generalAll, general, Matches, MatchingIsFitting}
+use Rattle.terms.specs.Filling.{Filling, noGround, valueOf, openAt, fillFrom, fillAll, fill, Fits, Gives}
+use Rattle.terms.specs.Substitution.{Var, name, place, sortOf, Tm, tvar, tapp, Tms, tnil, tcons, SortedT, SortedTs, Substitution, carry, carryAll, asTm, asTms, withVariablesFrom, withVariablesAll, withVariables, Matches, MatchingIsFitting}
 use Rattle.terms.proofs.All.{all-implies, all-both, all-append}
 use Rattle.terms.proofs.Occurs.{all-occurs}
 use Rattle.terms.proofs.Term.{occurrences-named}
@@ -49,42 +49,42 @@ mutual
   sorted-grounds S (gcons g gs) [] h = h
   sorted-grounds S (gcons g gs) (k ∷ ks) h = (sorted-ground S g k (h .0), sorted-grounds S gs ks (h .1))
 
--- The general term of a sorted pattern is a term of its sort.
+-- A sorted pattern with its variables is a term of its sort.
 mutual
-  pub general-sorted : (S : Signature) (p : Term) (s i : ℕ) → Sorted S p s → SortedT S (generalFrom S p s i) s
-  general-sorted S any s i h = refl
-  general-sorted S (var n) s i h = refl
-  general-sorted S (app f ts) s i h = (h .0, h .1, general-sorted-all S ts (arguments S f) i (h .2))
+  pub with-variables-sorted : (S : Signature) (p : Term) (s i : ℕ) → Sorted S p s → SortedT S (withVariablesFrom S p s i) s
+  with-variables-sorted S any s i h = refl
+  with-variables-sorted S (var n) s i h = refl
+  with-variables-sorted S (app f ts) s i h = (h .0, h .1, with-variables-sorted-all S ts (arguments S f) i (h .2))
 
-  general-sorted-all : (S : Signature) (ts : Terms) (ks : List ℕ) (i : ℕ) → SortedAll S ts ks → SortedTs S (generalAll S ts ks i) ks
-  general-sorted-all S nil [] i h = h
-  general-sorted-all S nil (k ∷ ks) i h = h
-  general-sorted-all S (cons t ts) [] i h = absurd h
-  general-sorted-all S (cons t ts) (k ∷ ks) i h = (general-sorted S t k i (h .0), general-sorted-all S ts ks (i + openings t) (h .1))
+  with-variables-sorted-all : (S : Signature) (ts : Terms) (ks : List ℕ) (i : ℕ) → SortedAll S ts ks → SortedTs S (withVariablesAll S ts ks i) ks
+  with-variables-sorted-all S nil [] i h = h
+  with-variables-sorted-all S nil (k ∷ ks) i h = h
+  with-variables-sorted-all S (cons t ts) [] i h = absurd h
+  with-variables-sorted-all S (cons t ts) (k ∷ ks) i h = (with-variables-sorted S t k i (h .0), with-variables-sorted-all S ts ks (i + openings t) (h .1))
 
 abbrev valueBy : Filling → Var → Tm
 valueBy f (name n s) = asTm (valueOf (f .named) n)
 valueBy f (place i s) = asTm (openAt f i)
 
--- To carry the general term along a filling is to fill the pattern.
+-- To carry a pattern with its variables along a filling is to fill the pattern.
 mutual
   carry-fill : (S : Signature) (f : Filling) (p : Term) (s i : ℕ) → Sorted S p s →
-      carry (valueBy f) (generalFrom S p s i) ≡ asTm (fillFrom (f .named) p (drop i (f .opened)))
+      carry (valueBy f) (withVariablesFrom S p s i) ≡ asTm (fillFrom (f .named) p (drop i (f .opened)))
   carry-fill S f any s i h = rw (getD-drop, add-zero) refl
   carry-fill S f (var n) s i h = refl
   carry-fill S f (app k ts) s i h = ap (tapp k) (carry-fill-all S f ts (arguments S k) i (h .2))
 
   carry-fill-all : (S : Signature) (f : Filling) (ts : Terms) (ks : List ℕ) (i : ℕ) → SortedAll S ts ks →
-      carryAll (valueBy f) (generalAll S ts ks i) ≡ asTms (fillAll (f .named) ts (drop i (f .opened)))
+      carryAll (valueBy f) (withVariablesAll S ts ks i) ≡ asTms (fillAll (f .named) ts (drop i (f .opened)))
   carry-fill-all S f nil ks i h = refl
   carry-fill-all S f (cons t ts) [] i h = absurd h
   carry-fill-all S f (cons t ts) (k ∷ ks) i h =
       ap₂ tcons (carry-fill S f t k i (h .0))
       (carry-fill-all S f ts ks (i + openings t) (h .1) ∙ ap (λ gs. asTms (fillAll (f .named) ts gs)) (sym (drop-drop (openings t) i (f .opened))))
 
-fits-matches : (S : Signature) (p : Term) (s : ℕ) (g : Ground) → WellSorted S p s → Fits S p s g → Matches S (general S p s) (asTm g)
+fits-matches : (S : Signature) (p : Term) (s : ℕ) (g : Ground) → WellSorted S p s → Fits S p s g → Matches S (withVariables S p s) (asTm g)
 fits-matches S p s g w (f, h, e) =
-    matches-by S (general S p s) (asTm g) (valueBy f)
+    matches-by S (withVariables S p s) (asTm g) (valueBy f)
     (all-vars (λ x. SortedT S (valueBy f x) (sortOf x)) S p s 0 (w .sorted) bound placed)
     (carry-fill S f p s 0 (w .sorted) ∙ ap asTm e)
   where
@@ -148,7 +148,7 @@ first-sorts l h =
     (all-both (λ o. occurs (o .name) (map (λ o′. o′ .name) l) ≡ true) (λ o. All (λ o′. o .name ≡ o′ .name → o .sort ≡ o′ .sort) l) l
     (all-occurs (λ o. o .name) l) h)
 
-module _ (S : Signature) (p : Term) (s : ℕ) (g : Ground) (w : WellSorted S p s) (σ : Substitution S) (e : carry (σ .value) (general S p s) ≡ asTm g) where
+module _ (S : Signature) (p : Term) (s : ℕ) (g : Ground) (w : WellSorted S p s) (σ : Substitution S) (e : carry (σ .value) (withVariables S p s) ≡ asTm g) where
   -- The value of each variable and of each open place.
   abbrev chosenName : ℕ → Ground
   chosenName n = toGround (σ .value (name n (firstSort (occurrences S p s) n)))
@@ -156,8 +156,8 @@ module _ (S : Signature) (p : Term) (s : ℕ) (g : Ground) (w : WellSorted S p s
   abbrev chosenPlace : ℕ → Ground
   chosenPlace i = toGround (σ .value (place i (getD (openSorts S p s) i 0)))
 
-  values-ground : All (λ x. IsGround (σ .value x)) (vars (general S p s))
-  values-ground = ground-values (σ .value) (general S p s) (rw e (ap asTm (to-ground-as g)))
+  values-ground : All (λ x. IsGround (σ .value x)) (vars (withVariables S p s))
+  values-ground = ground-values (σ .value) (withVariables S p s) (rw e (ap asTm (to-ground-as g)))
 
   value-sorted : (x : Var) (v : Ground) → asTm v ≡ σ .value x → SortedG S v (sortOf x)
   value-sorted x v h = sorted-ground S v (sortOf x) (rw h (σ .keeps x))
@@ -174,10 +174,10 @@ module _ (S : Signature) (p : Term) (s : ℕ) (g : Ground) (w : WellSorted S p s
   place-value i b = rw zero-add at (places-all (λ x. IsGround (σ .value x)) S p s 0 (w .sorted) values-ground i b)
 
   -- A filling that gives these values turns the pattern into the ground term.
-  chosen-fills : (f : Filling) → Chosen S p s chosenName chosenPlace f → fill p f ≡ g
-  chosen-fills f c =
+  gives-fills : (f : Filling) → Gives S p s chosenName chosenPlace f → fill p f ≡ g
+  gives-fills f c =
       sym (to-ground-as (fill p f))
-      ∙ ap toGround (sym (carry-fill S f p s 0 (w .sorted)) ∙ carry-agree (valueBy f) (σ .value) (general S p s) agree ∙ e)
+      ∙ ap toGround (sym (carry-fill S f p s 0 (w .sorted)) ∙ carry-agree (valueBy f) (σ .value) (withVariables S p s) agree ∙ e)
       ∙ to-ground-as g
     where
       named : All (λ o. valueBy f (name (o .name) (o .sort)) ≡ σ .value (name (o .name) (o .sort))) (occurrences S p s)
@@ -191,11 +191,11 @@ module _ (S : Signature) (p : Term) (s : ℕ) (g : Ground) (w : WellSorted S p s
       placed : Places (λ x. valueBy f x ≡ σ .value x) 0 (openSorts S p s)
       placed j b = rw zero-add (ap asTm (c .opened j b) ∙ place-value j b)
 
-      agree : All (λ x. valueBy f x ≡ σ .value x) (vars (general S p s))
+      agree : All (λ x. valueBy f x ≡ σ .value x) (vars (withVariables S p s))
       agree = all-vars (λ x. valueBy f x ≡ σ .value x) S p s 0 (w .sorted) named placed
 
   matches-fits : Fits S p s g
-  matches-fits = let r = each-choice-has-a-filling S p s w chosenName chosenPlace bound placed in (r .0, r .1, chosen-fills (r .0) (r .2))
+  matches-fits = let r = each-choice-has-a-filling S p s (w .sorted) chosenName chosenPlace bound placed in (r .0, r .1, gives-fills (r .0) (r .2))
     where
       bound : All (λ o. SortedG S (chosenName (o .name)) (o .sort)) (occurrences S p s)
       bound = all-implies (λ o. asTm (chosenName (o .name)) ≡ σ .value (name (o .name) (o .sort))) (λ o. SortedG S (chosenName (o .name)) (o .sort))

@@ -5,8 +5,8 @@
 --   one-filling                   no two fillings turn a pattern into the same ground term
 --   matcher-is-exact              the matcher finds a filling exactly where there is one, and that one
 --   matching-is-fitting           for a ground term, matching by a substitution is the same as having a filling
---   entries-are-sound             each entry of a listing is a linear pattern of the pattern's sort
---   partition                     every ground term fits exactly one of a linear pattern and its entries
+--   entries-are-linear-patterns   each entry of a listing is a linear pattern of the pattern's sort
+--   partition                     every ground term fits exactly one of a linear pattern and its entries, by exactly one filling
 --   strike-out                    over inhabited sorts each entry has a ground term that fits it and nothing else
 --   listing-represents            the entries represent the non-instances of a linear pattern
 --   first-empty-is-exact          the lowest sort without a ground term is found, and none where there is no such sort
@@ -14,7 +14,7 @@
 use Rattle.terms.specs.Filling.{EachChoiceHasAFilling, EqualWhereTheyAgree, OneFilling}
 use Rattle.terms.specs.Substitution.{MatchingIsFitting}
 use Rattle.terms.specs.Matcher.{MatcherIsExact}
-use Rattle.terms.specs.Listing.{Partition, StrikeOut, EntriesAreSound, ListingRepresents}
+use Rattle.terms.specs.Listing.{Partition, StrikeOut, EntriesAreLinearPatterns, ListingRepresents}
 use Rattle.terms.specs.Inhabited.{FirstEmptyIsExact}
 
 pub each-choice-has-a-filling : EachChoiceHasAFilling
@@ -32,8 +32,8 @@ matcher-is-exact = Rattle.terms.proofs.Matcher.matcher-is-exact
 pub matching-is-fitting : MatchingIsFitting
 matching-is-fitting = Rattle.terms.proofs.Substitution.matching-is-fitting
 
-pub entries-are-sound : EntriesAreSound
-entries-are-sound = Rattle.terms.proofs.Entries.entries-are-sound
+pub entries-are-linear-patterns : EntriesAreLinearPatterns
+entries-are-linear-patterns = Rattle.terms.proofs.Entries.entries-are-linear-patterns
 
 pub partition : Partition
 partition = Rattle.terms.proofs.Partition.partition

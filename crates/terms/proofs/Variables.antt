@@ -1,11 +1,11 @@
--- Variables: what holds of the variables of a term, and of those of a pattern's general term.
+-- Variables: what holds of the variables of a term, and of those of a pattern with its variables.
 --
 --   vars t             the variables of t, an entry an occurrence, from left to right
 --   only v l           the map v on the variables of l, and every other variable itself
 --   matches-by         a map that keeps the sorts of a term's variables makes the term match what it carries it to
 --   carry-agree        two maps that agree on a term's variables carry it to the same term
 --   Places P i ks      P holds of the variables of open places of the sorts ks, numbered from i
---   all-vars           what holds of a pattern's names and open places holds of its general term's variables
+--   all-vars           what holds of a pattern's names and open places holds of the variables of withVariables
 --   names-all          and the other way round, for names
 --   places-all         and for open places
 --
@@ -22,7 +22,7 @@ use borrow.Author.Tests.{eqb-true, ltb-true, ltb-false}
 use Rattle.terms.specs.Lists.{All}
 use Rattle.terms.specs.Signature.{Signature, arguments}
 use Rattle.terms.specs.Term.{Term, any, var, app, Terms, nil, cons, Sorted, SortedAll, occurrences, occurrencesAll, openSorts, openSortsAll, openings}
-use Rattle.terms.specs.Substitution.{Var, name, place, sortOf, Tm, tvar, tapp, Tms, tnil, tcons, SortedT, Substitution, carry, carryAll, generalFrom, generalAll, Matches}
+use Rattle.terms.specs.Substitution.{Var, name, place, sortOf, Tm, tvar, tapp, Tms, tnil, tcons, SortedT, Substitution, carry, carryAll, withVariablesFrom, withVariablesAll, Matches}
 use Rattle.terms.proofs.Bools.{eqb-refl, and-parts, and-both}
 use Rattle.terms.proofs.All.{all-implies, all-append, all-left, all-right}
 use Rattle.terms.proofs.Term.{length-open-sorts}
@@ -102,7 +102,7 @@ pub matches-by : (S : Signature) (t u : Tm) (v : Var → Tm) → All (λ x. Sort
 matches-by S t u v h e = (σ, carry-agree (only v (vars t)) v t (only-on v (vars t)) ∙ e)
   where
     σ : Substitution S
-    σ = record { value = only v (vars t); keeps = only-keeps S v (vars t) h; core = vars t; finite = only-finite v (vars t) }
+    σ = record { value = only v (vars t); keeps = only-keeps S v (vars t) h; relaxedCore = vars t; finite = only-finite v (vars t) }
 
 -- P holds of the variables of open places of the sorts ks, which are numbered from i.
 abbrev pub Places : (Var → Type 0) → ℕ → List ℕ → Type 0
@@ -130,17 +130,17 @@ module _ (P : Var → Type 0) (i : ℕ) (ks ls : List ℕ) where
 
 mutual
   pub all-vars : (P : Var → Type 0) (S : Signature) (p : Term) (s i : ℕ) → Sorted S p s →
-      All (λ o. P (name (o .name) (o .sort))) (occurrences S p s) → Places P i (openSorts S p s) → All P (vars (generalFrom S p s i))
+      All (λ o. P (name (o .name) (o .sort))) (occurrences S p s) → Places P i (openSorts S p s) → All P (vars (withVariablesFrom S p s i))
   all-vars P S any s i h a b = (rw add-zero at (b 0 (omega arith)), tt)
   all-vars P S (var n) s i h a b = a
   all-vars P S (app f ts) s i h a b = all-vars-all P S ts (arguments S f) i (h .2) a b
 
   all-vars-all : (P : Var → Type 0) (S : Signature) (ts : Terms) (ks : List ℕ) (i : ℕ) → SortedAll S ts ks →
-      All (λ o. P (name (o .name) (o .sort))) (occurrencesAll S ts ks) → Places P i (openSortsAll S ts ks) → All P (varsAll (generalAll S ts ks i))
+      All (λ o. P (name (o .name) (o .sort))) (occurrencesAll S ts ks) → Places P i (openSortsAll S ts ks) → All P (varsAll (withVariablesAll S ts ks i))
   all-vars-all P S nil ks i h a b = tt
   all-vars-all P S (cons t ts) [] i h a b = absurd h
   all-vars-all P S (cons t ts) (k ∷ ks) i h a b =
-      all-append P (vars (generalFrom S t k i)) (varsAll (generalAll S ts ks (i + openings t)))
+      all-append P (vars (withVariablesFrom S t k i)) (varsAll (withVariablesAll S ts ks (i + openings t)))
       (all-vars P S t k i (h .0)
       (all-left (λ o. P (name (o .name) (o .sort))) (occurrences S t k) (occurrencesAll S ts ks) a)
       (places-left P i (openSorts S t k) (openSortsAll S ts ks) b))
@@ -150,34 +150,34 @@ mutual
 
 mutual
   pub names-all : (P : Var → Type 0) (S : Signature) (p : Term) (s i : ℕ) →
-      All P (vars (generalFrom S p s i)) → All (λ o. P (name (o .name) (o .sort))) (occurrences S p s)
+      All P (vars (withVariablesFrom S p s i)) → All (λ o. P (name (o .name) (o .sort))) (occurrences S p s)
   names-all P S any s i a = tt
   names-all P S (var n) s i a = a
   names-all P S (app f ts) s i a = names-all-all P S ts (arguments S f) i a
 
   names-all-all : (P : Var → Type 0) (S : Signature) (ts : Terms) (ks : List ℕ) (i : ℕ) →
-      All P (varsAll (generalAll S ts ks i)) → All (λ o. P (name (o .name) (o .sort))) (occurrencesAll S ts ks)
+      All P (varsAll (withVariablesAll S ts ks i)) → All (λ o. P (name (o .name) (o .sort))) (occurrencesAll S ts ks)
   names-all-all P S nil ks i a = tt
   names-all-all P S (cons t ts) [] i a = tt
   names-all-all P S (cons t ts) (k ∷ ks) i a =
       all-append (λ o. P (name (o .name) (o .sort))) (occurrences S t k) (occurrencesAll S ts ks)
-      (names-all P S t k i (all-left P (vars (generalFrom S t k i)) (varsAll (generalAll S ts ks (i + openings t))) a))
-      (names-all-all P S ts ks (i + openings t) (all-right P (vars (generalFrom S t k i)) (varsAll (generalAll S ts ks (i + openings t))) a))
+      (names-all P S t k i (all-left P (vars (withVariablesFrom S t k i)) (varsAll (withVariablesAll S ts ks (i + openings t))) a))
+      (names-all-all P S ts ks (i + openings t) (all-right P (vars (withVariablesFrom S t k i)) (varsAll (withVariablesAll S ts ks (i + openings t))) a))
 
 mutual
   pub places-all : (P : Var → Type 0) (S : Signature) (p : Term) (s i : ℕ) → Sorted S p s →
-      All P (vars (generalFrom S p s i)) → Places P i (openSorts S p s)
+      All P (vars (withVariablesFrom S p s i)) → Places P i (openSorts S p s)
   places-all P S any s i h a zero b = rw add-zero (a .0)
   places-all P S any s i h a (suc j) b = absurd (omega arith)
   places-all P S (var n) s i h a j b = absurd (omega arith)
   places-all P S (app f ts) s i h a j b = places-all-all P S ts (arguments S f) i (h .2) a j b
 
   places-all-all : (P : Var → Type 0) (S : Signature) (ts : Terms) (ks : List ℕ) (i : ℕ) → SortedAll S ts ks →
-      All P (varsAll (generalAll S ts ks i)) → Places P i (openSortsAll S ts ks)
+      All P (varsAll (withVariablesAll S ts ks i)) → Places P i (openSortsAll S ts ks)
   places-all-all P S nil ks i h a j b = absurd (omega arith)
   places-all-all P S (cons t ts) [] i h a j b = absurd h
   places-all-all P S (cons t ts) (k ∷ ks) i h a j b =
       places-join P i (openSorts S t k) (openSortsAll S ts ks) (openings t) (length-open-sorts S t k (h .0))
-      (λ j′ b′. places-all P S t k i (h .0) (all-left P (vars (generalFrom S t k i)) (varsAll (generalAll S ts ks (i + openings t))) a) j′ b′)
-      (λ j′ b′. places-all-all P S ts ks (i + openings t) (h .1) (all-right P (vars (generalFrom S t k i)) (varsAll (generalAll S ts ks (i + openings t))) a) j′ b′)
+      (λ j′ b′. places-all P S t k i (h .0) (all-left P (vars (withVariablesFrom S t k i)) (varsAll (withVariablesAll S ts ks (i + openings t))) a) j′ b′)
+      (λ j′ b′. places-all-all P S ts ks (i + openings t) (h .1) (all-right P (vars (withVariablesFrom S t k i)) (varsAll (withVariablesAll S ts ks (i + openings t))) a) j′ b′)
       j b

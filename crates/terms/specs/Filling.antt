@@ -1,11 +1,16 @@
 -- Filling: what turns a pattern into a ground term (document 01: filling, fits).
 --
 --   Binding, Filling        the ground term of each variable, and of each open place from left to right
---   valueOf l n             what the bindings l give the variable n
+--   noGround                what is read off a list that has no such entry
+--   valueOf bs n            what the bindings bs give the variable n
 --   openAt f i              what the filling f gives the i-th open place, counted from 0
+--   fillFrom bs t gs, fillAll bs ts gs   the bindings bs and the ground terms gs put into t, into ts
 --   fill p f                the filling f carried out on p
+--   SortedEach S gs ks      the ground terms gs have the sorts ks, one each
 --   IsFilling S p s f       f is a filling of the pattern p of sort s
 --   Fits S p s g            some filling turns p into g (document 01: g fits p)
+--   FitsOnce S p s g        exactly one filling turns p into g
+--   Gives S p s v w f       f gives the variables of p the values of v, and its open places those of w
 --   EachChoiceHasAFilling   any choice of ground terms of the sorts due is a filling's
 --   EqualWhereTheyAgree     two fillings are equal exactly where they give the same values
 --   OneFilling              no two fillings turn a pattern into the same ground term
@@ -19,7 +24,7 @@ use lib.Dec.{eqb}
 use lib.ListN.{length, getD, drop}
 use Rattle.terms.specs.Lists.{All, occurs, distinct}
 use Rattle.terms.specs.Signature.{Signature}
-use Rattle.terms.specs.Term.{Term, any, var, app, Terms, nil, cons, Ground, gapp, Grounds, gnil, gcons, SortedG, Occurrence, occurrences, WellSorted, names, openSorts, openings}
+use Rattle.terms.specs.Term.{Term, any, var, app, Terms, nil, cons, Ground, gapp, Grounds, gnil, gcons, SortedG, occurrences, Sorted, names, openSorts, openings}
 
 pub record Binding : Type 0 where
   pub name : ℕ
@@ -29,7 +34,6 @@ pub record Filling : Type 0 where
   pub named : List Binding
   pub opened : List Ground
 
--- What is read off a list that has no such entry.
 abbrev pub noGround : Ground
 noGround = gapp 0 gnil
 
@@ -55,7 +59,6 @@ abbrev mutual
 abbrev pub fill : Term → Filling → Ground
 fill p f = fillFrom (f .named) p (f .opened)
 
--- The ground terms gs have the sorts ks, one each.
 abbrev pub SortedEach : Signature → List Ground → List ℕ → Type 0
 SortedEach S [] [] = Unit {0}
 SortedEach S [] (k ∷ ks) = ⊥
@@ -73,24 +76,30 @@ pub record IsFilling (S : Signature) (p : Term) (s : ℕ) (f : Filling) : Type 0
 abbrev pub Fits : Signature → Term → ℕ → Ground → Type 0
 Fits S p s g = (f : Filling) × IsFilling S p s f × (fill p f ≡ g)
 
--- The filling f gives the variables of p and its open places the values that the choices v and w give.
-pub record Chosen (S : Signature) (p : Term) (s : ℕ) (v w : ℕ → Ground) (f : Filling) : Type 0 where
+-- A filling that turns p into g, and every filling that does is that one.
+pub record FitsOnce (S : Signature) (p : Term) (s : ℕ) (g : Ground) : Type 0 where
+  pub filling : Filling
+  pub fills : IsFilling S p s filling
+  pub turns : fill p filling ≡ g
+  pub only : (f : Filling) → IsFilling S p s f → fill p f ≡ g → f ≡ filling
+
+pub record Gives (S : Signature) (p : Term) (s : ℕ) (v w : ℕ → Ground) (f : Filling) : Type 0 where
   pub named : (n : ℕ) → occurs n (names p) ≡ true → valueOf (f .named) n ≡ v n
   pub opened : (i : ℕ) → i < length (openSorts S p s) → openAt f i ≡ w i
 
 abbrev pub EachChoiceHasAFilling : Type 0
 EachChoiceHasAFilling =
-    (S : Signature) (p : Term) (s : ℕ) → WellSorted S p s → (v w : ℕ → Ground) →
+    (S : Signature) (p : Term) (s : ℕ) → Sorted S p s → (v w : ℕ → Ground) →
     All (λ o. SortedG S (v (o .name)) (o .sort)) (occurrences S p s) →
     ((i : ℕ) → i < length (openSorts S p s) → SortedG S (w i) (getD (openSorts S p s) i 0)) →
-    (f : Filling) × IsFilling S p s f × Chosen S p s v w f
+    (f : Filling) × IsFilling S p s f × Gives S p s v w f
 
 abbrev pub EqualWhereTheyAgree : Type 0
 EqualWhereTheyAgree =
-    (S : Signature) (p : Term) (s : ℕ) (f h : Filling) → WellSorted S p s → IsFilling S p s f → IsFilling S p s h →
-    (f ≡ h) ↔ Chosen S p s (valueOf (h .named)) (openAt h) f
+    (S : Signature) (p : Term) (s : ℕ) (f h : Filling) → IsFilling S p s f → IsFilling S p s h →
+    (f ≡ h) ↔ Gives S p s (valueOf (h .named)) (openAt h) f
 
 abbrev pub OneFilling : Type 0
 OneFilling =
-    (S : Signature) (p : Term) (s : ℕ) (f h : Filling) → WellSorted S p s → IsFilling S p s f → IsFilling S p s h →
+    (S : Signature) (p : Term) (s : ℕ) (f h : Filling) → Sorted S p s → IsFilling S p s f → IsFilling S p s h →
     fill p f ≡ fill p h → f ≡ h

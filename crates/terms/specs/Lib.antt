@@ -6,5 +6,5 @@ pub mod Term
 pub mod Filling
 pub mod Substitution
 pub mod Matcher
-pub mod Listing
 pub mod Inhabited
+pub mod Listing

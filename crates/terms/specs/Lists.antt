@@ -7,12 +7,11 @@
 --   distinct l       the numbers of l, each once, by first occurrence
 --   range from n     from, from + 1, .., n numbers in all
 --   keep test l      the elements of l that pass the test, in their order
---   OnlyOne P n      P holds of exactly one index below n
 --
 use mathlib.Core.Path.{_≡_}
-use mathlib.Core.Bool.{Bool, true, false, cond, not, _||_}
+use mathlib.Core.Bool.{Bool, false, cond, not, _||_}
 use mathlib.Core.List.{List, [], _∷_}
-use Prim.Native.Nat.{ℕ, zero, suc, _<_}
+use Prim.Native.Nat.{ℕ, zero, suc}
 use lib.Dec.{eqb}
 
 abbrev pub All : {A : Type 0} → (A → Type 0) → List A → Type 0
@@ -41,6 +40,3 @@ distinct (n ∷ l) = n ∷ without n (distinct l)
 abbrev pub range : ℕ → ℕ → List ℕ
 range from zero = []
 range from (suc n) = from ∷ range (suc from) n
-
-abbrev pub OnlyOne : (ℕ → Type 0) → ℕ → Type 0
-OnlyOne P n = (i : ℕ) × (i < n) × P i × ((j : ℕ) → j < n → P j → j ≡ i)

@@ -1,26 +1,28 @@
 -- Matcher: the filling that turns a pattern into a ground term, found from left to right.
 --
---   matchFrom p g f     f with what p asks added, where p can be turned into g
+--   withOpen f g        the filling f with g given to one more open place
+--   withName f n g      the filling f with g given to the variable n, which f does not bind yet
+--   matchName n g f     f with what the variable n asks added, where it can cover g
+--   matchFrom p g f, matchAll ts gs f   f with what p, or ts, asks added, where it can be turned into g, or gs
+--   noFilling           the filling that gives nothing
 --   matcher p g         the filling that turns p into g, where there is one
 --   MatcherIsExact      it finds a filling exactly where there is one, and that one
 --
 use mathlib.Core.Path.{_≡_}
-use mathlib.Core.Bool.{Bool, true, false}
-use mathlib.Core.List.{List, [], _∷_, _++_, map}
+use mathlib.Core.Bool.{true, false}
+use mathlib.Core.List.{[], _∷_, _++_, map}
 use mathlib.Core.Logic.{_↔_}
 use mathlib.Core.Option.{Option, some, none}
 use Prim.Native.Nat.{ℕ}
 use lib.Dec.{eqb}
 use Rattle.terms.specs.Lists.{occurs}
 use Rattle.terms.specs.Signature.{Signature}
-use Rattle.terms.specs.Term.{Term, any, var, app, Terms, nil, cons, Ground, gapp, Grounds, gnil, gcons, SortedG, WellSorted, same}
-use Rattle.terms.specs.Filling.{Binding, Filling, valueOf, fill, IsFilling}
+use Rattle.terms.specs.Term.{Term, any, var, app, Terms, nil, cons, Ground, gapp, Grounds, gnil, gcons, SortedG, Sorted, same}
+use Rattle.terms.specs.Filling.{Filling, valueOf, fill, IsFilling}
 
--- The filling f with g given to one more open place.
 abbrev pub withOpen : Filling → Ground → Filling
 withOpen f g = record { named = f .named; opened = f .opened ++ (g ∷ []) }
 
--- The filling f with g given to the variable n, which f does not bind yet.
 abbrev pub withName : Filling → ℕ → Ground → Filling
 withName f n g = record { named = f .named ++ (record { name = n; value = g } ∷ []); opened = f .opened }
 
@@ -52,5 +54,5 @@ matcher p g = matchFrom p g noFilling
 
 abbrev pub MatcherIsExact : Type 0
 MatcherIsExact =
-    (S : Signature) (p : Term) (s : ℕ) (g : Ground) (f : Filling) → WellSorted S p s → SortedG S g s →
+    (S : Signature) (p : Term) (s : ℕ) (g : Ground) (f : Filling) → Sorted S p s → SortedG S g s →
     (matcher p g ≡ some f) ↔ (IsFilling S p s f × (fill p f ≡ g))

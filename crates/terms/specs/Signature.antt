@@ -2,6 +2,7 @@
 --
 --   Symbol            a result sort, and the sorts of its argument places, lowest place first
 --   Signature         the number of sorts, and the symbols; sorts and symbols are numbered from 0
+--   noSymbol          what stands for a symbol where the number is none of the signature's
 --   symbol S f        the symbol of number f
 --   result S f        its result sort
 --   arguments S f     the sorts of its argument places
@@ -9,7 +10,7 @@
 --
 use mathlib.Core.List.{List, []}
 use Prim.Native.Nat.{ℕ, _<_}
-use lib.ListN.{length, getD}
+use lib.ListN.{getD}
 use Rattle.terms.specs.Lists.{All}
 
 -- Document 01: a word.
@@ -22,7 +23,6 @@ pub record Signature : Type 0 where
   pub sorts : ℕ
   pub symbols : List Symbol
 
--- What stands for a symbol where the number is none of the signature's.
 abbrev pub noSymbol : Symbol
 noSymbol = record { result = 0; arguments = [] }
 

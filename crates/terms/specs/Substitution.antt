@@ -1,13 +1,15 @@
 -- Substitution: terms, substitutions, matching and representing as the sources define them.
 --
 --   Var                  a variable, which has one sort (source 000, section 1: the sets X_s are disjoint)
+--   sortOf x             its sort
 --   Tm, Tms              source 004's terms: all variables are alike
---   SortedT S t s        t is a term of sort s
+--   SortedT S t s, SortedTs S ts ks   t is a term of sort s, ts are terms of the sorts ks
 --   Substitution S       source 004, Definition II.1; it keeps sorts, and its values may hold variables
---   carry v t            the term t with each variable x replaced by v x
---   asTm g               a ground term as a term
---   general S p s        the pattern p: its open places are variables different from each other and from all names
---   Matches S g t        source 004, Definition III.1
+--   carry v t, carryAll v ts   the term t, or the terms ts, with each variable x replaced by v x
+--   asTm g, asTms gs     a ground term as a term, ground terms as terms
+--   withVariables S p s  the pattern p: its open places are variables different from each other and from all names
+--   withVariablesFrom S p s i, withVariablesAll S ts ks i   the same, with open places numbered from i
+--   Matches S t u        source 004, Definition III.1
 --   Represents S s t l   source 000, Definition 2.1
 --   MatchingIsFitting    for a ground term, matching is the same as having a filling
 --
@@ -55,8 +57,9 @@ abbrev mutual
 pub record Substitution (S : Signature) : Type 0 where
   pub value : Var → Tm
   pub keeps : (x : Var) → SortedT S (value x) (sortOf x)
-  pub core : List Var
-  pub finite : (x : Var) → (List·Memᴰ x core → ⊥) → value x ≡ tvar x
+  -- Source 004, Definition II.3: a list that holds every variable that is moved.
+  pub relaxedCore : List Var
+  pub finite : (x : Var) → (List·Memᴰ x relaxedCore → ⊥) → value x ≡ tvar x
 
 abbrev mutual
   pub carry : (Var → Tm) → Tm → Tm
@@ -78,22 +81,22 @@ abbrev mutual
 -- Document 01: an open place "stands for a nameless variable of its own". Open places are numbered
 -- from i, from left to right.
 abbrev mutual
-  pub generalFrom : Signature → Term → ℕ → ℕ → Tm
-  generalFrom S any s i = tvar (place i s)
-  generalFrom S (var n) s i = tvar (name n s)
-  generalFrom S (app f ts) s i = tapp f (generalAll S ts (arguments S f) i)
+  pub withVariablesFrom : Signature → Term → ℕ → ℕ → Tm
+  withVariablesFrom S any s i = tvar (place i s)
+  withVariablesFrom S (var n) s i = tvar (name n s)
+  withVariablesFrom S (app f ts) s i = tapp f (withVariablesAll S ts (arguments S f) i)
 
-  pub generalAll : Signature → Terms → List ℕ → ℕ → Tms
-  generalAll S nil ks i = tnil
-  generalAll S (cons t ts) [] i = tnil
-  generalAll S (cons t ts) (k ∷ ks) i = tcons (generalFrom S t k i) (generalAll S ts ks (i + openings t))
+  pub withVariablesAll : Signature → Terms → List ℕ → ℕ → Tms
+  withVariablesAll S nil ks i = tnil
+  withVariablesAll S (cons t ts) [] i = tnil
+  withVariablesAll S (cons t ts) (k ∷ ks) i = tcons (withVariablesFrom S t k i) (withVariablesAll S ts ks (i + openings t))
 
-abbrev pub general : Signature → Term → ℕ → Tm
-general S p s = generalFrom S p s 0
+abbrev pub withVariables : Signature → Term → ℕ → Tm
+withVariables S p s = withVariablesFrom S p s 0
 
 -- Source 004: "If there is a substitution σ such that σ(g) = s, then we say that g matches s".
 abbrev pub Matches : Signature → Tm → Tm → Type 0
-Matches S g t = (σ : Substitution S) × (carry (σ .value) g ≡ t)
+Matches S t u = (σ : Substitution S) × (carry (σ .value) t ≡ u)
 
 -- Source 000: for every ground term of the sort, "is not a Σ-instance of τ iff [it] is a Σ-instance
 -- of some element of B". An instance of a term is what the term matches.
@@ -106,4 +109,4 @@ pub record Represents (S : Signature) (s : ℕ) (t : Tm) (l : List Tm) : Type 0 
 abbrev pub MatchingIsFitting : Type 0
 MatchingIsFitting =
     (S : Signature) (p : Term) (s : ℕ) (g : Ground) → WellSorted S p s →
-    Fits S p s g ↔ Matches S (general S p s) (asTm g)
+    Fits S p s g ↔ Matches S (withVariables S p s) (asTm g)

@@ -1,18 +1,18 @@
 -- Term: terms over a signature (source 000, section 1; document 01: patterns, situations, entries).
 --
---   Term, Terms            a term, and the terms at a symbol's argument places, lowest place first
---   Ground, Grounds        ground terms, of any size and depth (document 01: complete situations)
---   Sorted S t s           t is a term of sort s
---   SortedG S g s          g is a ground term of sort s
---   Occurrence             a variable and the sort due where it stands
---   occurrences S t s      the occurrences of variables in t, from left to right
---   Consistent l           one variable, one sort
---   WellSorted S t s       document 01's patterns of kind s: Sorted, and its variables Consistent
---   names t                the variables of t, an entry an occurrence, from left to right
---   Linear t               no variable stands twice in t
---   openSorts S t s        the sorts due at the open places of t, from left to right
---   openings t             how many open places t has
---   same g h               g and h are the same ground term
+--   Term, Terms                            a term, and the terms at a symbol's argument places, lowest place first
+--   Ground, Grounds                        ground terms, of any size and depth (document 01: complete situations)
+--   Sorted S t s, SortedAll S ts ks        t is a term of sort s, ts are terms of the sorts ks
+--   SortedG S g s, SortedGs S gs ks        g is a ground term of sort s, gs are ground terms of the sorts ks
+--   Occurrence                             a variable and the sort due where it stands
+--   occurrences S t s, occurrencesAll S ts ks   the occurrences of variables, from left to right
+--   Consistent l                           one variable, one sort
+--   WellSorted S t s                       document 01's patterns of kind s: Sorted, and its variables Consistent
+--   names t, namesAll ts                   the variables, an entry an occurrence, from left to right
+--   Linear t                               no variable stands twice in t
+--   openSorts S t s, openSortsAll S ts ks  the sorts due at the open places, from left to right
+--   openings t, openingsAll ts             how many open places there are
+--   same g h, sameAll gs hs                g and h are the same ground term, gs and hs the same ground terms
 --
 use mathlib.Core.Path.{_≡_}
 use mathlib.Core.Bool.{Bool, true, false, _&&_}
@@ -99,7 +99,7 @@ abbrev mutual
   namesAll nil = []
   namesAll (cons t ts) = names t ++ namesAll ts
 
--- Document 01: "with no name twice in the pattern".
+-- Demand 3: "with no name twice in the pattern".
 abbrev pub Linear : Term → Type 0
 Linear t = NoneTwice (names t)
 

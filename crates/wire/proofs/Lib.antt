@@ -25,8 +25,11 @@ pub mod ReadWrite
 pub mod Levels
 pub mod WholeTerms
 pub mod TermsInverse
+pub mod Relevel
 pub mod Limits
 pub mod Complete
+pub mod FullMap
+pub mod Entries
 -- On terms: refusing them.
 pub mod Scan
 pub mod NodeLines

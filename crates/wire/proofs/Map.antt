@@ -12,7 +12,7 @@ use borrow.Author.Tests.{eqb-true, eqb-false, eq-eqb, ne-eqb}
 use Rattle.terms.specs.Signature.{Signature}
 use Rattle.terms.specs.Term.{Terms, nil, cons, SortedAll}
 use Rattle.wire.specs.Reply.{IsBytes}
-use Rattle.wire.specs.Map.{places, mapBytes, writeMap, got, missing, readMap, flagsIn, flags, bit, number, ones, restFlags, within, Slot, slots, isOpen, writtenFlags}
+use Rattle.wire.specs.Map.{mapBits, mapBytes, writeMap, got, missing, readMap, flagsIn, flags, bit, number, ones, restFlags, within, Slot, slots, isOpen, writtenFlags}
 
 -- ---- the bits of a number
 
@@ -33,8 +33,8 @@ number-flagsIn (suc d) m h =
     let ih = number-flagsIn d (m / 2) (omega (arith, pow-suc 2 d)) in
     omega (arith, bit-odd m)
 
-pub number-flags : (m : ℕ) → m < 2 ^ places → number (flags m) ≡ m
-number-flags m h = number-flagsIn places m h
+pub number-flags : (m : ℕ) → m < 2 ^ mapBits → number (flags m) ≡ m
+number-flags m h = number-flagsIn mapBits m h
 
 pub flagsIn-number : (fs : List Bool) → flagsIn (length fs) (number fs) ≡ fs
 flagsIn-number [] = refl
@@ -62,7 +62,7 @@ ones-countIn (suc d) m h =
     Count.ones-step m ∙ ap₂ _+_ (sym (bit-odd m)) ih
 
 pub ones-count : (m : ℕ) → m < 256 → Count.ones m ≡ ones (flags m)
-ones-count m h = ones-countIn places m h
+ones-count m h = ones-countIn mapBits m h
 
 -- ---- the bytes of a map
 
@@ -85,7 +85,7 @@ map-missing [] r e = let h : [] ≡ r = cc in sym (ap length h)
 map-missing (m ∷ l) r e = let z : _≡_ {A = ℕ} 0 1 = cc in absurd (omega arith)
 
 -- A map that is read off bytes has no bit past the last place.
-pub read-map-lt : (m : ℕ) (r : List ℕ) → IsBytes (writeMap m ++ r) → m < 2 ^ places
+pub read-map-lt : (m : ℕ) (r : List ℕ) → IsBytes (writeMap m ++ r) → m < 2 ^ mapBits
 read-map-lt m r h = h .0
 
 -- ---- the written bits of terms
@@ -108,7 +108,7 @@ within-written (true ∷ ps) (cons t ts) = rw (either-true (not (isOpen t))) (wi
 
 -- The bits of a written map are those of the terms.
 pub flags-written : (p : ℕ) (ts : Terms) → flags (number (writtenFlags (flags p) ts)) ≡ writtenFlags (flags p) ts
-flags-written p ts = flags-number places (writtenFlags (flags p) ts) (length-written (flags p) ts ∙ length-flagsIn places p)
+flags-written p ts = flags-number mapBits (writtenFlags (flags p) ts) (length-written (flags p) ts ∙ length-flagsIn mapBits p)
 
 -- ---- slots
 

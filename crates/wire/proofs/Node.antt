@@ -2,7 +2,7 @@
 use mathlib.Core.Path.{_≡_, refl, ap, _∙_}
 use mathlib.Core.Bool.{Bool, true, false, not, cond, _&&_}
 use mathlib.Core.List.{List, [], _∷_, _++_}
-use Prim.Native.Nat.{ℕ, _-_, _<_}
+use Prim.Native.Nat.{ℕ, _+_, _-_, _<_}
 use native.Mathlib.Omega.{arith}
 use lib.Dec.{eqb}
 use lib.ListN.{length}
@@ -11,8 +11,8 @@ use Rattle.terms.specs.Term.{Occurrence}
 use Rattle.terms.proofs.Bools.{and-parts}
 use Rattle.wire.specs.Map.{MapRead, writeMap, readMap, flags, within, Slot, slots}
 use Rattle.wire.specs.Map.MapRead.{got as mapGot, missing as mapMissing}
-use Rattle.wire.specs.Vocabulary.{Vocabulary, Sound, word, mapOf}
-use Rattle.wire.specs.Written.{nameByte}
+use Rattle.wire.specs.Vocabulary.{Vocabulary, InOrder, word, mapOf}
+use Rattle.wire.specs.Written.{nameByte, nameCount, firstNameByte, wholeByte}
 use Rattle.wire.specs.Reading.{Node, symbol, variable, whole, fault, clash, isWord, isName, mapNode, wordNode, nameNode, node}
 use Rattle.wire.specs.TermLines.{Word?, Name?, Clash}
 use Rattle.wire.proofs.Cond.{cond-true, cond-false, choice}
@@ -23,10 +23,10 @@ use Rattle.wire.proofs.Seen.{clash-tested, clash-none}
 -- ---- a name's byte, tested
 
 pub name-tested : (b n : ℕ) → Name? b n → isName b ≡ true
-name-tested b n h = ap not (inside-outside 128 191 b (omega arith) (omega arith))
+name-tested b n h = ap not (inside-outside firstNameByte (firstNameByte + nameCount - 1) b (omega arith) (omega arith))
 
-pub name-meant : (b : ℕ) → isName b ≡ true → Name? b (b - 128)
-name-meant b e = let h = outside-false 128 191 b (not-true _ e) in (omega arith, omega arith)
+pub name-meant : (b : ℕ) → isName b ≡ true → Name? b (b - firstNameByte)
+name-meant b e = let h = outside-false firstNameByte (firstNameByte + nameCount - 1) b (not-true _ e) in (omega arith, omega arith)
 
 -- ---- from what stands to the node
 
@@ -55,33 +55,33 @@ module _ (W : Vocabulary) (root : Bool) (s : ℕ) (seen : List Occurrence) where
       node W root s seen (f ∷ l) ≡ symbol f (slots (flags (mapOf W f)) (flags m) (word W f .kinds)) r
   node-symbol f m l r h k e p = node-map f l (mapGot m r) h k e ∙ cond-true (within (flags m) (flags (mapOf W f))) _ _ p
 
-  node-nameNode : Sound W → (b n : ℕ) (l : List ℕ) → Name? b n → node W root s seen (b ∷ l) ≡ nameNode s seen b l
-  node-nameNode sound b n l h =
-      cond-false (isWord W b) _ _ (le-ltb b _ (omega (arith, sound .fewWords)))
+  node-nameNode : InOrder W → (b n : ℕ) (l : List ℕ) → Name? b n → node W root s seen (b ∷ l) ≡ nameNode s seen b l
+  node-nameNode inOrder b n l h =
+      cond-false (isWord W b) _ _ (le-ltb b _ (omega (arith, inOrder .fewWords)))
       ∙ cond-true (isName b) _ _ (name-tested b n h)
 
-  pub node-clash : Sound W → (b n : ℕ) (l : List ℕ) → Name? b n → Clash seen n s → node W root s seen (b ∷ l) ≡ fault 13 (b ∷ l)
-  node-clash sound b n l h c =
-      let e : b - 128 ≡ n = omega arith in
-      node-nameNode sound b n l h ∙ cond-true (clash seen (b - 128) s) _ _ (ap (λ k. clash seen k s) e ∙ clash-tested seen n s c)
+  pub node-clash : InOrder W → (b n : ℕ) (l : List ℕ) → Name? b n → Clash seen n s → node W root s seen (b ∷ l) ≡ fault 13 (b ∷ l)
+  node-clash inOrder b n l h c =
+      let e : b - firstNameByte ≡ n = omega arith in
+      node-nameNode inOrder b n l h ∙ cond-true (clash seen (b - firstNameByte) s) _ _ (ap (λ k. clash seen k s) e ∙ clash-tested seen n s c)
 
-  pub node-name : Sound W → (b n : ℕ) (l : List ℕ) → Name? b n → (Clash seen n s → ⊥) → node W root s seen (b ∷ l) ≡ variable n l
-  node-name sound b n l h c =
-      let e : b - 128 ≡ n = omega arith in
-      node-nameNode sound b n l h ∙ cond-false (clash seen (b - 128) s) _ _ (ap (λ k. clash seen k s) e ∙ clash-none seen n s c)
+  pub node-name : InOrder W → (b n : ℕ) (l : List ℕ) → Name? b n → (Clash seen n s → ⊥) → node W root s seen (b ∷ l) ≡ variable n l
+  node-name inOrder b n l h c =
+      let e : b - firstNameByte ≡ n = omega arith in
+      node-nameNode inOrder b n l h ∙ cond-false (clash seen (b - firstNameByte) s) _ _ (ap (λ k. clash seen k s) e ∙ clash-none seen n s c)
       ∙ ap (λ k. variable k l) e
 
   node-other : (b : ℕ) (l : List ℕ) → (Word? W b → ⊥) → isName b ≡ false →
-      node W root s seen (b ∷ l) ≡ cond (root && eqb b 255) (whole l) (fault 11 (b ∷ l))
+      node W root s seen (b ∷ l) ≡ cond (root && eqb b wholeByte) (whole l) (fault 11 (b ∷ l))
   node-other b l h k = cond-false (isWord W b) _ _ (le-ltb b _ (omega arith)) ∙ cond-false (isName b) _ _ k
 
-  pub node-whole : Sound W → (l : List ℕ) → root ≡ true → node W root s seen (255 ∷ l) ≡ whole l
-  node-whole sound l h =
-      node-other 255 l (λ k. omega (arith, sound .fewWords)) refl ∙ cond-true (root && true) _ _ (ap (λ t. t && true) h)
+  pub node-whole : InOrder W → (l : List ℕ) → root ≡ true → node W root s seen (wholeByte ∷ l) ≡ whole l
+  node-whole inOrder l h =
+      node-other wholeByte l (λ k. omega (arith, inOrder .fewWords)) refl ∙ cond-true (root && true) _ _ (ap (λ t. t && true) h)
 
-  pub node-unknown : (b : ℕ) (l : List ℕ) → (Word? W b → ⊥) → isName b ≡ false → (root && eqb b 255) ≡ false →
+  pub node-unknown : (b : ℕ) (l : List ℕ) → (Word? W b → ⊥) → isName b ≡ false → (root && eqb b wholeByte) ≡ false →
       node W root s seen (b ∷ l) ≡ fault 11 (b ∷ l)
-  node-unknown b l h k e = node-other b l h k ∙ cond-false (root && eqb b 255) _ _ e
+  node-unknown b l h k e = node-other b l h k ∙ cond-false (root && eqb b wholeByte) _ _ e
 
 -- ---- from the node to what stands
 
@@ -94,13 +94,13 @@ pub record WordStands (W : Vocabulary) (s : ℕ) (l : List ℕ) (f : ℕ) (ks : 
   pub marks : ks ≡ slots (flags (mapOf W f)) (flags mask) (word W f .kinds)
 
 pub record NameStands (s : ℕ) (seen : List Occurrence) (l : List ℕ) (n : ℕ) (r : List ℕ) : Type 0 where
-  pub known : n < 64
+  pub known : n < nameCount
   pub bytes : l ≡ nameByte n ∷ r
   pub agrees : clash seen n s ≡ false
 
 pub record WholeStands (root : Bool) (l r : List ℕ) : Type 0 where
   pub atRoot : root ≡ true
-  pub bytes : l ≡ 255 ∷ r
+  pub bytes : l ≡ wholeByte ∷ r
 
 abbrev pub NodeStands : Vocabulary → Bool → ℕ → List Occurrence → List ℕ → Node → Type 0
 NodeStands W root s seen l (symbol f ks r) = WordStands W s l f ks r
@@ -123,9 +123,9 @@ module _ (W : Vocabulary) (root : Bool) (s : ℕ) (seen : List Occurrence) where
       choice (NodeStands W root s seen (f ∷ l)) (eqb (word W f .result) s) (mapNode W f l (readMap l)) (fault 12 (f ∷ l))
       (λ e. map-stands f l h (eqb-true (word W f .result) s e) (readMap l) refl) (λ e. tt)
 
-  name-stands : (b : ℕ) (l : List ℕ) → Name? b (b - 128) → NodeStands W root s seen (b ∷ l) (nameNode s seen b l)
+  name-stands : (b : ℕ) (l : List ℕ) → Name? b (b - firstNameByte) → NodeStands W root s seen (b ∷ l) (nameNode s seen b l)
   name-stands b l h =
-      choice (NodeStands W root s seen (b ∷ l)) (clash seen (b - 128) s) (fault 13 (b ∷ l)) (variable (b - 128) l)
+      choice (NodeStands W root s seen (b ∷ l)) (clash seen (b - firstNameByte) s) (fault 13 (b ∷ l)) (variable (b - firstNameByte) l)
       (λ c. tt)
       (λ c. record { known = h .0; bytes = ap {B = List ℕ} (λ x. x ∷ l) (h .1); agrees = c })
 
@@ -133,10 +133,10 @@ module _ (W : Vocabulary) (root : Bool) (s : ℕ) (seen : List Occurrence) where
   node-stands [] = tt
   node-stands (b ∷ l) =
       choice (NodeStands W root s seen (b ∷ l)) (isWord W b) (wordNode W s b l)
-      (cond (isName b) (nameNode s seen b l) (cond (root && eqb b 255) (whole l) (fault 11 (b ∷ l))))
+      (cond (isName b) (nameNode s seen b l) (cond (root && eqb b wholeByte) (whole l) (fault 11 (b ∷ l))))
       (λ e. word-stands b l (ltb-true b (length (W .words)) e))
-      (λ e. choice (NodeStands W root s seen (b ∷ l)) (isName b) (nameNode s seen b l) (cond (root && eqb b 255) (whole l) (fault 11 (b ∷ l)))
+      (λ e. choice (NodeStands W root s seen (b ∷ l)) (isName b) (nameNode s seen b l) (cond (root && eqb b wholeByte) (whole l) (fault 11 (b ∷ l)))
       (λ q. name-stands b l (name-meant b q))
-      (λ q. choice (NodeStands W root s seen (b ∷ l)) (root && eqb b 255) (whole l) (fault 11 (b ∷ l))
-      (λ w. let h = and-parts root (eqb b 255) w in record { atRoot = h .0; bytes = ap {B = List ℕ} (λ x. x ∷ l) (eqb-true b 255 (h .1)) })
+      (λ q. choice (NodeStands W root s seen (b ∷ l)) (root && eqb b wholeByte) (whole l) (fault 11 (b ∷ l))
+      (λ w. let h = and-parts root (eqb b wholeByte) w in record { atRoot = h .0; bytes = ap {B = List ℕ} (λ x. x ∷ l) (eqb-true b wholeByte (h .1)) })
       (λ w. tt)))

@@ -11,7 +11,8 @@ use borrow.Author.Tests.{ltb-true, ltb-false, eqb-true, eqb-false, eq-eqb}
 use Rattle.terms.specs.Term.{Occurrence}
 use Rattle.wire.specs.Map.{MapRead, readMap, flags, within}
 use Rattle.wire.specs.Map.MapRead.{got as mapGot, missing as mapMissing}
-use Rattle.wire.specs.Vocabulary.{Vocabulary, Sound, word, mapOf}
+use Rattle.wire.specs.Vocabulary.{Vocabulary, InOrder, word, mapOf}
+use Rattle.wire.specs.Written.{firstNameByte, wholeByte}
 use Rattle.wire.specs.Checks.{mostLevels}
 use Rattle.wire.specs.Refusals.{Sooner, Decides}
 use Rattle.wire.specs.TermLines.{Due, State, Step, onWord, onName, onWhole, Word?, Name?, Clash, NodeLine}
@@ -47,7 +48,7 @@ pub record Moves (W : Vocabulary) (d : Due) (ds : List Due) (seen : List Occurre
 data ByteLine (W : Vocabulary) (d : Due) (seen : List Occurrence) (at b : ℕ) (l : List ℕ) : ℕ → ℕ → Type 0 where
   short : (r : List ℕ) → Word? W b → readMap l ≡ mapMissing r → ByteLine W d seen at b l 9 (at + suc (length l))
   deep : mostLevels < d .level → ByteLine W d seen at b l 10 at
-  unknown : (Word? W b → ⊥) → ((n : ℕ) → Name? b n → ⊥) → ((b ≡ 255) × (d .root ≡ true) → ⊥) → ByteLine W d seen at b l 11 at
+  unknown : (Word? W b → ⊥) → ((n : ℕ) → Name? b n → ⊥) → ((b ≡ wholeByte) × (d .root ≡ true) → ⊥) → ByteLine W d seen at b l 11 at
   differs : Word? W b → (word W b .result ≡ d .sort → ⊥) → ByteLine W d seen at b l 12 at
   clashes : (n : ℕ) → Name? b n → Clash seen n (d .sort) → ByteLine W d seen at b l 13 at
   stray : (m : ℕ) (r : List ℕ) → Word? W b → readMap l ≡ mapGot m r → within (flags m) (flags (mapOf W b)) ≡ false → ByteLine W d seen at b l 14 (at + 1)
@@ -91,9 +92,9 @@ stuck-empty W d ds seen at = record {
     first (NodeLine.clashes f n l′ e h k) = let z : _≡_ {A = ℕ} 0 1 = cc in absurd (omega arith)
     first (NodeLine.stray f m l′ r e h k n) = let z : _≡_ {A = ℕ} 0 1 = cc in absurd (omega arith)
 
-module _ (W : Vocabulary) (sound : Sound W) (d : Due) (ds : List Due) (seen : List Occurrence) (at b : ℕ) (l : List ℕ) where
+module _ (W : Vocabulary) (inOrder : InOrder W) (d : Due) (ds : List Due) (seen : List Occurrence) (at b : ℕ) (l : List ℕ) where
   not-both : (n : ℕ) → Word? W b → Name? b n → ⊥
-  not-both n h k = omega (arith, sound .fewWords)
+  not-both n h k = omega (arith, inOrder .fewWords)
 
   -- A level too deep.
   stuck-deep : mostLevels < d .level → Stuck W d ds seen at (b ∷ l)
@@ -203,7 +204,7 @@ module _ (W : Vocabulary) (sound : Sound W) (d : Due) (ds : List Due) (seen : Li
 
     stuck-clash : (Word? W b → ⊥) → (n : ℕ) → Name? b n → Clash seen n (d .sort) → Stuck W d ds seen at (b ∷ l)
     stuck-clash nw n h c =
-        stuck-fault o 13 at (b ∷ l) (node-clash W (d .root) (d .sort) seen sound b n l h c) refl (NodeLine.clashes b n l refl h c) (λ m r k. first k)
+        stuck-fault o 13 at (b ∷ l) (node-clash W (d .root) (d .sort) seen inOrder b n l h c) refl (NodeLine.clashes b n l refl h c) (λ m r k. first k)
       where
         first : {m r : ℕ} → ByteLine W d seen at b l m r → Sooner 13 at m r
         first (short r h k) = absurd (nw h)
@@ -224,7 +225,7 @@ module _ (W : Vocabulary) (sound : Sound W) (d : Due) (ds : List Due) (seen : Li
         clear (clashes n′ h′ k) = let e : n′ ≡ n = omega arith in c (rw e at k)
         clear (stray m r h k n) = nw h
 
-    moves-whole : (Word? W b → ⊥) → b ≡ 255 → d .root ≡ true → Moves W d ds seen at (b ∷ l)
+    moves-whole : (Word? W b → ⊥) → b ≡ wholeByte → d .root ≡ true → Moves W d ds seen at (b ∷ l)
     moves-whole nw e h =
         moves-on (record { due = ds; seen = seen; at = at + 1; rest = l })
         (subst (λ b. Step W (atDue d ds seen at (b ∷ l)) (record { due = ds; seen = seen; at = at + 1; rest = l })) (sym e) (onWhole l o h))
@@ -238,14 +239,14 @@ module _ (W : Vocabulary) (sound : Sound W) (d : Due) (ds : List Due) (seen : Li
         clear (clashes n h k) = omega arith
         clear (stray m r h k n) = nw h
 
-    stuck-unknown : (Word? W b → ⊥) → isName b ≡ false → (d .root && eqb b 255) ≡ false → Stuck W d ds seen at (b ∷ l)
+    stuck-unknown : (Word? W b → ⊥) → isName b ≡ false → (d .root && eqb b wholeByte) ≡ false → Stuck W d ds seen at (b ∷ l)
     stuck-unknown nw nn e =
         stuck-fault o 11 at (b ∷ l) (node-unknown W (d .root) (d .sort) seen b l nw nn e) refl
         (NodeLine.unknown b l refl nw (λ n h. let z : _≡_ {A = ℕ} 0 1 = cc (name-tested b n h) in omega arith) not-root) (λ m r k. first k)
       where
-        not-root : (b ≡ 255) × (d .root ≡ true) → ⊥
+        not-root : (b ≡ wholeByte) × (d .root ≡ true) → ⊥
         not-root h =
-            let t : (d .root && eqb b 255) ≡ true = ap₂ _&&_ (h .1) (eq-eqb b 255 (h .0)) in
+            let t : (d .root && eqb b wholeByte) ≡ true = ap₂ _&&_ (h .1) (eq-eqb b wholeByte (h .0)) in
             let z : _≡_ {A = ℕ} 0 1 = cc in omega arith
 
         first : {m r : ℕ} → ByteLine W d seen at b l m r → Sooner 11 at m r
@@ -259,29 +260,29 @@ module _ (W : Vocabulary) (sound : Sound W) (d : Due) (ds : List Due) (seen : Li
     look-leaf : (Word? W b → ⊥) → Stuck W d ds seen at (b ∷ l) ⊎ Moves W d ds seen at (b ∷ l)
     look-leaf nw = named (isName b) refl
       where
-        seen-before : Name? b (b - 128) → (t : Bool) → clash seen (b - 128) (d .sort) ≡ t → Stuck W d ds seen at (b ∷ l) ⊎ Moves W d ds seen at (b ∷ l)
-        seen-before h true e = inl (stuck-clash nw (b - 128) h (clash-meant seen _ _ e))
-        seen-before h false e = inr (moves-name nw (b - 128) h (clash-not seen (b - 128) (d .sort) e))
+        seen-before : Name? b (b - firstNameByte) → (t : Bool) → clash seen (b - firstNameByte) (d .sort) ≡ t → Stuck W d ds seen at (b ∷ l) ⊎ Moves W d ds seen at (b ∷ l)
+        seen-before h true e = inl (stuck-clash nw (b - firstNameByte) h (clash-meant seen _ _ e))
+        seen-before h false e = inr (moves-name nw (b - firstNameByte) h (clash-not seen (b - firstNameByte) (d .sort) e))
 
-        at-root : isName b ≡ false → (t u : Bool) → d .root ≡ t → eqb b 255 ≡ u → Stuck W d ds seen at (b ∷ l) ⊎ Moves W d ds seen at (b ∷ l)
-        at-root nn true true p q = inr (moves-whole nw (eqb-true b 255 q) p)
+        at-root : isName b ≡ false → (t u : Bool) → d .root ≡ t → eqb b wholeByte ≡ u → Stuck W d ds seen at (b ∷ l) ⊎ Moves W d ds seen at (b ∷ l)
+        at-root nn true true p q = inr (moves-whole nw (eqb-true b wholeByte q) p)
         at-root nn true false p q = inl (stuck-unknown nw nn (ap₂ _&&_ p q))
         at-root nn false u p q = inl (stuck-unknown nw nn (ap₂ _&&_ p q))
 
         named : (t : Bool) → isName b ≡ t → Stuck W d ds seen at (b ∷ l) ⊎ Moves W d ds seen at (b ∷ l)
-        named true e = seen-before (name-meant b e) (clash seen (b - 128) (d .sort)) refl
-        named false e = at-root e (d .root) (eqb b 255) refl refl
+        named true e = seen-before (name-meant b e) (clash seen (b - firstNameByte) (d .sort)) refl
+        named false e = at-root e (d .root) (eqb b wholeByte) refl refl
 
 -- What there is at a state where a term is due.
-pub look : (W : Vocabulary) → Sound W → (d : Due) (ds : List Due) (seen : List Occurrence) (at : ℕ) (rest : List ℕ) →
+pub look : (W : Vocabulary) → InOrder W → (d : Due) (ds : List Due) (seen : List Occurrence) (at : ℕ) (rest : List ℕ) →
     Stuck W d ds seen at rest ⊎ Moves W d ds seen at rest
-look W sound d ds seen at [] = inl (stuck-empty W d ds seen at)
-look W sound d ds seen at (b ∷ l) = level (ltb mostLevels (d .level)) refl
+look W inOrder d ds seen at [] = inl (stuck-empty W d ds seen at)
+look W inOrder d ds seen at (b ∷ l) = level (ltb mostLevels (d .level)) refl
   where
     byte : d .level ≤ mostLevels → (t : Bool) → isWord W b ≡ t → Stuck W d ds seen at (b ∷ l) ⊎ Moves W d ds seen at (b ∷ l)
-    byte o true e = look-word W sound d ds seen at b l o (ltb-true _ _ e)
-    byte o false e = look-leaf W sound d ds seen at b l o (λ h. omega (arith, ltb-false b (length (W .words)) e))
+    byte o true e = look-word W inOrder d ds seen at b l o (ltb-true _ _ e)
+    byte o false e = look-leaf W inOrder d ds seen at b l o (λ h. omega (arith, ltb-false b (length (W .words)) e))
 
     level : (t : Bool) → ltb mostLevels (d .level) ≡ t → Stuck W d ds seen at (b ∷ l) ⊎ Moves W d ds seen at (b ∷ l)
-    level true e = inl (stuck-deep W sound d ds seen at b l (ltb-true _ _ e))
+    level true e = inl (stuck-deep W inOrder d ds seen at b l (ltb-true _ _ e))
     level false e = byte (ltb-false _ _ e) (isWord W b) refl

@@ -9,13 +9,13 @@ use Rattle.terms.specs.Signature.{arguments}
 use Rattle.terms.specs.Term.{Term, any, var, app, Terms, Sorted, SortedAll, Occurrence, occurrences, occurrencesAll, Consistent, names, namesAll}
 use Rattle.terms.proofs.All.{all-append, all-right}
 use Rattle.wire.specs.Reply.{IsBytes}
-use Rattle.wire.specs.Map.{places, writeMap, flags, number, Slot, isOpen}
-use Rattle.wire.specs.Vocabulary.{Vocabulary, Sound, signature, word, mapOf}
-use Rattle.wire.specs.Written.{nameByte, writtenMap, encodeAt, encodeAll, encodeRoot, levelsAll, deepest}
+use Rattle.wire.specs.Map.{mapBits, writeMap, flags, number, Slot, isOpen}
+use Rattle.wire.specs.Vocabulary.{Vocabulary, InOrder, signature, word, mapOf}
+use Rattle.wire.specs.Written.{nameByte, writtenMap, encodeAt, encodeAll, encodeRoot, levelsAll, deepest, nameCount, wholeByte}
 use Rattle.wire.specs.Reading.{Got, got, stop, andThen, Node, symbol, variable, whole, fault, node, Read, ReadAll, withFirst, readSlots, fromNode, readTerm}
 use Rattle.wire.proofs.Map.{number-flags, length-flagsIn, read-map-lt, sorts, Marked, sorts-slots, written-marked}
 use Rattle.wire.proofs.Seen.{clash-consistent}
-use Rattle.wire.proofs.Words.{length-symbols, result-word, arguments-word, sound-word}
+use Rattle.wire.proofs.Words.{length-symbols, result-word, arguments-word, word-in-order}
 use Rattle.wire.proofs.Node.{WordStands, NodeStands, node-stands}
 use Rattle.wire.proofs.WriteRead.{slots-open, slots-written}
 
@@ -30,7 +30,7 @@ pub record HasRead (W : Vocabulary) (left : ℕ) (root : Bool) (s : ℕ) (seen :
   pub bytes : l ≡ encodeFrom root W (a .term) ++ r
   pub closed : root ≡ false → isOpen (a .term) ≡ false
   pub sorted : Sorted (signature W) (a .term) s
-  pub named : All (λ n. n < 64) (names (a .term))
+  pub named : All (λ n. n < nameCount) (names (a .term))
   pub came : a .seen ≡ seen ++ occurrences (signature W) (a .term) s
   pub agrees : Consistent seen → Consistent (a .seen)
   pub deep : deepest (a .term) ≤ left
@@ -39,7 +39,7 @@ pub record HasReadAll (W : Vocabulary) (left : ℕ) (ks : List Slot) (seen : Lis
   pub bytes : l ≡ encodeAll W (a .terms) ++ r
   pub marked : Marked (a .terms) ks
   pub sorted : SortedAll (signature W) (a .terms) (sorts ks)
-  pub named : All (λ n. n < 64) (namesAll (a .terms))
+  pub named : All (λ n. n < nameCount) (namesAll (a .terms))
   pub came : a .seen ≡ seen ++ occurrencesAll (signature W) (a .terms) (sorts ks)
   pub agrees : Consistent seen → Consistent (a .seen)
   pub deep : levelsAll (a .terms) ≤ left
@@ -80,7 +80,7 @@ module _ (W : Vocabulary) (left : ℕ) (k : Slot) (ks : List Slot) (seen : List 
         ∙ sym (append-assoc (encodeAt W (a .term)) (encodeAll W (b .terms)) r′);
     marked = (ap not (h .closed refl) ∙ sym e, g .marked);
     sorted = (h .sorted, g .sorted);
-    named = all-append (λ n. n < 64) (names (a .term)) (namesAll (b .terms)) (h .named) (g .named);
+    named = all-append (λ n. n < nameCount) (names (a .term)) (namesAll (b .terms)) (h .named) (g .named);
     came =
         g .came ∙ ap (λ (z : List Occurrence). z ++ occurrencesAll (signature W) (b .terms) (sorts ks)) (h .came)
         ∙ append-assoc seen (occurrences (signature W) (a .term) (k .sort)) (occurrencesAll (signature W) (b .terms) (sorts ks));
@@ -126,11 +126,11 @@ from-var : (root : Bool) (W : Vocabulary) (n : ℕ) → encodeFrom root W (var n
 from-var true W n = refl
 from-var false W n = refl
 
-from-any : (root : Bool) (W : Vocabulary) → root ≡ true → encodeFrom root W any ≡ 255 ∷ []
+from-any : (root : Bool) (W : Vocabulary) → root ≡ true → encodeFrom root W any ≡ wholeByte ∷ []
 from-any true W e = refl
 from-any false W e = absurd (true≢false (sym e))
 
-module _ (W : Vocabulary) (sound : Sound W) (left : ℕ) (root : Bool) (s : ℕ) (seen : List Occurrence) (l : List ℕ) (b : IsBytes l) where
+module _ (W : Vocabulary) (inOrder : InOrder W) (left : ℕ) (root : Bool) (s : ℕ) (seen : List Occurrence) (l : List ℕ) (b : IsBytes l) where
   -- The map that was read is the one that is written for the terms.
   mask-written : (f : ℕ) (ks : List Slot) (r : List ℕ) (w : WordStands W s l f ks r) (ts : Terms) → Marked ts ks → w .mask ≡ writtenMap W f ts
   mask-written f ks r w ts m =
@@ -138,13 +138,13 @@ module _ (W : Vocabulary) (sound : Sound W) (left : ℕ) (root : Bool) (s : ℕ)
       sym (number-flags (w .mask) small)
       ∙ ap number
       (written-marked (flags (mapOf W f)) (flags (w .mask)) ts (word W f .kinds)
-      (length-flagsIn places (w .mask) ∙ sym (length-flagsIn places (mapOf W f))) (w .allowed) (sound-word W f sound (w .known) .count)
+      (length-flagsIn mapBits (w .mask) ∙ sym (length-flagsIn mapBits (mapOf W f))) (w .allowed) (word-in-order W f inOrder (w .known) .count)
       (subst (Marked ts) (w .marks) m))
 
   sorts-word : (f : ℕ) (ks : List Slot) (r : List ℕ) → WordStands W s l f ks r → sorts ks ≡ arguments (signature W) f
   sorts-word f ks r w =
       ap sorts (w .marks)
-      ∙ sorts-slots (flags (mapOf W f)) (flags (w .mask)) (word W f .kinds) (sound-word W f sound (w .known) .count)
+      ∙ sorts-slots (flags (mapOf W f)) (flags (w .mask)) (word W f .kinds) (word-in-order W f inOrder (w .known) .count)
       ∙ sym (arguments-word W f)
 
   word-reads : (f : ℕ) (ks : List Slot) (r : List ℕ) → WordStands W s l f ks r → (x : Got ReadAll) → ReadsAll W left ks seen r x →
@@ -204,9 +204,9 @@ limit-reads : (W : Vocabulary) (root : Bool) (s : ℕ) (seen : List Occurrence) 
 limit-reads W root s seen [] = tt
 limit-reads W root s seen (b ∷ l) = tt
 
-pub term-reads : (W : Vocabulary) → Sound W → (left : ℕ) (root : Bool) (s : ℕ) (seen : List Occurrence) (l : List ℕ) → IsBytes l →
+pub term-reads : (W : Vocabulary) → InOrder W → (left : ℕ) (root : Bool) (s : ℕ) (seen : List Occurrence) (l : List ℕ) → IsBytes l →
     Reads W left root s seen l (readTerm W left root s seen l)
-term-reads W sound zero root s seen l b = limit-reads W root s seen l
-term-reads W sound (suc left) root s seen l b =
-    node-reads W sound left root s seen l b (readTerm W left false) (λ z seen′ m c. term-reads W sound left false z seen′ m c)
+term-reads W inOrder zero root s seen l b = limit-reads W root s seen l
+term-reads W inOrder (suc left) root s seen l b =
+    node-reads W inOrder left root s seen l b (readTerm W left false) (λ z seen′ m c. term-reads W inOrder left false z seen′ m c)
     (node W root s seen l) (node-stands W root s seen l)

@@ -16,8 +16,8 @@ pub deepest-length : (W : Vocabulary) (b : List ℕ) (s : ℕ) (t : Term) → b 
 deepest-length W b s t e = let h = deepest-bytes W t in let n = ap length e in omega arith
 
 pub terms-inverse : TermsInverse
-terms-inverse W b s t sound bytes = (
-  λ e. let w = whole-writes W (length b) b (record { kind = s; term = t }) sound bytes e in (w .good, w .bytes),
-  λ h. writes-whole W (length b) b (record { kind = s; term = t }) sound
+terms-inverse W b s t inOrder bytes = (
+  λ e. let w = whole-writes W (length b) b (record { kind = s; term = t }) inOrder bytes e in (w .good, w .bytes),
+  λ h. writes-whole W (length b) b (record { kind = s; term = t }) inOrder
       (record { good = h .0; bytes = h .1; fits = deepest-length W b s t (h .1) }),
 )

@@ -1,19 +1,27 @@
 -- Theorems: what is proved of the bytes, in one place.
 --
+--   in-order-is-well-formed  the signature of a vocabulary in order is well-formed
 --   vocabularies-inverse     a vocabulary is accepted exactly where it is the writing of a good one
 --   terms-inverse            a term is read exactly where it is the writing of a good one, with no limits
 --   limits-are-a-test        a term is accepted by a call exactly where it is read with no limits and has at most 4,096 bytes and 32 levels
 --   complete-is-ground       a good term is complete exactly where it is a ground term of its kind
 --   no-gap-is-complete       a term has no gap exactly where it is complete
+--   full-map-means-no-open-place   a written map equals its word's place map exactly where no place is open
+--   entries-are-good         each entry of a good linear pattern is one, and is never longer than the pattern
 --   vocabulary-refusals      a vocabulary is refused exactly by lines 1 to 6 of the refusal list
 --   term-refusals            a term is refused exactly by lines 7 to 15 of the refusal list
 --   starred-hold             every starred case has the reply that document 01 gives
 --
+use Rattle.wire.specs.Vocabulary.{InOrderIsWellFormed}
 use Rattle.wire.specs.Checks.{VocabulariesInverse, TermsInverse, LimitsAreATest}
-use Rattle.wire.specs.Complete.{CompleteIsGround, NoGapIsComplete}
+use Rattle.wire.specs.Complete.{CompleteIsGround, NoGapIsComplete, FullMapMeansNoOpenPlace}
+use Rattle.wire.specs.Entries.{EntriesAreGood}
 use Rattle.wire.specs.VocabularyLines.{VocabularyRefusals}
 use Rattle.wire.specs.TermLines.{TermRefusals}
 use Rattle.wire.specs.Starred.{StarredHold}
+
+pub in-order-is-well-formed : InOrderIsWellFormed
+in-order-is-well-formed = Rattle.wire.proofs.Words.in-order-well-formed
 
 pub vocabularies-inverse : VocabulariesInverse
 vocabularies-inverse = Rattle.wire.proofs.VocabulariesInverse.vocabularies-inverse
@@ -29,6 +37,12 @@ complete-is-ground = Rattle.wire.proofs.Complete.complete-is-ground
 
 pub no-gap-is-complete : NoGapIsComplete
 no-gap-is-complete = Rattle.wire.proofs.Complete.no-gap-is-complete
+
+pub full-map-means-no-open-place : FullMapMeansNoOpenPlace
+full-map-means-no-open-place = Rattle.wire.proofs.FullMap.full-map-means-no-open-place
+
+pub entries-are-good : EntriesAreGood
+entries-are-good = Rattle.wire.proofs.Entries.entries-are-good
 
 pub vocabulary-refusals : VocabularyRefusals
 vocabulary-refusals = Rattle.wire.proofs.VocabularyRefusals.vocabulary-refusals

@@ -6,9 +6,9 @@ use native.Mathlib.Omega.{arith}
 use Rattle.terms.proofs.Theorems.{first-empty-is-exact}
 use Rattle.wire.specs.Reply.{Reading, accept, refuse}
 use Rattle.wire.specs.Vocabulary.{Vocabulary, signature, encodeVocabulary}
-use Rattle.wire.specs.Reading.{finished, readVocabulary}
+use Rattle.wire.specs.Reading.{line6, readVocabulary}
 use Rattle.wire.specs.Checks.{GoodVocabulary, VocabulariesInverse}
-use Rattle.wire.proofs.Words.{sound-well-formed}
+use Rattle.wire.proofs.Words.{in-order-well-formed}
 use Rattle.wire.proofs.VocabularyWritten.{read-written}
 use Rattle.wire.proofs.VocabularyRead.{Accepted, VocabularyRead, vocabulary-read}
 
@@ -19,8 +19,8 @@ accepted b W (refuse n q) read e = let z : _≡_ {A = ℕ} 0 1 = cc in absurd (o
 -- A good vocabulary is read again from its writing.
 pub read-good : (W : Vocabulary) → GoodVocabulary W → readVocabulary (encodeVocabulary W) ≡ accept W
 read-good W good =
-    read-written W (good .sound)
-    ∙ ap (finished W) (first-empty-is-exact (signature W) (sound-well-formed W (good .sound)) .missed .1 (good .inhabited))
+    read-written W (good .inOrder)
+    ∙ ap (line6 W) (first-empty-is-exact (signature W) (in-order-well-formed W (good .inOrder)) .missed .1 (good .inhabited))
 
 pub vocabularies-inverse : VocabulariesInverse
 vocabularies-inverse b W bytes = (

@@ -1,7 +1,7 @@
 -- VocabularyRead: what readVocabulary gives is right, line by line of the refusal list.
 use mathlib.Core.Path.{_≡_, refl, sym, _∙_}
 use mathlib.Core.Bool.{Bool, true, false, cond}
-use mathlib.Core.List.{List, [], _∷_, append-nil}
+use mathlib.Core.List.{List, [], _∷_, _++_, append-nil}
 use mathlib.Core.Logic.{_⊎_, inl, inr}
 use mathlib.Core.Option.{Option, some, none}
 use Prim.Native.Nat.{ℕ, _<_, _≤_}
@@ -11,16 +11,16 @@ use lib.ListN.{length, drop}
 use borrow.Author.Tests.{ltb-true, ltb-false}
 use Rattle.terms.specs.Inhabited.{LeastEmpty, firstEmpty, FirstEmptyExact}
 use Rattle.terms.proofs.Theorems.{first-empty-is-exact}
-use Rattle.wire.specs.Reply.{Reading, accept, refuse, IsBytes}
-use Rattle.wire.specs.Vocabulary.{Word, Vocabulary, signature, Sound, encodeWords, encodeVocabulary}
-use Rattle.wire.specs.Reading.{Got, got, stop, offset, readWords, finished, lastChecks, outside, readVocabulary}
+use Rattle.wire.specs.Reply.{Reading, accept, refuse, IsBytes, outside}
+use Rattle.wire.specs.Vocabulary.{Word, Vocabulary, signature, InOrder, encodeWords, encodeVocabulary, mostKinds, mostWords}
+use Rattle.wire.specs.Reading.{Got, got, stop, offset, readWords, line6, lines5and6, readVocabulary}
 use Rattle.wire.specs.Checks.{GoodVocabulary}
 use Rattle.wire.specs.Refusals.{Sooner, Decides}
 use Rattle.wire.specs.VocabularyLines.{byteAt, recordAt, wordsOf, Outside, VocabularyLine, head, count, ends, kind, more, empty}
 use Rattle.wire.proofs.Bytes.{drop-begins, drop-ends, offset-drop}
 use Rattle.wire.proofs.Outside.{outside-true, outside-false, no-outside}
-use Rattle.wire.proofs.Words.{sound-well-formed}
-use Rattle.wire.proofs.VocabularyWritten.{encode-injective}
+use Rattle.wire.proofs.Words.{in-order-well-formed}
+use Rattle.wire.proofs.VocabularyWritten.{encode-front}
 use Rattle.wire.proofs.Records.{after, record-after, KindFrom, kind-byte-from, kind-byte}
 use Rattle.wire.proofs.Parts.{Why, Stopped}
 use Rattle.wire.proofs.WordsRead.{WordsRead, words-read}
@@ -39,31 +39,31 @@ VocabularyRead b (refuse n q) = Decides (VocabularyLine b) n q
 pub record Headed (b : List ℕ) : Type 0 where
   pub long : 2 ≤ length b
   pub someKind : 1 ≤ byteAt b 0
-  pub fewKinds : byteAt b 0 ≤ 16
+  pub fewKinds : byteAt b 0 ≤ mostKinds
   pub someWord : 1 ≤ wordsOf b
-  pub fewWords : wordsOf b ≤ 96
+  pub fewWords : wordsOf b ≤ mostWords
 
 -- Line 1 comes before all others.
 first-line : (b : List ℕ) (m r : ℕ) → VocabularyLine b m r → Sooner 1 0 m r
 first-line b m r (head h) = inr (refl, inr (refl, omega arith))
-first-line b m r (count h) = inl (lit< tt)
-first-line b m r (ends h) = inl (lit< tt)
+first-line b m r (count g h) = inl (lit< tt)
+first-line b m r (ends g h) = inl (lit< tt)
 first-line b m r (kind q k h l) = inl (lit< tt)
 first-line b m r (more h) = inl (lit< tt)
-first-line b m r (empty W k s e h) = inl (lit< tt)
+first-line b m r (empty W x k s e h) = inl (lit< tt)
 
-no-head : (b : List ℕ) → 2 ≤ length b → 1 ≤ byteAt b 0 → byteAt b 0 ≤ 16 → (length b < 2) ⊎ Outside 1 16 (byteAt b 0) → ⊥
+no-head : (b : List ℕ) → 2 ≤ length b → 1 ≤ byteAt b 0 → byteAt b 0 ≤ mostKinds → (length b < 2) ⊎ Outside 1 mostKinds (byteAt b 0) → ⊥
 no-head b h l m (inl o) = omega arith
-no-head b h l m (inr o) = no-outside 1 16 (byteAt b 0) l m o
+no-head b h l m (inr o) = no-outside 1 mostKinds (byteAt b 0) l m o
 
 -- Line 2 comes before all others but line 1.
-second-line : (b : List ℕ) → 2 ≤ length b → 1 ≤ byteAt b 0 → byteAt b 0 ≤ 16 → (m r : ℕ) → VocabularyLine b m r → Sooner 2 1 m r
+second-line : (b : List ℕ) → 2 ≤ length b → 1 ≤ byteAt b 0 → byteAt b 0 ≤ mostKinds → (m r : ℕ) → VocabularyLine b m r → Sooner 2 1 m r
 second-line b h l k m r (head o) = absurd (no-head b h l k o)
-second-line b h l k m r (count o) = inr (refl, inr (refl, omega arith))
-second-line b h l k m r (ends o) = inl (lit< tt)
+second-line b h l k m r (count g o) = inr (refl, inr (refl, omega arith))
+second-line b h l k m r (ends g o) = inl (lit< tt)
 second-line b h l k m r (kind q y o p) = inl (lit< tt)
 second-line b h l k m r (more o) = inl (lit< tt)
-second-line b h l k m r (empty W j s e o) = inl (lit< tt)
+second-line b h l k m r (empty W x j s e o) = inl (lit< tt)
 
 fourth-again : (p q : ℕ) → ¬ (q < p) → Sooner 4 p 4 q
 fourth-again p q h = go (ltb p q) refl
@@ -74,51 +74,51 @@ fourth-again p q h = go (ltb p q) refl
 
 -- The records of b, which lines 1 and 2 do not fit.
 module _ (b : List ℕ) (headed : Headed b) where
-  no-first : (length b < 2) ⊎ Outside 1 16 (byteAt b 0) → ⊥
+  no-first : (length b < 2) ⊎ Outside 1 mostKinds (byteAt b 0) → ⊥
   no-first o = no-head b (headed .long) (headed .someKind) (headed .fewKinds) o
 
-  no-second : Outside 1 96 (wordsOf b) → ⊥
-  no-second o = no-outside 1 96 (wordsOf b) (headed .someWord) (headed .fewWords) o
+  no-second : Outside 1 mostWords (wordsOf b) → ⊥
+  no-second o = no-outside 1 mostWords (wordsOf b) (headed .someWord) (headed .fewWords) o
 
   -- Line 3, where a byte is missing and the kind bytes are in order.
   third-line : length b < recordAt b (wordsOf b) → ((q : ℕ) → KindFrom b (wordsOf b) 2 q → q < length b → byteAt b q < byteAt b 0) →
       (m r : ℕ) → VocabularyLine b m r → Sooner 3 (length b) m r
   third-line h clean m r (head o) = absurd (no-first o)
-  third-line h clean m r (count o) = absurd (no-second o)
-  third-line h clean m r (ends o) = inr (refl, inr (refl, omega arith))
+  third-line h clean m r (count g o) = absurd (no-second o)
+  third-line h clean m r (ends g o) = inr (refl, inr (refl, omega arith))
   third-line h clean m r (kind q y o p) = absurd (omega (arith, clean q (kind-byte-from b q y) o))
   third-line h clean m r (more o) = inl (lit< tt)
-  third-line h clean m r (empty W j s e o) = inl (lit< tt)
+  third-line h clean m r (empty W x j s e o) = inl (lit< tt)
 
   -- Line 4 at p, where the kind bytes before it are in order.
   fourth-line : (p : ℕ) → p < length b → ((q : ℕ) → KindFrom b (wordsOf b) 2 q → q < p → byteAt b q < byteAt b 0) →
       (m r : ℕ) → VocabularyLine b m r → Sooner 4 p m r
   fourth-line p h clean m r (head o) = absurd (no-first o)
-  fourth-line p h clean m r (count o) = absurd (no-second o)
-  fourth-line p h clean m r (ends o) = inr (refl, inl h)
+  fourth-line p h clean m r (count g o) = absurd (no-second o)
+  fourth-line p h clean m r (ends g o) = inr (refl, inl h)
   fourth-line p h clean m r (kind q y o l) = fourth-again p q (λ before. omega (arith, clean q (kind-byte-from b q y) before))
   fourth-line p h clean m r (more o) = inl (lit< tt)
-  fourth-line p h clean m r (empty W j s e o) = inl (lit< tt)
+  fourth-line p h clean m r (empty W x j s e o) = inl (lit< tt)
 
   -- Line 5, where the records are in order.
   fifth-line : recordAt b (wordsOf b) ≤ length b → ((q : ℕ) → KindFrom b (wordsOf b) 2 q → byteAt b q < byteAt b 0) →
       (m r : ℕ) → VocabularyLine b m r → Sooner 5 (recordAt b (wordsOf b)) m r
   fifth-line h clean m r (head o) = absurd (no-first o)
-  fifth-line h clean m r (count o) = absurd (no-second o)
-  fifth-line h clean m r (ends o) = absurd (omega arith)
+  fifth-line h clean m r (count g o) = absurd (no-second o)
+  fifth-line h clean m r (ends g o) = absurd (omega arith)
   fifth-line h clean m r (kind q y o p) = absurd (omega (arith, clean q (kind-byte-from b q y)))
   fifth-line h clean m r (more o) = inr (refl, inr (refl, omega arith))
-  fifth-line h clean m r (empty W j s e o) = inl (lit< tt)
+  fifth-line h clean m r (empty W x j s e o) = inl (lit< tt)
 
   -- Line 6 alone is left, where the records are in order and nothing follows them.
   last-line : recordAt b (wordsOf b) ≡ length b → ((q : ℕ) → KindFrom b (wordsOf b) 2 q → byteAt b q < byteAt b 0) →
-      (m r : ℕ) → VocabularyLine b m r → (m ≡ 6) × ((W : Vocabulary) × Sound W × (b ≡ encodeVocabulary W) × LeastEmpty (signature W) r)
+      (m r : ℕ) → VocabularyLine b m r → (m ≡ 6) × ((W : Vocabulary) × (x : List ℕ) × InOrder W × (b ≡ encodeVocabulary W ++ x) × LeastEmpty (signature W) r)
   last-line h clean m r (head o) = absurd (no-first o)
-  last-line h clean m r (count o) = absurd (no-second o)
-  last-line h clean m r (ends o) = absurd (omega arith)
+  last-line h clean m r (count g o) = absurd (no-second o)
+  last-line h clean m r (ends g o) = absurd (omega arith)
   last-line h clean m r (kind q y o p) = absurd (omega (arith, clean q (kind-byte-from b q y)))
   last-line h clean m r (more o) = absurd (omega arith)
-  last-line h clean m r (empty W j s e o) = (refl, (W, s, e, o))
+  last-line h clean m r (empty W x j s e o) = (refl, (W, x, s, e, o))
 
   stopped-decides : (n : ℕ) (r : List ℕ) → Stopped b (byteAt b 0) (recordAt b (wordsOf b)) (KindFrom b (wordsOf b) 2) n r →
       Decides (VocabularyLine b) n (offset b r)
@@ -128,7 +128,7 @@ module _ (b : List ℕ) (headed : Headed b) where
           Why b (byteAt b 0) (recordAt b (wordsOf b)) (KindFrom b (wordsOf b) 2) n p → Decides (VocabularyLine b) n (offset b r)
       go p d clean (inl (number, place, h)) =
           let here : offset b r ≡ length b = offset-drop b r p d (omega arith) ∙ place in
-          rw (number, here) (record { fits = ends h; first = third-line h (λ q y l. clean q y (omega arith)) })
+          rw (number, here) (record { fits = ends (headed .long) h; first = third-line h (λ q y l. clean q y (omega arith)) })
       go p d clean (inr (number, inside, y, h)) =
           let here : offset b r ≡ p = offset-drop b r p d (omega arith) in
           rw (number, here) (record { fits = kind p (kind-byte b p y) inside h; first = fourth-line p inside clean })
@@ -139,29 +139,29 @@ module _ (b : List ℕ) (headed : Headed b) where
       let here : offset b r ≡ recordAt b (wordsOf b) = offset-drop b r (recordAt b (wordsOf b)) d (omega arith) in
       rw here (record { fits = more h; first = fifth-line (omega arith) clean })
 
-  finished-read : (W : Vocabulary) → Sound W → b ≡ encodeVocabulary W → recordAt b (wordsOf b) ≡ length b →
-      ((q : ℕ) → KindFrom b (wordsOf b) 2 q → byteAt b q < byteAt b 0) → VocabularyRead b (finished W (firstEmpty (signature W)))
-  finished-read W s e h clean = go (firstEmpty (signature W)) refl
+  line6-read : (W : Vocabulary) → InOrder W → b ≡ encodeVocabulary W → recordAt b (wordsOf b) ≡ length b →
+      ((q : ℕ) → KindFrom b (wordsOf b) 2 q → byteAt b q < byteAt b 0) → VocabularyRead b (line6 W (firstEmpty (signature W)))
+  line6-read W s e h clean = go (firstEmpty (signature W)) refl
     where
       exactly : FirstEmptyExact (signature W)
-      exactly = first-empty-is-exact (signature W) (sound-well-formed W s)
+      exactly = first-empty-is-exact (signature W) (in-order-well-formed W s)
 
       -- Line 6 fits at the kind that firstEmpty finds, and nowhere else.
       found : (m r : ℕ) → VocabularyLine b m r → (m ≡ 6) × (firstEmpty (signature W) ≡ some r)
       found m r line =
           let fact = last-line h clean m r line in
           let X = fact .1 .0 in
-          let same : X ≡ W = encode-injective X W (fact .1 .1) s (sym (fact .1 .2) ∙ e) in
-          (fact .0, exactly .found r .1 (rw same at (fact .1 .3)))
+          let same : X ≡ W = encode-front X W (fact .1 .1) (fact .1 .2) s (sym (fact .1 .3) ∙ e) in
+          (fact .0, exactly .found r .1 (rw same at (fact .1 .4)))
 
-      go : (o : Option ℕ) → firstEmpty (signature W) ≡ o → VocabularyRead b (finished W o)
+      go : (o : Option ℕ) → firstEmpty (signature W) ≡ o → VocabularyRead b (line6 W o)
       go none f = record {
-        good = record { sound = s; inhabited = exactly .missed .0 f };
+        good = record { inOrder = s; inhabited = exactly .missed .0 f };
         bytes = e;
         noLine = λ m r line. let here = found m r line in let z : _≡_ {A = ℕ} 0 1 = cc in absurd (omega arith);
       }
       go (some k) f = record {
-        fits = empty W k s e (exactly .found k .0 f);
+        fits = empty W [] k s (e ∙ sym (append-nil (encodeVocabulary W))) (exactly .found k .0 f);
         first = λ m r line.
             let here = found m r line in
             let number = here .0 in
@@ -170,21 +170,21 @@ module _ (b : List ℕ) (headed : Headed b) where
       }
 
 -- What is left to judge once lines 1 and 2 do not fit.
-last-checks-read : (b : List ℕ) → Headed b → (g : Got (List Word)) →
-    WordsRead b (byteAt b 0) (wordsOf b) 2 g → b ≡ byteAt b 0 ∷ wordsOf b ∷ drop 2 b → VocabularyRead b (lastChecks b (byteAt b 0) g)
-last-checks-read b headed (stop n r) s whole = stopped-decides b headed n r (rw (record-after b (wordsOf b)) s)
-last-checks-read b headed (got ws (x ∷ r)) (bytes, number, sounds, passed) whole =
+lines5and6-read : (b : List ℕ) → Headed b → (g : Got (List Word)) →
+    WordsRead b (byteAt b 0) (wordsOf b) 2 g → b ≡ byteAt b 0 ∷ wordsOf b ∷ drop 2 b → VocabularyRead b (lines5and6 b (byteAt b 0) g)
+lines5and6-read b headed (stop n r) s whole = stopped-decides b headed n r (rw (record-after b (wordsOf b)) s)
+lines5and6-read b headed (got ws (x ∷ r)) (bytes, number, wordsInOrder, passed) whole =
     more-decides b headed (x ∷ r) (rw (record-after b (wordsOf b)) (passed .rest))
     (rw (record-after b (wordsOf b)) (drop-begins b (after b (wordsOf b) 2) x r (sym (passed .rest)) .inside))
     (passed .clean)
-last-checks-read b headed (got ws []) (bytes, number, sounds, passed) whole =
-    finished-read b headed (record { kinds = byteAt b 0; words = ws })
+lines5and6-read b headed (got ws []) (bytes, number, wordsInOrder, passed) whole =
+    line6-read b headed (record { kinds = byteAt b 0; words = ws })
     (record {
       someKind = headed .someKind;
       fewKinds = headed .fewKinds;
       someWord = omega (arith, headed .someWord);
       fewWords = omega (arith, headed .fewWords);
-      words = sounds;
+      words = wordsInOrder;
     })
     (cc (append-nil (encodeWords ws)))
     (rw (record-after b (wordsOf b)) (omega (arith, passed .inside, drop-ends b (after b (wordsOf b) 2) (sym (passed .rest)))))
@@ -193,20 +193,20 @@ last-checks-read b headed (got ws []) (bytes, number, sounds, passed) whole =
 pub vocabulary-read : (b : List ℕ) → IsBytes b → VocabularyRead b (readVocabulary b)
 vocabulary-read [] bytes = record { fits = head (inl (lit< tt)); first = first-line [] }
 vocabulary-read (k ∷ []) bytes = record { fits = head (inl (lit< tt)); first = first-line (k ∷ []) }
-vocabulary-read (k ∷ n ∷ l) bytes = go (outside 1 16 k) refl (outside 1 96 n) refl
+vocabulary-read (k ∷ n ∷ l) bytes = go (outside 1 mostKinds k) refl (outside 1 mostWords n) refl
   where
     b : List ℕ
     b = k ∷ n ∷ l
 
-    go : (t : Bool) → outside 1 16 k ≡ t → (u : Bool) → outside 1 96 n ≡ u →
-        VocabularyRead b (cond t (refuse 1 0) (cond u (refuse 2 1) (lastChecks b k (readWords k n l))))
-    go true t u v = record { fits = head (inr (outside-true 1 16 k t)); first = first-line b }
+    go : (t : Bool) → outside 1 mostKinds k ≡ t → (u : Bool) → outside 1 mostWords n ≡ u →
+        VocabularyRead b (cond t (refuse 1 0) (cond u (refuse 2 1) (lines5and6 b k (readWords k n l))))
+    go true t u v = record { fits = head (inr (outside-true 1 mostKinds k t)); first = first-line b }
     go false t true v =
-        let h = outside-false 1 16 k t in
-        record { fits = count (outside-true 1 96 n v); first = second-line b (omega arith) (h .0) (h .1) }
+        let h = outside-false 1 mostKinds k t in
+        record { fits = count (omega arith) (outside-true 1 mostWords n v); first = second-line b (omega arith) (h .0) (h .1) }
     go false t false v =
-        let h = outside-false 1 16 k t in
-        let j = outside-false 1 96 n v in
-        last-checks-read b
+        let h = outside-false 1 mostKinds k t in
+        let j = outside-false 1 mostWords n v in
+        lines5and6-read b
         (record { long = omega arith; someKind = h .0; fewKinds = h .1; someWord = j .0; fewWords = j .1 })
         (readWords k n l) (words-read b bytes k n 2 l refl (omega arith)) refl

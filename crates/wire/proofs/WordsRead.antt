@@ -13,7 +13,7 @@ use borrow.Author.Tests.{ltb-true, ltb-false}
 use Rattle.terms.specs.Lists.{All}
 use Rattle.wire.specs.Reply.{IsBytes}
 use Rattle.wire.specs.Map.{readMap, flags, ones}
-use Rattle.wire.specs.Vocabulary.{Word, SoundWord, encodeWord, encodeWords}
+use Rattle.wire.specs.Vocabulary.{Word, WordInOrder, encodeWord, encodeWords}
 use Rattle.wire.specs.Reading.{Got, got, stop, andThen, readKinds, readPlaces, readWord, readWords}
 use Rattle.wire.specs.VocabularyLines.{byteAt, placesOf, recordAt}
 use Rattle.wire.proofs.Bytes.{Begins, drop-begins, drop-ends, byte-small}
@@ -81,7 +81,7 @@ kinds-read b k (suc n) i e (x ∷ l) d h p =
 
 -- The record at offset i.
 abbrev pub WordRead : List ℕ → ℕ → ℕ → Got Word → Type 0
-WordRead b k i (got w r) = (drop i b ≡ encodeWord w ++ r) × SoundWord k w × Passed b k (behind b i) (KindIn b i) r
+WordRead b k i (got w r) = (drop i b ≡ encodeWord w ++ r) × WordInOrder k w × Passed b k (behind b i) (KindIn b i) r
 WordRead b k i (stop m r) = Stopped b k (behind b i) (KindIn b i) m r
 
 -- A record's kind bytes are its result kind and those behind its map.
@@ -101,11 +101,11 @@ places-end b i p e = rw (behind-is b i p e) (omega arith)
 -- A record's result kind x and its map m, then the kinds of its p places.
 word-more : (b : List ℕ) (k i x m p : ℕ) (l : List ℕ) → Begins b i x (m ∷ l) → Begins b (suc i) m l → x < k → m < 256 → ones (flags m) ≡ p →
     (g : Got (List ℕ)) → KindsRead b k p (suc (suc i)) (behind b i) g →
-    WordRead b k i (andThen g (λ ks r. got (record { result = x; arity = m; kinds = ks }) r))
+    WordRead b k i (andThen g (λ ks r. got (record { result = x; placeMap = m; kinds = ks }) r))
 word-more b k i x m p l begins map h small places (got ks r) (bytes, count, kinds, passed) =
     let byte = begins .byte in (
       cc (drop-cons b i 0 (begins .inside), drop-cons b (suc i) 0 (map .inside), map .byte),
-      record { result = h; arity = small; count = count ∙ sym places; kinds = kinds },
+      record { result = h; placeMap = small; count = count ∙ sym places; kinds = kinds },
       passed-within b k (behind b i) (Span (suc (suc i)) (behind b i)) (KindIn b i) r (kind-first b k i (omega arith)) passed,
     )
 word-more b k i x m p l begins map h small places (stop n r) s =
@@ -154,20 +154,20 @@ word-read b bytes k i (x ∷ l) d h = go (ltb x k) refl
 -- The n records from offset i on.
 abbrev pub WordsRead : List ℕ → ℕ → ℕ → ℕ → Got (List Word) → Type 0
 WordsRead b k n i (got ws r) =
-    (drop i b ≡ encodeWords ws ++ r) × (length ws ≡ n) × All (SoundWord k) ws × Passed b k (after b n i) (KindFrom b n i) r
+    (drop i b ≡ encodeWords ws ++ r) × (length ws ≡ n) × All (WordInOrder k) ws × Passed b k (after b n i) (KindFrom b n i) r
 WordsRead b k n i (stop m r) = Stopped b k (after b n i) (KindFrom b n i) m r
 
 -- A record w that is read, then n more.
 words-read-more : (b : List ℕ) (k n i : ℕ) (w : Word) (r : List ℕ) → WordRead b k i (got w r) → (g : Got (List Word)) →
     WordsRead b k n (behind b i) g → WordsRead b k (suc n) i (andThen g (λ ws r′. got (w ∷ ws) r′))
-words-read-more b k n i w r (front, sound, first) (got ws r′) (bytes, count, sounds, passed) = (
+words-read-more b k n i w r (front, inOrder, first) (got ws r′) (bytes, count, wordsInOrder, passed) = (
   front ∙ ap (λ l. encodeWord w ++ l) (first .rest ∙ bytes) ∙ sym (append-assoc (encodeWord w) (encodeWords ws) r′),
   omega arith,
-  (sound, sounds),
+  (inOrder, wordsInOrder),
   passed-within b k (after b n (behind b i)) (KindFrom b n (behind b i)) (KindFrom b (suc n) i) r′
       (λ q s. ⊎-elim (λ y. inr (first .clean q y)) inl s) passed,
 )
-words-read-more b k n i w r (front, sound, first) (stop m r′) s =
+words-read-more b k n i w r (front, inOrder, first) (stop m r′) s =
     stopped-within b k (after b n (behind b i)) (after b n (behind b i)) (KindFrom b n (behind b i)) (KindFrom b (suc n) i) m r′
     (omega arith) (λ q y. inr y) (λ q y l. ⊎-elim (λ y. inr (first .clean q y)) inl y) s
 
@@ -186,8 +186,8 @@ words-read b bytes k (suc n) i l d h =
     go : (g : Got Word) → WordRead b k i g →
         ((l : List ℕ) → l ≡ drop (behind b i) b → behind b i ≤ length b → WordsRead b k n (behind b i) (readWords k n l)) →
         WordsRead b k (suc n) i (andThen g (λ w r. andThen (readWords k n r) (λ ws r′. got (w ∷ ws) r′)))
-    go (got w r) (front, sound, first) more =
-        words-read-more b k n i w r (front, sound, first) (readWords k n r) (more r (first .rest) (first .inside))
+    go (got w r) (front, inOrder, first) more =
+        words-read-more b k n i w r (front, inOrder, first) (readWords k n r) (more r (first .rest) (first .inside))
     go (stop m r) s more = words-read-stop b k n i m r s
 
 -- What the records read from offset 2 on tell, where they are read.

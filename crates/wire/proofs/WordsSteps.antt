@@ -51,11 +51,11 @@ kinds-end k n j l ks e = kinds-split k n (suc j) l ∙ rw e
 
 -- A record, by its bytes.
 pub word-got : (k x m : ℕ) (l r ks : List ℕ) → x < k → readKinds k (ones (flags m)) l ≡ got ks r →
-    readWord k (x ∷ m ∷ l) ≡ got (record { result = x; arity = m; kinds = ks }) r
-word-got k x m l r ks h e = rw (lt-ltb x k h) (ap (λ g. andThen g (λ ks r. got (record { result = x; arity = m; kinds = ks }) r)) e)
+    readWord k (x ∷ m ∷ l) ≡ got (record { result = x; placeMap = m; kinds = ks }) r
+word-got k x m l r ks h e = rw (lt-ltb x k h) (ap (λ g. andThen g (λ ks r. got (record { result = x; placeMap = m; kinds = ks }) r)) e)
 
 pub word-stop : (k x m n : ℕ) (l r : List ℕ) → x < k → readKinds k (ones (flags m)) l ≡ stop n r → readWord k (x ∷ m ∷ l) ≡ stop n r
-word-stop k x m n l r h e = rw (lt-ltb x k h) (ap (λ g. andThen g (λ ks r. got (record { result = x; arity = m; kinds = ks }) r)) e)
+word-stop k x m n l r h e = rw (lt-ltb x k h) (ap (λ g. andThen g (λ ks r. got (record { result = x; placeMap = m; kinds = ks }) r)) e)
 
 pub word-high : (k x : ℕ) (l : List ℕ) → k ≤ x → readWord k (x ∷ l) ≡ stop 4 (x ∷ l)
 word-high k x l h = rw (le-ltb x k h)

@@ -10,12 +10,12 @@ use Rattle.terms.specs.Signature.{arguments}
 use Rattle.terms.specs.Term.{Term, any, var, app, Terms, nil, cons, Sorted, SortedAll, Occurrence, occurrences, occurrencesAll, Consistent, names, namesAll}
 use Rattle.terms.proofs.All.{all-left, all-right}
 use Rattle.wire.specs.Map.{writeMap, flags, within, Slot, slots, isOpen, writtenFlags}
-use Rattle.wire.specs.Vocabulary.{Vocabulary, Sound, signature, word, mapOf}
-use Rattle.wire.specs.Written.{nameByte, writtenMap, encodeAt, encodeAll, encodeRoot, levels, levelsAll, deepest}
+use Rattle.wire.specs.Vocabulary.{Vocabulary, InOrder, signature, word, mapOf}
+use Rattle.wire.specs.Written.{nameByte, writtenMap, encodeAt, encodeAll, encodeRoot, levels, levelsAll, deepest, nameCount}
 use Rattle.wire.specs.Reading.{Got, got, andThen, Read, ReadAll, withFirst, readSlots, fromNode, readTerm}
 use Rattle.wire.proofs.Map.{read-write-map, within-written, flags-written, sorts, Marked, sorts-slots, marked-written}
 use Rattle.wire.proofs.Seen.{clash-not, consistent-left, consistent-clash}
-use Rattle.wire.proofs.Words.{length-symbols, result-word, arguments-word, sound-word}
+use Rattle.wire.proofs.Words.{length-symbols, result-word, arguments-word, word-in-order}
 use Rattle.wire.proofs.Node.{node-symbol, node-name, node-whole}
 
 -- ---- one slot
@@ -42,7 +42,7 @@ AsRead W t s seen = record { term = t; seen = seen ++ occurrences (signature W) 
 abbrev AsReadAll : Vocabulary → Terms → List ℕ → List Occurrence → ReadAll
 AsReadAll W ts ks seen = record { terms = ts; seen = seen ++ occurrencesAll (signature W) ts ks }
 
-module _ (W : Vocabulary) (sound : Sound W) where
+module _ (W : Vocabulary) (inOrder : InOrder W) where
   -- The terms of a word's places are read, so the word is.
   word-read : (f : ℕ) (ts : Terms) (left : ℕ) (root : Bool) (s : ℕ) (seen : List Occurrence) (rest : List ℕ) →
       Sorted (signature W) (app f ts) s →
@@ -54,7 +54,7 @@ module _ (W : Vocabulary) (sound : Sound W) where
   word-read f ts left root s seen rest h c ih =
       let M : ℕ = writtenMap W f ts in
       let known : f < length (W .words) = rw (length-symbols W) at (h .0) in
-      let sw = sound-word W f sound known in
+      let sw = word-in-order W f inOrder known in
       let due : word W f .result ≡ s = sym (result-word W f) ∙ h .1 in
       let fs : flags M ≡ writtenFlags (flags (mapOf W f)) ts = flags-written (mapOf W f) ts in
       let allowed : within (flags M) (flags (mapOf W f)) ≡ true =
@@ -116,19 +116,19 @@ module _ (W : Vocabulary) (sound : Sound W) where
 
   mutual
     pub read-term : (t : Term) (left : ℕ) (root : Bool) (s : ℕ) (seen : List Occurrence) (rest : List ℕ) →
-        Sorted (signature W) t s → All (λ n. n < 64) (names t) → Consistent (seen ++ occurrences (signature W) t s) →
+        Sorted (signature W) t s → All (λ n. n < nameCount) (names t) → Consistent (seen ++ occurrences (signature W) t s) →
         levels t ≤ left → isOpen t ≡ false →
         readTerm W left root s seen (encodeAt W t ++ rest) ≡ got (AsRead W t s seen) rest
     read-term any left root s seen rest h n c d o = absurd (true≢false o)
     read-term (var n) zero root s seen rest h b c d o = absurd (omega arith)
     read-term (var n) (suc left) root s seen rest h b c d o =
-        ap (fromNode (readTerm W left false) s seen) (node-name W root s seen sound (nameByte n) n rest (b .0, refl) (clash-not seen n s (consistent-clash seen n s c)))
+        ap (fromNode (readTerm W left false) s seen) (node-name W root s seen inOrder (nameByte n) n rest (b .0, refl) (clash-not seen n s (consistent-clash seen n s c)))
     read-term (app f ts) zero root s seen rest h n c d o = absurd (omega arith)
     read-term (app f ts) (suc left) root s seen rest h n c d o =
         word-read f ts left root s seen rest h c (λ ks m k q. read-terms ts left ks seen rest m k n q (omega arith))
 
     pub read-terms : (ts : Terms) (left : ℕ) (ks : List Slot) (seen : List Occurrence) (rest : List ℕ) →
-        Marked ts ks → SortedAll (signature W) ts (sorts ks) → All (λ n. n < 64) (namesAll ts) →
+        Marked ts ks → SortedAll (signature W) ts (sorts ks) → All (λ n. n < nameCount) (namesAll ts) →
         Consistent (seen ++ occurrencesAll (signature W) ts (sorts ks)) → levelsAll ts ≤ left →
         readSlots (readTerm W left false) ks seen (encodeAll W ts ++ rest) ≡ got (AsReadAll W ts (sorts ks) seen) rest
     read-terms nil left [] seen rest m h n c d = ap (λ (z : List Occurrence). got (record { terms = nil; seen = z }) rest) (sym (append-nil seen))
@@ -138,16 +138,16 @@ module _ (W : Vocabulary) (sound : Sound W) where
         let c′ : Consistent ((seen ++ occurrences (signature W) t (k .sort)) ++ occurrencesAll (signature W) ts (sorts ks)) =
         subst Consistent (sym (append-assoc seen (occurrences (signature W) t (k .sort)) (occurrencesAll (signature W) ts (sorts ks)))) c in
         slot-read t ts left k ks seen rest (m .0)
-        (λ o. read-term t left false (k .sort) seen (encodeAll W ts ++ rest) (h .0) (all-left (λ n. n < 64) (names t) (namesAll ts) n)
+        (λ o. read-term t left false (k .sort) seen (encodeAll W ts ++ rest) (h .0) (all-left (λ n. n < nameCount) (names t) (namesAll ts) n)
         (consistent-left (seen ++ occurrences (signature W) t (k .sort)) (occurrencesAll (signature W) ts (sorts ks)) c′) (omega arith) o)
         (read-terms ts left ks (seen ++ occurrences (signature W) t (k .sort)) rest (m .1) (h .1)
-        (all-right (λ n. n < 64) (names t) (namesAll ts) n) c′ (omega arith))
+        (all-right (λ n. n < nameCount) (names t) (namesAll ts) n) c′ (omega arith))
 
   -- At the root an open place is a 255.
   pub read-root : (t : Term) (left : ℕ) (s : ℕ) (rest : List ℕ) →
-      Sorted (signature W) t s → All (λ n. n < 64) (names t) → Consistent (occurrences (signature W) t s) → deepest t ≤ left →
+      Sorted (signature W) t s → All (λ n. n < nameCount) (names t) → Consistent (occurrences (signature W) t s) → deepest t ≤ left →
       readTerm W left true s [] (encodeRoot W t ++ rest) ≡ got (AsRead W t s []) rest
   read-root any zero s rest h n c d = absurd (omega arith)
-  read-root any (suc left) s rest h n c d = ap (fromNode (readTerm W left false) s []) (node-whole W true s [] sound rest refl)
+  read-root any (suc left) s rest h n c d = ap (fromNode (readTerm W left false) s []) (node-whole W true s [] inOrder rest refl)
   read-root (var n) left s rest h b c d = read-term (var n) left true s [] rest h b c (omega arith) refl
   read-root (app f ts) left s rest h n c d = read-term (app f ts) left true s [] rest h n c (omega arith) refl

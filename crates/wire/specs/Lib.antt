@@ -7,6 +7,7 @@ pub mod Written
 pub mod Reading
 pub mod Checks
 pub mod Complete
+pub mod Entries
 pub mod Refusals
 pub mod VocabularyLines
 pub mod TermLines

@@ -1,14 +1,20 @@
 -- Map: place maps and written maps. The width of a map stands here and nowhere else.
 --
---   places            a map has bits for this many places (8)
---   mapBytes          a map is written as this many bytes (1)
---   writeMap m        the bytes of the map m
---   readMap l         the map at the front of l and the bytes behind it, or from where a byte is missing
---   flags m           the bits of the map m, place 0 first
---   number fs         the map whose bits are fs
---   ones fs           how many bits stand
---   within ws ps      every bit that stands in ws stands in ps
---   Slot, slots       the places of a word, lowest first: the sort due at each, and whether it is written
+--   mapBits              a map has bits for this many places (8)
+--   mapBytes             a map is written as this many bytes (1)
+--   writeMap m           the bytes of the map m
+--   MapRead, readMap l   the map at the front of l and the bytes behind it, or from where a byte is missing
+--   flagsIn d m          the d lowest bits of the map m, place 0 first
+--   flags m              the bits of the map m, place 0 first
+--   bit b                1 for a bit that stands, 0 for one that does not
+--   number fs            the map whose bits are fs
+--   ones fs              how many bits of fs stand
+--   firstFlag fs, restFlags fs   the first bit and the bits behind it; past the end no bit stands
+--   within ws ps         every bit that stands in ws stands in ps
+--   Slot                 a place of a word: the sort due there, and whether it is written
+--   slots ps ws ks       a slot for each place, lowest first: the bits ps of the place map, the bits ws of
+--                        the written map, and the places' sorts ks
+--   isOpen t             t is an open place
 --   writtenFlags ps ts   the bits of the places in ps whose term in ts is written
 --
 use mathlib.Core.Bool.{Bool, true, false, not, _&&_, cond}
@@ -18,8 +24,8 @@ use lib.Dec.{eqb}
 use Rattle.terms.specs.Term.{Term, any, var, app, Terms, nil, cons}
 
 -- Document 01: "Bit 0 (worth 1) is place 0, bit 7 place 7; gaps are allowed."
-abbrev pub places : ℕ
-places = 8
+abbrev pub mapBits : ℕ
+mapBits = 8
 
 abbrev pub mapBytes : ℕ
 mapBytes = 1
@@ -35,13 +41,12 @@ abbrev pub readMap : List ℕ → MapRead
 readMap [] = missing []
 readMap (m ∷ l) = got m l
 
--- The d lowest bits of m.
 abbrev pub flagsIn : ℕ → ℕ → List Bool
 flagsIn zero m = []
 flagsIn (suc d) m = eqb (m % 2) 1 ∷ flagsIn d (m / 2)
 
 abbrev pub flags : ℕ → List Bool
-flags m = flagsIn places m
+flags m = flagsIn mapBits m
 
 abbrev pub bit : Bool → ℕ
 bit true = 1
@@ -55,7 +60,6 @@ abbrev pub ones : List Bool → ℕ
 ones [] = 0
 ones (b ∷ fs) = bit b + ones fs
 
--- The first bit of a list, and the bits behind it; past the end no bit stands.
 abbrev pub firstFlag : List Bool → Bool
 firstFlag [] = false
 firstFlag (b ∷ fs) = b
@@ -73,7 +77,6 @@ pub record Slot : Type 0 where
   pub sort : ℕ
   pub written : Bool
 
--- One slot for each place: the bits of the place map, those of the written map, and the places' sorts.
 abbrev pub slots : List Bool → List Bool → List ℕ → List Slot
 slots [] ws ks = []
 slots (false ∷ ps) ws ks = slots ps (restFlags ws) ks

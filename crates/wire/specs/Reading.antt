@@ -1,28 +1,50 @@
 -- Reading: vocabularies and terms read off their bytes.
 --
---   Got A                 what is read off the front of some bytes: a thing and the bytes behind it,
---                         or a refusal's number and the bytes from the offending one on
---   andThen r k           k goes on behind r
---   offset whole rest     where the bytes rest begin in the bytes whole
---   readWords k n l       n records
---   readVocabulary b      a vocabulary
---   Node, node            what stands where a term is due: it alone decides lines 9 and 11 to 14
---   readTerm              a term, with at most so many levels
---   readWhole W n b       kind byte and term, with at most n levels
---   readAny W b           the same with no limit on levels
+-- This file is an algorithm. VocabulariesInverse and TermsInverse fix what it accepts, VocabularyRefusals and
+-- TermRefusals what it refuses and with which number and place: an auditor may take it on their word.
+--
+--   Got A                     what is read off the front of some bytes: a thing and the bytes behind it,
+--                             or a refusal's number and the bytes from the offending one on
+--   andThen r k               k goes on behind r
+--   offset whole rest         where the bytes rest begin in the bytes whole
+--   readKinds k n l           n kind bytes, each below the kind count k
+--   readPlaces k r m          what follows a record's result kind r: its map, which was read as m, and its kinds
+--   readWord k l              a record
+--   readWords k n l           n records
+--   line6 W o                 line 6, where o is the lowest kind without complete situations
+--   lines5and6 b k g          lines 5 and 6, once the records of the bytes b are read as g
+--   readVocabulary b          a vocabulary
+--   Node                      what stands where a term is due
+--   clash seen n s            the name n stood earlier at a place of another kind than s
+--   isWord W b, isName b      the byte b is a word's number, a name's byte
+--   mapNode W f l m           behind the word f, whose map was read off l as m
+--   wordNode W s f l          the word f, where kind s is due
+--   nameNode s seen b l       the name of byte b, where kind s is due
+--   node W root s seen l      what stands where a term of kind s is due: it decides lines 9 and 11 to 14
+--   atLimit l                 where no level is left: line 10, and line 9 too where the bytes end there
+--   Read, ReadAll             a term, or the terms of a word's places, with the names seen up to its end
+--   withFirst t a             the term t before the terms of a
+--   readSlots reader ks seen l     the terms of the places ks, each read by reader
+--   fromNode reader s seen x       the term that begins with the node x
+--   readTerm W left root s seen l  a term of kind s, at most `left` levels deep
+--   Kinded                    a term with its kind
+--   line15 b s g              line 15, once the term of the bytes b is read as g
+--   readWhole W left b        kind byte and term, at most `left` levels deep
+--   readAny W b               the same with no limit on levels
 --
 use mathlib.Core.Bool.{Bool, true, false, not, _&&_, _||_, cond}
 use mathlib.Core.List.{List, [], _∷_, _++_}
 use mathlib.Core.Option.{Option, some, none}
-use Prim.Native.Nat.{ℕ, zero, suc, _-_}
-use lib.Dec.{eqb, leb, ltb}
+use Prim.Native.Nat.{ℕ, zero, suc, _+_, _-_}
+use lib.Dec.{eqb, ltb}
 use lib.ListN.{length}
 use Rattle.terms.specs.Term.{Term, any, var, app, Terms, nil, cons, Occurrence}
 use Rattle.terms.specs.Inhabited.{firstEmpty}
-use Rattle.wire.specs.Reply.{Reading, accept, refuse}
+use Rattle.wire.specs.Reply.{Reading, accept, refuse, outside}
 use Rattle.wire.specs.Map.{MapRead, readMap, flags, ones, within, Slot, slots}
 use Rattle.wire.specs.Map.MapRead.{got as mapGot, missing as mapMissing}
-use Rattle.wire.specs.Vocabulary.{Word, Vocabulary, signature, word, mapOf}
+use Rattle.wire.specs.Vocabulary.{Word, Vocabulary, signature, word, mapOf, mostKinds, mostWords}
+use Rattle.wire.specs.Written.{nameCount, firstNameByte, wholeByte}
 
 pub data Got (A : Type 0) : Type 0 where
   got : A → List ℕ → Got A
@@ -35,18 +57,16 @@ andThen (stop n r) k = stop n r
 abbrev pub offset : List ℕ → List ℕ → ℕ
 offset whole rest = length whole - length rest
 
--- n kind bytes, each below the kind count k.
 abbrev pub readKinds : ℕ → ℕ → List ℕ → Got (List ℕ)
 readKinds k zero l = got [] l
 readKinds k (suc n) [] = stop 3 []
 readKinds k (suc n) (b ∷ l) =
     cond (ltb b k) (andThen (readKinds k n l) (λ ks r. got (b ∷ ks) r)) (stop 4 (b ∷ l))
 
--- What follows a record's result kind r.
 abbrev pub readPlaces : ℕ → ℕ → MapRead → Got Word
 readPlaces k r (mapMissing l) = stop 3 l
 readPlaces k r (mapGot m l) =
-    andThen (readKinds k (ones (flags m)) l) (λ ks l′. got (record { result = r; arity = m; kinds = ks }) l′)
+    andThen (readKinds k (ones (flags m)) l) (λ ks l′. got (record { result = r; placeMap = m; kinds = ks }) l′)
 
 abbrev pub readWord : ℕ → List ℕ → Got Word
 readWord k [] = stop 3 []
@@ -56,28 +76,25 @@ abbrev pub readWords : ℕ → ℕ → List ℕ → Got (List Word)
 readWords k zero l = got [] l
 readWords k (suc n) l = andThen (readWord k l) (λ w r. andThen (readWords k n r) (λ ws r′. got (w ∷ ws) r′))
 
--- Lines 5 and 6, once the records are read: bytes that follow, then a kind without ground terms.
-abbrev pub finished : Vocabulary → Option ℕ → Reading Vocabulary
-finished W none = accept W
-finished W (some k) = refuse 6 k
+-- Line 6: a kind without complete situations.
+abbrev pub line6 : Vocabulary → Option ℕ → Reading Vocabulary
+line6 W none = accept W
+line6 W (some k) = refuse 6 k
 
-abbrev pub lastChecks : List ℕ → ℕ → Got (List Word) → Reading Vocabulary
-lastChecks b k (stop n r) = refuse n (offset b r)
-lastChecks b k (got ws (x ∷ r)) = refuse 5 (offset b (x ∷ r))
-lastChecks b k (got ws []) =
+-- Lines 5 and 6, once the records are read: bytes that follow, then line 6.
+abbrev pub lines5and6 : List ℕ → ℕ → Got (List Word) → Reading Vocabulary
+lines5and6 b k (stop n r) = refuse n (offset b r)
+lines5and6 b k (got ws (x ∷ r)) = refuse 5 (offset b (x ∷ r))
+lines5and6 b k (got ws []) =
     let W : Vocabulary = record { kinds = k; words = ws } in
-    finished W (firstEmpty (signature W))
-
--- The number n lies outside low to high.
-abbrev pub outside : ℕ → ℕ → ℕ → Bool
-outside low high n = ltb n low || ltb high n
+    line6 W (firstEmpty (signature W))
 
 abbrev pub readVocabulary : List ℕ → Reading Vocabulary
 readVocabulary [] = refuse 1 0
 readVocabulary (k ∷ []) = refuse 1 0
 readVocabulary (k ∷ n ∷ l) =
-    cond (outside 1 16 k) (refuse 1 0)
-    (cond (outside 1 96 n) (refuse 2 1) (lastChecks (k ∷ n ∷ l) k (readWords k n l)))
+    cond (outside 1 mostKinds k) (refuse 1 0)
+    (cond (outside 1 mostWords n) (refuse 2 1) (lines5and6 (k ∷ n ∷ l) k (readWords k n l)))
 
 pub data Node : Type 0 where
   -- A word, its slots, and the bytes behind its map.
@@ -87,7 +104,6 @@ pub data Node : Type 0 where
   whole : List ℕ → Node
   fault : ℕ → List ℕ → Node
 
--- The name n stood earlier at a place of another kind than s.
 abbrev pub clash : List Occurrence → ℕ → ℕ → Bool
 clash [] n s = false
 clash (o ∷ seen) n s = (eqb (o .name) n && not (eqb (o .sort) s)) || clash seen n s
@@ -96,9 +112,8 @@ abbrev pub isWord : Vocabulary → ℕ → Bool
 isWord W b = ltb b (length (W .words))
 
 abbrev pub isName : ℕ → Bool
-isName b = not (outside 128 191 b)
+isName b = not (outside firstNameByte (firstNameByte + nameCount - 1) b)
 
--- Behind a word f whose map's bytes are those of l.
 abbrev pub mapNode : Vocabulary → ℕ → List ℕ → MapRead → Node
 mapNode W f l (mapMissing r) = fault 9 r
 mapNode W f l (mapGot m r) =
@@ -108,22 +123,20 @@ abbrev pub wordNode : Vocabulary → ℕ → ℕ → List ℕ → Node
 wordNode W s f l = cond (eqb (word W f .result) s) (mapNode W f l (readMap l)) (fault 12 (f ∷ l))
 
 abbrev pub nameNode : ℕ → List Occurrence → ℕ → List ℕ → Node
-nameNode s seen b l = cond (clash seen (b - 128) s) (fault 13 (b ∷ l)) (variable (b - 128) l)
+nameNode s seen b l = cond (clash seen (b - firstNameByte) s) (fault 13 (b ∷ l)) (variable (b - firstNameByte) l)
 
--- What stands where a term of kind s is due. `root` tells whether it is the root, `seen` which names
--- stood earlier, and at which kinds.
+-- `root` tells whether it is the root, `seen` which names stood earlier, and at which kinds.
 abbrev pub node : Vocabulary → Bool → ℕ → List Occurrence → List ℕ → Node
 node W root s seen [] = fault 9 []
 node W root s seen (b ∷ l) =
     cond (isWord W b) (wordNode W s b l)
-    (cond (isName b) (nameNode s seen b l) (cond (root && eqb b 255) (whole l) (fault 11 (b ∷ l))))
+    (cond (isName b) (nameNode s seen b l) (cond (root && eqb b wholeByte) (whole l) (fault 11 (b ∷ l))))
 
--- Where no level is left: any byte is one too many.
+-- A byte that is due is missing, or any byte is one too many.
 abbrev pub atLimit : {A : Type 0} → List ℕ → Got A
 atLimit [] = stop 9 []
 atLimit (b ∷ l) = stop 10 (b ∷ l)
 
--- A term, or the terms of a word's places, with the names seen up to its end.
 pub record Read : Type 0 where
   pub term : Term
   pub seen : List Occurrence
@@ -154,25 +167,24 @@ fromNode reader s seen (variable n r) =
 fromNode reader s seen (whole r) = got (record { term = any; seen = seen }) r
 fromNode reader s seen (fault n r) = stop n r
 
--- A term of kind s, at most `left` levels deep.
 abbrev pub readTerm : Vocabulary → ℕ → Bool → ℕ → List Occurrence → List ℕ → Got Read
 readTerm W zero root s seen l = atLimit l
 readTerm W (suc left) root s seen l = fromNode (readTerm W left false) s seen (node W root s seen l)
 
--- A term with its kind.
 pub record Kinded : Type 0 where
   pub kind : ℕ
   pub term : Term
 
-abbrev pub lastByte : List ℕ → ℕ → Got Read → Reading Kinded
-lastByte b s (stop n r) = refuse n (offset b r)
-lastByte b s (got a []) = accept (record { kind = s; term = a .term })
-lastByte b s (got a (x ∷ r)) = refuse 15 (offset b (x ∷ r))
+-- Line 15: bytes that follow.
+abbrev pub line15 : List ℕ → ℕ → Got Read → Reading Kinded
+line15 b s (stop n r) = refuse n (offset b r)
+line15 b s (got a []) = accept (record { kind = s; term = a .term })
+line15 b s (got a (x ∷ r)) = refuse 15 (offset b (x ∷ r))
 
 abbrev pub readWhole : Vocabulary → ℕ → List ℕ → Reading Kinded
 readWhole W left [] = refuse 7 0
 readWhole W left (s ∷ l) =
-    cond (ltb s (W .kinds)) (lastByte (s ∷ l) s (readTerm W left true s [] l)) (refuse 8 0)
+    cond (ltb s (W .kinds)) (line15 (s ∷ l) s (readTerm W left true s [] l)) (refuse 8 0)
 
 -- A level takes a byte at least, so a term has no more levels than bytes.
 abbrev pub readAny : Vocabulary → List ℕ → Reading Kinded

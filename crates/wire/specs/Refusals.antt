@@ -1,19 +1,19 @@
 -- Refusals: what it means that the refusal list decides on a number.
 --
---   rank n               lines of one rank are told apart by their bytes
---   Sooner n q m r       number n at place q comes before number m at place r
---   Decides Line n q     of all lines that fit, n at q is the one that is given
---   RefusesBy            a reading refuses with a number exactly where its line decides
+--   rank n                 lines of one rank are told apart by their bytes
+--   Sooner n q m r         number n at place q comes before number m at place r, or is the same
+--   Decides Line n q       of all lines that fit, n at q is the one that is given
+--   RefusesBy Line r       the reading r refuses with a number exactly where its line decides, and some
+--                          line fits exactly where it accepts nothing
 --
 -- `Line n q` says that the line of number n fits the input at the place q.
 --
 use mathlib.Core.Path.{_≡_}
-use mathlib.Core.Bool.{true, false, cond}
+use mathlib.Core.Bool.{cond}
 use mathlib.Core.Logic.{_↔_, _⊎_}
 use Prim.Native.Nat.{ℕ, _<_, _≤_}
 use lib.Dec.{eqb}
-use Rattle.wire.specs.Reply.{Reading, accept, refuse}
-use Rattle.wire.specs.Reading.{outside}
+use Rattle.wire.specs.Reply.{Reading, accept, refuse, outside}
 
 -- "between 3 and 4 the earlier byte decides"; "for 9 to 14 the earliest byte decides".
 abbrev pub rank : ℕ → ℕ

@@ -2,25 +2,28 @@
 --
 --   Due                     what is due: a term of a kind, at a level, perhaps the root
 --   State                   what is due from some byte on, lowest place first, and the names seen
---   Step W s t              the byte at state s begins a word or name that is in order, or is a 255: then state t
---   Reached W b s           the bytes b lead to state s
---   NodeLine W s n q        line n, of 9 to 14, fits at state s and place q
+--   dueAt level ks          what is due for the written places among ks, each at that level
+--   Word? W b               the byte b is a word's number
+--   Name? b n               the byte b is the name n
+--   Clash seen n s          the name n stood earlier at a place of another kind than s
+--   Step W x y              the byte at state x begins a word or name that is in order, or is a 255: then state y
+--   start s l               the state behind the kind byte s, before the bytes l
+--   LeadsTo W s l x         from there the bytes l lead to state x
+--   NodeLine W x d n q      line n, of 9 to 14, fits at state x, where d is due, and place q
 --   TermLine W b n q        line n fits the bytes b at the place q
 --   TermRefusals            checkedTerm refuses by these lines
 --
 use mathlib.Core.Path.{_≡_}
 use mathlib.Core.Bool.{Bool, true, false}
 use mathlib.Core.List.{List, [], _∷_, _++_, List·Memᴰ}
-use mathlib.Core.Logic.{_⊎_}
 use Prim.Native.Nat.{ℕ, suc, _+_, _<_, _≤_}
 use lib.ListN.{length}
 use Rattle.terms.specs.Term.{Occurrence}
-use Rattle.wire.specs.Reply.{IsBytes}
 use Rattle.wire.specs.Map.{mapBytes, readMap, flags, within, Slot, slots}
 use Rattle.wire.specs.Map.MapRead.{got as mapGot, missing as mapMissing}
-use Rattle.wire.specs.Vocabulary.{Vocabulary, Sound, word, mapOf}
-use Rattle.wire.specs.Written.{nameByte}
-use Rattle.wire.specs.Checks.{mostBytes, mostLevels, checkedTerm}
+use Rattle.wire.specs.Vocabulary.{Vocabulary, InOrder, word, mapOf}
+use Rattle.wire.specs.Written.{nameCount, nameByte, wholeByte}
+use Rattle.wire.specs.Checks.{leastBytes, mostBytes, mostLevels, checkedTerm}
 use Rattle.wire.specs.Refusals.{RefusesBy}
 use Rattle.wire.specs.VocabularyLines.{Outside}
 
@@ -36,7 +39,6 @@ pub record State : Type 0 where
   pub at : ℕ
   pub rest : List ℕ
 
--- The written places of a word, each a level below it.
 abbrev pub dueAt : ℕ → List Slot → List Due
 dueAt level [] = []
 dueAt level (k ∷ ks) =
@@ -45,12 +47,11 @@ dueAt level (k ∷ ks) =
       | false ↦ dueAt level ks
     ]
 
--- A word's number, a name's byte.
 abbrev pub Word? : Vocabulary → ℕ → Type 0
 Word? W b = b < length (W .words)
 
 abbrev pub Name? : ℕ → ℕ → Type 0
-Name? b n = (n < 64) × (b ≡ nameByte n)
+Name? b n = (n < nameCount) × (b ≡ nameByte n)
 
 -- "The name stood earlier at a place of another kind."
 abbrev pub Clash : List Occurrence → ℕ → ℕ → Type 0
@@ -72,16 +73,16 @@ pub data Step (W : Vocabulary) : State → State → Type 0 where
   onWhole : {d : Due} {ds : List Due} {seen : List Occurrence} {at : ℕ} (l : List ℕ) →
       d .level ≤ mostLevels → d .root ≡ true →
       Step W
-      (record { due = d ∷ ds; seen = seen; at = at; rest = 255 ∷ l })
+      (record { due = d ∷ ds; seen = seen; at = at; rest = wholeByte ∷ l })
       (record { due = ds; seen = seen; at = at + 1; rest = l })
 
 -- "its kind, then one term": behind the kind byte s a term of kind s is due.
 abbrev pub start : ℕ → List ℕ → State
 start s l = record { due = record { sort = s; level = 1; root = true } ∷ []; seen = []; at = 1; rest = l }
 
-pub data Reached (W : Vocabulary) (s : ℕ) (l : List ℕ) : State → Type 0 where
-  here : Reached W s l (start s l)
-  next : {x y : State} → Reached W s l x → Step W x y → Reached W s l y
+pub data LeadsTo (W : Vocabulary) (s : ℕ) (l : List ℕ) : State → Type 0 where
+  here : LeadsTo W s l (start s l)
+  next : {x y : State} → LeadsTo W s l x → Step W x y → LeadsTo W s l y
 
 pub data NodeLine (W : Vocabulary) (x : State) (d : Due) : ℕ → ℕ → Type 0 where
   -- 9. "The term ends where a byte is due": a term's first byte, or a word's map.
@@ -92,7 +93,7 @@ pub data NodeLine (W : Vocabulary) (x : State) (d : Due) : ℕ → ℕ → Type 
   deep : (b : ℕ) (l : List ℕ) → x .rest ≡ b ∷ l → mostLevels < d .level → NodeLine W x d 10 (x .at)
   -- 11. "That byte is no word, no name, nor 255 at the root."
   unknown : (b : ℕ) (l : List ℕ) → x .rest ≡ b ∷ l → (Word? W b → ⊥) → ((n : ℕ) → Name? b n → ⊥) →
-      ((b ≡ 255) × (d .root ≡ true) → ⊥) → NodeLine W x d 11 (x .at)
+      ((b ≡ wholeByte) × (d .root ≡ true) → ⊥) → NodeLine W x d 11 (x .at)
   -- 12. "The word's result kind differs from the kind due there."
   differs : (f : ℕ) (l : List ℕ) → x .rest ≡ f ∷ l → Word? W f → (word W f .result ≡ d .sort → ⊥) →
       NodeLine W x d 12 (x .at)
@@ -104,16 +105,16 @@ pub data NodeLine (W : Vocabulary) (x : State) (d : Due) : ℕ → ℕ → Type 
 
 pub data TermLine (W : Vocabulary) (b : List ℕ) : ℕ → ℕ → Type 0 where
   -- 7. "The term has fewer than 2 or more than 4,096 bytes (place 0)."
-  size : Outside 2 mostBytes (length b) → TermLine W b 7 0
+  size : Outside leastBytes mostBytes (length b) → TermLine W b 7 0
   -- 8. "Its first byte is not below the kind count."
   kind : (s : ℕ) (l : List ℕ) → b ≡ s ∷ l → W .kinds ≤ s → TermLine W b 8 0
   -- 9 to 14, at a byte to which the term leads.
-  inside : (s : ℕ) (l : List ℕ) (x : State) (d : Due) (ds : List Due) (n q : ℕ) → b ≡ s ∷ l → Reached W s l x →
+  inside : (s : ℕ) (l : List ℕ) (x : State) (d : Due) (ds : List Due) (n q : ℕ) → b ≡ s ∷ l → LeadsTo W s l x →
       x .due ≡ d ∷ ds → NodeLine W x d n q → TermLine W b n q
   -- 15. "Bytes follow the term (the first of them)."
-  more : (s : ℕ) (l : List ℕ) (x : State) (c : ℕ) (r : List ℕ) → b ≡ s ∷ l → Reached W s l x →
+  more : (s : ℕ) (l : List ℕ) (x : State) (c : ℕ) (r : List ℕ) → b ≡ s ∷ l → LeadsTo W s l x →
       x .due ≡ [] → x .rest ≡ c ∷ r → TermLine W b 15 (x .at)
 
 abbrev pub TermRefusals : Type 0
 TermRefusals =
-    (W : Vocabulary) (b : List ℕ) → Sound W → IsBytes b → RefusesBy (TermLine W b) (checkedTerm W b)
+    (W : Vocabulary) (b : List ℕ) → InOrder W → RefusesBy (TermLine W b) (checkedTerm W b)

@@ -1,14 +1,17 @@
 -- VocabularyLines: lines 1 to 6 of the refusal list, each a predicate on the bytes of a vocabulary.
 --
 --   byteAt b i                the byte at offset i
+--   mapIn m                   the map that was read as m; 0 where the bytes end first
+--   placesOf b i              how many places the map of the record at offset i says that it has
 --   recordAt b w              the offset of word w's record
---   placesAt b w              how many places its map says that it has
+--   wordsOf b                 the word count
 --   KindByte b q              a record's kind byte is due at offset q
+--   Outside low high n        the number n lies outside low to high
 --   VocabularyLine b n q      line n fits the bytes b at the place q
 --   VocabularyRefusals        readVocabulary refuses by these lines
 --
 use mathlib.Core.Path.{_≡_}
-use mathlib.Core.List.{List}
+use mathlib.Core.List.{List, _++_}
 use mathlib.Core.Logic.{_⊎_}
 use Prim.Native.Nat.{ℕ, zero, suc, _+_, _<_, _≤_}
 use lib.ListN.{length, getD, drop}
@@ -16,20 +19,18 @@ use Rattle.terms.specs.Inhabited.{LeastEmpty}
 use Rattle.wire.specs.Reply.{IsBytes}
 use Rattle.wire.specs.Map.{mapBytes, MapRead, readMap, flags, ones}
 use Rattle.wire.specs.Map.MapRead.{got as mapGot, missing as mapMissing}
-use Rattle.wire.specs.Vocabulary.{Vocabulary, signature, Sound, encodeVocabulary}
+use Rattle.wire.specs.Vocabulary.{Vocabulary, signature, mostKinds, mostWords, InOrder, encodeVocabulary}
 use Rattle.wire.specs.Reading.{readVocabulary}
 use Rattle.wire.specs.Refusals.{RefusesBy}
 
 abbrev pub byteAt : List ℕ → ℕ → ℕ
 byteAt b i = getD b i 0
 
--- The map that begins some bytes; 0 where they end first.
 abbrev pub mapIn : MapRead → ℕ
 mapIn (mapGot m l) = m
 mapIn (mapMissing l) = 0
 
--- The places of the record at offset i: "one byte result kind, one byte place map, then one kind byte
--- for each standing bit of the map".
+-- "one byte result kind, one byte place map, then one kind byte for each standing bit of the map".
 abbrev pub placesOf : List ℕ → ℕ → ℕ
 placesOf b i = ones (flags (mapIn (readMap (drop (i + 1) b))))
 
@@ -46,23 +47,22 @@ pub data KindByte (b : List ℕ) : ℕ → Type 0 where
   ofResult : (w : ℕ) → w < wordsOf b → KindByte b (recordAt b w)
   ofPlace : (w j : ℕ) → w < wordsOf b → j < placesOf b (recordAt b w) → KindByte b (recordAt b w + 1 + mapBytes + j)
 
--- "outside" a range of numbers.
 abbrev pub Outside : ℕ → ℕ → ℕ → Type 0
 Outside low high n = (n < low) ⊎ (high < n)
 
 pub data VocabularyLine (b : List ℕ) : ℕ → ℕ → Type 0 where
   -- 1. "The vocabulary has fewer than 2 bytes or a kind count outside 1 to 16 (place 0)."
-  head : (length b < 2) ⊎ Outside 1 16 (byteAt b 0) → VocabularyLine b 1 0
+  head : (length b < 2) ⊎ Outside 1 mostKinds (byteAt b 0) → VocabularyLine b 1 0
   -- 2. "The word count is outside 1 to 96."
-  count : Outside 1 96 (byteAt b 1) → VocabularyLine b 2 1
+  count : 2 ≤ length b → Outside 1 mostWords (byteAt b 1) → VocabularyLine b 2 1
   -- 3. "The vocabulary ends where a record's byte is due."
-  ends : length b < recordAt b (wordsOf b) → VocabularyLine b 3 (length b)
+  ends : 2 ≤ length b → length b < recordAt b (wordsOf b) → VocabularyLine b 3 (length b)
   -- 4. "A record's result kind or place's kind is not below the kind count".
   kind : (q : ℕ) → KindByte b q → q < length b → byteAt b 0 ≤ byteAt b q → VocabularyLine b 4 q
   -- 5. "Bytes follow the last record (the first of them)."
   more : recordAt b (wordsOf b) < length b → VocabularyLine b 5 (recordAt b (wordsOf b))
-  -- 6. "A kind has no complete situation (place: the lowest such kind)."
-  empty : (W : Vocabulary) (k : ℕ) → Sound W → b ≡ encodeVocabulary W → LeastEmpty (signature W) k → VocabularyLine b 6 k
+  -- 6. "A kind has no complete situation (place: the lowest such kind)." Bytes r may follow: 5 then comes first.
+  empty : (W : Vocabulary) (r : List ℕ) (k : ℕ) → InOrder W → b ≡ encodeVocabulary W ++ r → LeastEmpty (signature W) k → VocabularyLine b 6 k
 
 abbrev pub VocabularyRefusals : Type 0
 VocabularyRefusals = (b : List ℕ) → IsBytes b → RefusesBy (VocabularyLine b) (readVocabulary b)

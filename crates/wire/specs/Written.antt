@@ -1,16 +1,27 @@
 -- Written: document 01's "Term bytes": how a term is written, and what is counted in it.
 --
---   encodeTerm W s t     the bytes of the term t of kind s
---   GoodTerm W s t       document 01's terms of kind s, of any size and depth
---   wordCount t          its number of words (names not counted)
---   deepest t            its deepest level
---   complete t           it has no name and no open place (nor a 255)
---   ground t             the ground term that a complete term is
---   asTerm g             a ground term as a term
---   firstGap W t         the place of its first name, 255 or short map (document 01, line 16)
---   firstAt W t n        the place where the name n first stands
+--   nameCount, firstNameByte        how many names there are (64), and the byte of name 0 (128)
+--   nameByte n                      the byte of the name n
+--   wholeByte                       the byte of an open place at the root (255)
+--   writtenMap W f ts               the written map of the word f with the terms ts at its places
+--   encodeAt W t, encodeAll W ts    the bytes of the term t below the root, of the terms ts at a word's places
+--   encodeRoot W t                  the bytes of the term t at the root
+--   encodeTerm W s t                the bytes of the term t of kind s, kind byte first
+--   GoodTerm W s t                  document 01's terms of kind s, of any size and depth
+--   wordCount t, wordCountAll ts    the number of words (names not counted)
+--   levels t, levelsAll ts          how many levels the term t, or the terms ts, take
+--   deepest t                       the deepest level of the term t at the root
+--   complete t, completeAll ts      there is no name and no open place (nor a 255)
+--   asTerm g, asTerms gs            a ground term as a term, ground terms as terms
+--   ground t, grounds ts            the ground term that a complete term is, and the ground terms
+--   someOpen ts                     one of ts is an open place
+--   orElse o p                      the first of two places that may be missing
+--   gapFrom W t at, gapAll W ts at  the first gap of what begins at the offset `at`
+--   firstGap W t                    the place of its first name, 255 or short map (document 01, line 16)
+--   nameOffsetFrom W t n at, nameOffsetAll W ts n at   where the name n first stands in what begins at the offset `at`
+--   nameOffset W t n                where the name n first stands in the term t
 --
-use mathlib.Core.Bool.{Bool, true, false, not, _&&_, _||_, cond}
+use mathlib.Core.Bool.{Bool, true, false, _&&_, _||_, cond}
 use mathlib.Core.List.{List, [], _∷_, _++_}
 use mathlib.Core.Option.{Option, some, none}
 use Prim.Native.Nat.{ℕ, suc, _+_, _<_, max}
@@ -22,10 +33,19 @@ use Rattle.wire.specs.Map.{mapBytes, writeMap, flags, number, isOpen, wr
 use Rattle.wire.specs.Vocabulary.{Vocabulary, signature, mapOf}
 
 -- "one byte 128 to 191, for names 0 to 63".
-abbrev pub nameByte : ℕ → ℕ
-nameByte n = 128 + n
+abbrev pub nameCount : ℕ
+nameCount = 64
 
--- The written map of a word at its terms.
+abbrev pub firstNameByte : ℕ
+firstNameByte = 128
+
+abbrev pub nameByte : ℕ → ℕ
+nameByte n = firstNameByte + n
+
+-- "255, at the root only: any situation of the kind."
+abbrev pub wholeByte : ℕ
+wholeByte = 255
+
 abbrev pub writtenMap : Vocabulary → ℕ → Terms → ℕ
 writtenMap W f ts = number (writtenFlags (flags (mapOf W f)) ts)
 
@@ -40,9 +60,8 @@ abbrev mutual
   encodeAll W nil = []
   encodeAll W (cons t ts) = encodeAt W t ++ encodeAll W ts
 
--- "255, at the root only: any situation of the kind."
 abbrev pub encodeRoot : Vocabulary → Term → List ℕ
-encodeRoot W any = 255 ∷ []
+encodeRoot W any = wholeByte ∷ []
 encodeRoot W (var n) = encodeAt W (var n)
 encodeRoot W (app f ts) = encodeAt W (app f ts)
 
@@ -53,7 +72,7 @@ encodeTerm W s t = s ∷ encodeRoot W t
 pub record GoodTerm (W : Vocabulary) (s : ℕ) (t : Term) : Type 0 where
   pub kind : s < W .kinds
   pub sorted : WellSorted (signature W) t s
-  pub named : All (λ n. n < 64) (names t)
+  pub named : All (λ n. n < nameCount) (names t)
 
 abbrev mutual
   pub wordCount : Term → ℕ
@@ -113,12 +132,11 @@ abbrev pub someOpen : Terms → Bool
 someOpen nil = false
 someOpen (cons t ts) = isOpen t || someOpen ts
 
--- The first of two places that may be missing.
 abbrev pub orElse : Option ℕ → Option ℕ → Option ℕ
 orElse (some q) o = some q
 orElse none o = o
 
--- The first gap of a term that begins at an offset. An open place is its word's gap, not its own.
+-- An open place is its word's gap, not its own.
 abbrev mutual
   pub gapFrom : Vocabulary → Term → ℕ → Option ℕ
   gapFrom W any at = none
@@ -136,14 +154,14 @@ firstGap W (var n) = gapFrom W (var n) 1
 firstGap W (app f ts) = gapFrom W (app f ts) 1
 
 abbrev mutual
-  pub nameFrom : Vocabulary → Term → ℕ → ℕ → Option ℕ
-  nameFrom W any n at = none
-  nameFrom W (var m) n at = cond (eqb n m) (some at) none
-  nameFrom W (app f ts) n at = nameAll W ts n (at + 1 + mapBytes)
+  pub nameOffsetFrom : Vocabulary → Term → ℕ → ℕ → Option ℕ
+  nameOffsetFrom W any n at = none
+  nameOffsetFrom W (var m) n at = cond (eqb n m) (some at) none
+  nameOffsetFrom W (app f ts) n at = nameOffsetAll W ts n (at + 1 + mapBytes)
 
-  pub nameAll : Vocabulary → Terms → ℕ → ℕ → Option ℕ
-  nameAll W nil n at = none
-  nameAll W (cons t ts) n at = orElse (nameFrom W t n at) (nameAll W ts n (at + length (encodeAt W t)))
+  pub nameOffsetAll : Vocabulary → Terms → ℕ → ℕ → Option ℕ
+  nameOffsetAll W nil n at = none
+  nameOffsetAll W (cons t ts) n at = orElse (nameOffsetFrom W t n at) (nameOffsetAll W ts n (at + length (encodeAt W t)))
 
-abbrev pub firstAt : Vocabulary → Term → ℕ → Option ℕ
-firstAt W t n = nameFrom W t n 1
+abbrev pub nameOffset : Vocabulary → Term → ℕ → Option ℕ
+nameOffset W t n = nameOffsetFrom W t n 1
