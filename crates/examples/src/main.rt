@@ -1,4 +1,4 @@
-// Runs the checks of the crate `calls` on cases of document 01 and at its boundaries, and prints a line
+// Runs the checks on cases of document 01 and at its boundaries, and prints a line
 // a case: its label, and the reply in document 01's numbers. tools/expected.py says what it must print.
 mod long;
 mod say;

@@ -1,8 +1,8 @@
 // A reply as text, in document 01's numbers.
-use calls::TermAnswer;
-use calls::TermRefusal;
-use calls::VocabularyAnswer;
-use calls::VocabularyRefusal;
+use reader::TermAnswer;
+use reader::TermRefusal;
+use signature::VocabularyAnswer;
+use signature::VocabularyRefusal;
 use libc::STDOUT_FILENO;
 
 pub(crate) fn text(bytes: &[u8]) {
@@ -61,7 +61,7 @@ pub(crate) fn vocabulary(label: &[u8], vocabulary: &[u8]) {
     text(b"vocabulary, ");
     text(label);
     text(b": ");
-    match calls::check_vocabulary(vocabulary) {
+    match signature::check_vocabulary(vocabulary) {
         VocabularyAnswer::Accepted => text(b"accepted\n"),
         VocabularyAnswer::Refused(why) => vocabulary_refused(why),
     }
@@ -74,7 +74,7 @@ pub(crate) fn term(name: &[u8], vocabulary: &[u8], label: &[u8], term: &[u8]) {
     text(b", ");
     text(label);
     text(b": ");
-    match calls::check_term(vocabulary, term) {
+    match reader::check_term(vocabulary, term) {
         TermAnswer::Accepted(words, deepest) => term_accepted(words, deepest),
         TermAnswer::Vocabulary(why) => vocabulary_refused(why),
         TermAnswer::Term(why) => term_refused(why),

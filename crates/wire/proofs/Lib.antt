@@ -30,11 +30,21 @@ pub mod Limits
 pub mod Complete
 pub mod FullMap
 pub mod Entries
+pub mod Front
+pub mod Gaps
 -- On terms: refusing them.
 pub mod Scan
 pub mod NodeLines
 pub mod ScanPath
 pub mod TermRefusals
+pub mod SituationRefusals
+-- On matching.
+pub mod GroundBytes
+pub mod Inputs
+pub mod Pending
+pub mod Spans
+pub mod SpanTable
+pub mod Matching
 -- All of it.
 pub mod Starred
 pub mod Theorems

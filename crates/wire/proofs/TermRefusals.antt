@@ -22,7 +22,7 @@ use Rattle.wire.proofs.Refusals.{refuses-one, refuses-none}
 use Rattle.wire.proofs.Scan.{Tally, run, tallied, scan-reads}
 use Rattle.wire.proofs.ScanPath.{scanned, leads-to-path, line-stops, EndsStuck, EndsDone, path-ends}
 
-node-rank : (W : Vocabulary) (x : State) (d : Due) {n q : ℕ} → NodeLine W x d n q → rank n ≡ 9
+pub node-rank : (W : Vocabulary) (x : State) (d : Due) {n q : ℕ} → NodeLine W x d n q → rank n ≡ 9
 node-rank W x d (NodeLine.ends e) = refl
 node-rank W x d (NodeLine.endsInMap f l r e h k) = refl
 node-rank W x d (NodeLine.deep b l e h) = refl

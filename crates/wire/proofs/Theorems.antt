@@ -10,6 +10,10 @@
 --   entries-are-good         each entry of a good linear pattern is one, and is never longer than the pattern
 --   vocabulary-refusals      a vocabulary is refused exactly by lines 1 to 6 of the refusal list
 --   term-refusals            a term is refused exactly by lines 7 to 15 of the refusal list
+--   first-gap-is-exact       firstGap gives the first gap of a good term, where there is one
+--   situation-refusals       a situation is refused exactly by lines 7 to 17 of the refusal list
+--   match-keeps              the definitions of match's reply and table keep what match promises
+--   part-keeps               the definition of part's reply keeps what part promises
 --   starred-hold             every starred case has the reply that document 01 gives
 --
 use Rattle.wire.specs.Vocabulary.{InOrderIsWellFormed}
@@ -18,6 +22,8 @@ use Rattle.wire.specs.Complete.{CompleteIsGround, NoGapIsComplete, FullM
 use Rattle.wire.specs.Entries.{EntriesAreGood}
 use Rattle.wire.specs.VocabularyLines.{VocabularyRefusals}
 use Rattle.wire.specs.TermLines.{TermRefusals}
+use Rattle.wire.specs.Situation.{FirstGapIsExact, SituationRefusals}
+use Rattle.wire.specs.Matching.{MatchKeeps, PartKeeps}
 use Rattle.wire.specs.Starred.{StarredHold}
 
 pub in-order-is-well-formed : InOrderIsWellFormed
@@ -49,6 +55,18 @@ vocabulary-refusals = Rattle.wire.proofs.VocabularyRefusals.vocabulary-
 
 pub term-refusals : TermRefusals
 term-refusals = Rattle.wire.proofs.TermRefusals.term-refusals
+
+pub first-gap-is-exact : FirstGapIsExact
+first-gap-is-exact = Rattle.wire.proofs.Gaps.first-gap-is-exact
+
+pub situation-refusals : SituationRefusals
+situation-refusals = Rattle.wire.proofs.SituationRefusals.situation-refusals
+
+pub match-keeps : MatchKeeps
+match-keeps = Rattle.wire.proofs.Matching.match-keeps
+
+pub part-keeps : PartKeeps
+part-keeps = Rattle.wire.proofs.Matching.part-keeps
 
 pub starred-hold : StarredHold
 starred-hold = Rattle.wire.proofs.Starred.starred-hold

@@ -11,4 +11,6 @@ pub mod Entries
 pub mod Refusals
 pub mod VocabularyLines
 pub mod TermLines
+pub mod Situation
+pub mod Matching
 pub mod Starred

@@ -1,0 +1,69 @@
+-- The replies behind a whole term, at the deepest level and for what is wrong at a place.
+use mathlib.Core.Path.{_≡_, refl, sym, ap, _∙_}
+use mathlib.Core.List.{List, [], _∷_}
+use Prim.Native.Nat.{ℕ, suc, _+_, _-_, _<_, _≤_}
+use native.Mathlib.Omega.{arith}
+use lib.ListN.{length, getD, drop, length-drop, drop-of-length-le}
+use lib.Seq.{drop-cons, drop-drop}
+use Rattle.wire.specs.Reply.{accepted, refused, replyOf}
+use Rattle.wire.specs.Reading.{Got, got, stop, Read, offset, atLimit, line15}
+use Rattle.wire.specs.Checks.{termValues}
+use Rattle.wire.proofs.Bytes.{offset-drop}
+use Rattle.wire.proofs.Scan.{Tally, tallied}
+use Rattle.reader.specs.Answers.{termNumbers}
+use Rattle.reader.specs.Nodes.{numberOf, placeOf, PlaceInside, answerOf}
+use Rattle.reader.specs.declared.TermRefusal.{TermRefusal}
+use Rattle.reader.specs.declared.TermRefusal.the-variants as T
+use Rattle.reader.specs.declared.TermAnswer.the-variants as A
+
+module _ (t : List ℕ) (at : ℕ) where
+  -- The offset of a rest that is not empty.
+  offset-rest : at < length t → offset t (getD t at 0 ∷ drop (suc at) t) ≡ at
+  offset-rest h = ap (offset t) (sym (drop-cons t at 0 h)) ∙ offset-drop t (drop at t) at refl (omega arith)
+
+  pub answer-continues : (y : Tally) → at < length t → refused 15 1 at ≡ answerOf t (got y (drop at t))
+  answer-continues y h = ap (refused 15 1) (sym (offset-rest h)) ∙ ap (λ l. answerOf t (got y l)) (sym (drop-cons t at 0 h))
+
+  pub answer-whole : (y : Tally) → length t ≤ at → accepted (y .words ∷ y .deepest ∷ []) ≡ answerOf t (got y (drop at t))
+  answer-whole y h = ap (λ l. answerOf t (got y l)) (sym (drop-of-length-le t h))
+
+  pub answer-deep : at < length t → refused 10 1 at ≡ answerOf t (atLimit (drop at t))
+  answer-deep h = ap (refused 10 1) (sym (offset-rest h)) ∙ ap (λ l. answerOf t (atLimit l)) (sym (drop-cons t at 0 h))
+
+  pub answer-ends : at ≤ length t → length t ≤ at → refused 9 1 at ≡ answerOf t (atLimit (drop at t))
+  answer-ends h g =
+      let same : at ≡ offset t [] = omega arith in
+      ap (refused 9 1) same ∙ ap (λ l. answerOf t (atLimit l)) (sym (drop-of-length-le t g))
+
+  -- What is wrong at the rest's first byte, or where it ends.
+  pub answer-here : (k : ℕ) → at ≤ length t → refused k 1 at ≡ answerOf t (stop k (drop at t))
+  answer-here k h = ap (refused k 1) (sym (offset-drop t (drop at t) at refl h))
+
+refusal-reply : (why : TermRefusal) → termNumbers (A.Term why) ≡ refused (numberOf why) 1 (placeOf why)
+refusal-reply T.Size = refl
+refusal-reply T.NoSuchKind = refl
+refusal-reply (T.Ends q) = refl
+refusal-reply (T.TooDeep q) = refl
+refusal-reply (T.NoWordOrName q) = refl
+refusal-reply (T.WrongKind q) = refl
+refusal-reply (T.Clashes q) = refl
+refusal-reply (T.StrayBit q) = refl
+refusal-reply (T.Continues q) = refl
+
+-- A refusal at a place of the bytes from an offset on.
+pub answer-refused : (t : List ℕ) (at : ℕ) (why : TermRefusal) → at ≤ length t → PlaceInside at (drop at t) (placeOf why) →
+    termNumbers (A.Term why) ≡ answerOf t (stop (numberOf why) (drop (placeOf why - at) (drop at t)))
+answer-refused t at why h i =
+    let q : ℕ = placeOf why in
+    let from = i .from in
+    let upTo = i .upTo in
+    let before : at + (q - at) ≡ q = omega arith in
+    refusal-reply why
+    ∙ ap (refused (numberOf why) 1) (sym (offset-drop t (drop q t) q refl (omega (arith, length-drop at t))))
+    ∙ ap (λ l. refused (numberOf why) 1 (offset t l)) (sym (drop-drop (q - at) at t ∙ ap (λ n. drop n t) before))
+
+-- The reply for a term that readTerm reads is that of its tally.
+pub answer-read : (b : List ℕ) (s : ℕ) (x : Got Read) → replyOf 1 termValues (line15 b s x) ≡ answerOf b (tallied x)
+answer-read b s (stop n r) = refl
+answer-read b s (got a []) = refl
+answer-read b s (got a (c ∷ r)) = refl

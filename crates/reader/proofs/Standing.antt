@@ -1,0 +1,98 @@
+-- What the functions that read a node answer, case by case.
+use mathlib.Core.Path.{_≡_, refl, sym, ap, subst, subst₂, _∙_}
+use mathlib.Core.Bool.{false}
+use mathlib.Core.List.{List, []}
+use Prim.Native.Nat.{ℕ, _+_, _-_, _<_, _≤_}
+use native.Mathlib.Omega.{arith}
+use lib.Bits.{bitAnd}
+use lib.ListN.{length, getD, take, drop, length-drop, drop-of-length-le}
+use lib.Seq.{take-all}
+use Rattle.wire.specs.Map.{flags, within}
+use Rattle.wire.specs.Vocabulary.{Vocabulary}
+use Rattle.wire.specs.Reading.{variable, fault, node}
+use Rattle.reader.specs.Nodes.{Tabled, nodeOf, Inside, NodeAt, WordAt}
+use Rattle.reader.specs.declared.TermRefusal.the-variants as T
+use Rattle.reader.specs.declared.term.Node.{Node as Answer}
+use Rattle.reader.specs.declared.term.Node.the-variants.{Word, Name, Fault}
+use Rattle.reader.proofs.Nodes.{within-and, within-not, node-ends, node-differs, node-short, node-stray, node-word, node-name, node-unknown}
+
+-- A fault k at a place, of bytes that begin at an offset.
+fault-at : (k at q n : ℕ) (rest : List ℕ) → n ≡ q - at → fault k (drop n rest) ≡ fault k (drop (q - at) rest)
+fault-at k at q n rest e = ap (λ n. fault k (drop n rest)) e
+
+module _ (f result map s at : ℕ) (rest : List ℕ) (some : 0 < length rest) (first : getD rest 0 0 ≡ f) where
+  pub word-differs : (result ≡ s → ⊥) → WordAt f result map s at rest (Fault (T.WrongKind at))
+  word-differs d = subst (λ f. WordAt f result map s at rest (Fault (T.WrongKind at))) first (record {
+    inside = λ n maps k e. record { from = omega arith; upTo = omega arith };
+    same = λ W k r m. node-differs W s rest some k (λ e. d (r ∙ e)) ∙ fault-at 12 at at 0 rest (omega arith);
+  })
+
+  pub word-ends : result ≡ s → length rest < 2 → WordAt f result map s at rest (Fault (T.Ends (at + 1)))
+  word-ends d h = subst (λ f. WordAt f result map s at rest (Fault (T.Ends (at + 1)))) first (record {
+    inside = λ n maps k e. record { from = omega arith; upTo = omega arith };
+    same = λ W k r m. node-short W s rest some h k (sym r ∙ d) ∙ fault-at 9 at (at + 1) 1 rest (omega arith);
+  })
+
+  pub word-stray : result ≡ s → 2 ≤ length rest → getD rest 1 0 < 256 → (bitAnd (getD rest 1 0) map ≡ getD rest 1 0 → ⊥) →
+      WordAt f result map s at rest (Fault (T.StrayBit (at + 1)))
+  word-stray d h small w = subst (λ f. WordAt f result map s at rest (Fault (T.StrayBit (at + 1)))) first (record {
+    inside = λ n maps k e. record { from = omega arith; upTo = omega arith };
+    same = λ W k r m.
+        node-stray W s rest h k (sym r ∙ d) (ap (λ p. within (flags (getD rest 1 0)) (flags p)) (sym m) ∙ within-not (getD rest 1 0) map small w)
+        ∙ fault-at 14 at (at + 1) 1 rest (omega arith);
+  })
+
+  pub word-stands : result ≡ s → 2 ≤ length rest → getD rest 1 0 < 256 → bitAnd (getD rest 1 0) map ≡ getD rest 1 0 →
+      WordAt f result map s at rest (Word f (getD rest 1 0))
+  word-stands d h small w = subst (λ f. WordAt f result map s at rest (Word f (getD rest 1 0))) first (record {
+    inside = λ n maps k e. record { known = k; long = h; within = ap (bitAnd (getD rest 1 0)) e ∙ w };
+    same = λ W k r m.
+        node-word W s rest h k (sym r ∙ d) (ap (λ p. within (flags (getD rest 1 0)) (flags p)) (sym m) ∙ within-and 8 (getD rest 1 0) map small w);
+  })
+
+module _ (n : ℕ) (results maps : List ℕ) (s at : ℕ) (rest : List ℕ) where
+  pub at-ends : length rest ≡ 0 → NodeAt n results maps s at rest (Fault (T.Ends at))
+  at-ends h = record {
+    inside = record { from = omega arith; upTo = omega arith };
+    same = λ W t. node-ends W s rest h ∙ ap (fault 9) (sym (drop-of-length-le rest {i = at - at} (omega arith)));
+  }
+
+  pub at-word : (b : ℕ) (x : Answer) → b < n → WordAt b (getD results b 0) (getD maps b 0) s at rest x → NodeAt n results maps s at rest x
+  at-word b x h w = record {
+    inside = w .inside n maps h refl;
+    same = λ W t. w .same W (let k = t .words in omega arith) (t .result b h) (t .placeMap b h);
+  }
+
+  pub at-name : (b : ℕ) → b ≡ getD rest 0 0 → 0 < length rest → n ≤ b → 128 ≤ b → b < 192 → NodeAt n results maps s at rest (Name (b - 128))
+  at-name b first some k p q = record {
+    inside = record { known = omega arith; long = omega arith };
+    same = λ W t.
+        node-name W s rest some (let e = t .words in omega arith) (omega arith) (omega arith)
+        ∙ ap (λ b. variable (b - 128) (drop 1 rest)) (sym first);
+  }
+
+  pub at-unknown : (b : ℕ) → b ≡ getD rest 0 0 → 0 < length rest → n ≤ b → (128 ≤ b → b < 192 → ⊥) →
+      NodeAt n results maps s at rest (Fault (T.NoWordOrName at))
+  at-unknown b first some k d = record {
+    inside = record { from = omega arith; upTo = omega arith };
+    same = λ W t.
+        node-unknown W s rest some (let e = t .words in omega arith) (λ p q. d (omega arith) (omega arith))
+        ∙ fault-at 11 at at 0 rest (omega arith);
+  }
+
+-- ---- an answer under a vocabulary
+
+-- The answer y is what stands there under W, no names seen.
+pub record Stood (W : Vocabulary) (n : ℕ) (maps : List ℕ) (s at : ℕ) (rest : List ℕ) (y : Answer) : Type 0 where
+  pub inside : Inside n maps at rest y
+  pub same : node W false s [] rest ≡ nodeOf W at rest y
+
+-- The rest of a term from an offset on, as it is lent.
+rest-whole : (t : List ℕ) (at : ℕ) → take (length t - at) (drop at t) ≡ drop at t
+rest-whole t at = take-all (length t - at) (drop at t) (omega (arith, length-drop at t))
+
+pub stood : (t : List ℕ) {W : Vocabulary} {n : ℕ} {results maps : List ℕ} {s at : ℕ} {x y : Answer} →
+    NodeAt n results maps s at (take (length t - at) (drop at t)) x → Tabled W n results maps → x ≡ y → Stood W n maps s at (drop at t) y
+stood t {W = W} {n = n} {results = results} {maps = maps} {s = s} {at = at} a tables e =
+    let whole = subst₂ (λ rest x. NodeAt n results maps s at rest x) (rest-whole t at) e a in
+    record { inside = whole .inside; same = whole .same W tables }

@@ -1,0 +1,150 @@
+-- Turns: how a turn goes on, by what stands at the place that is due, and that turns come to an end.
+use mathlib.Core.Path.{_≡_, sym, ap, subst, subst₂, _∙_}
+use mathlib.Core.Bool.{true, false}
+use mathlib.Core.List.{List}
+use Prim.Native.Nat.{ℕ, suc, _+_, _-_, _*_, _%_, _<_, _≤_, max}
+use native.Mathlib.Numerals.{add-one}
+use native.Mathlib.Omega.{arith}
+use lib.ListN.{length, getD, drop, set, length-set, length-drop}
+use Rattle.wire.specs.Reply.{refused}
+use Rattle.wire.specs.Map.{flags, slots}
+use Rattle.wire.specs.Vocabulary.{Vocabulary, word, mapOf}
+use Rattle.wire.specs.Reading.{Got, atLimit}
+use Rattle.wire.proofs.Scan.{Tally}
+use Rattle.reader.specs.Answers.{termNumbers}
+use Rattle.reader.specs.Frames.{writtenIn, kindsIn}
+use Rattle.reader.specs.Nodes.{numberOf, placeOf, clashing, answerOf}
+use Rattle.reader.specs.declared.TermRefusal.{TermRefusal}
+use Rattle.reader.specs.declared.TermAnswer.the-variants as A
+use Rattle.reader.specs.declared.term.Node.the-variants.{Word, Name, Fault}
+use Rattle.reader.proofs.Frames.{Shifted, place-written, WordFramed, turnsOf, turns-last}
+use Rattle.reader.proofs.Replies.{answer-here, answer-refused}
+use Rattle.reader.proofs.Standing.{Stood}
+use Rattle.reader.proofs.Scanning.{Scanning, leave, pass, limit, refuse, disagree, name, word as scan-word}
+
+module _ {v t : List ℕ} {W : Vocabulary} {g : Got Tally} {names frames : List ℕ} {depth at count deepest : ℕ}
+    (c : Scanning v t W g names frames depth at count deepest) (some : 0 < depth) where
+  at-top : Scanning v t W g names frames (suc (depth - 1)) at count deepest
+  at-top = subst (λ d. Scanning v t W g names frames d at count deepest) (omega arith) c
+
+  pub turn-leave : writtenIn (getD frames (depth - 1) 0) ≡ 0 → Scanning v t W g names frames (depth - 1) at count deepest
+  turn-leave = leave v t W g names frames at count deepest (depth - 1) at-top
+
+-- A turn that takes the lowest place off the last frame, which is y then.
+pub record Turn (v t : List ℕ) (W : Vocabulary) (g : Got Tally) (names frames : List ℕ) (at count deepest depth y : ℕ) : Type 0 where
+  pub inv : Scanning v t W g names frames depth at count deepest
+  pub some : 0 < depth
+  pub shifted : Shifted (getD frames (depth - 1) 0) y
+
+module _ {v t : List ℕ} {W : Vocabulary} {g : Got Tally} {names frames : List ℕ} {at count deepest depth y : ℕ}
+    (c : Turn v t W g names frames at count deepest depth y) where
+  top : Scanning v t W g names frames (suc (depth - 1)) at count deepest
+  top = at-top (c .inv) (c .some)
+
+  same-depth : suc (depth - 1) ≡ depth
+  same-depth = let some = c .some in omega arith
+
+  pub turn-pass : (getD frames (depth - 1) 0 % 2 ≡ 1 → ⊥) → Scanning v t W g names (set frames (depth - 1) y) depth at count deepest
+  turn-pass h =
+      subst (λ d. Scanning v t W g names (set frames (depth - 1) y) d at count deepest) same-depth
+      (pass v t W g names frames at count deepest (depth - 1) top y (c .shifted) h)
+
+  pub turn-limit : getD frames (depth - 1) 0 % 2 ≡ 1 → 31 < depth → atLimit (drop at t) ≡ g
+  turn-limit odd h = limit v t W g names frames at count deepest (depth - 1) top y (c .shifted) odd (omega (arith, same-depth))
+
+  pub kind-inside : getD frames (depth - 1) 0 % 2 ≡ 1 → kindsIn (getD frames (depth - 1) 0) < length v
+  kind-inside odd = place-written v (getD frames (depth - 1) 0) (top .sound (depth - 1) (omega arith)) odd .1
+
+-- A turn at a written place whose level is allowed.
+pub record Place (v t : List ℕ) (W : Vocabulary) (g : Got Tally) (names frames : List ℕ) (at count deepest depth y : ℕ) : Type 0 where
+  pub turn : Turn v t W g names frames at count deepest depth y
+  pub odd : getD frames (depth - 1) 0 % 2 ≡ 1
+  pub room : depth ≤ 31
+
+-- The kind due at the lowest place of a frame.
+abbrev pub kindDue : List ℕ → ℕ → ℕ
+kindDue v x = getD v (kindsIn x) 0
+
+module _ {v t : List ℕ} {W : Vocabulary} {g : Got Tally} {names frames : List ℕ} {at count deepest depth y : ℕ}
+    (c : Place v t W g names frames at count deepest depth y) where
+  below : suc (depth - 1) < 32
+  below = let room = c .room in omega (arith, same-depth (c .turn))
+
+  deepened : {d : ℕ} → d ≡ max deepest (depth + 1) → max deepest (suc (depth - 1) + 1) ≡ d
+  deepened e = ap (λ k. max deepest (k + 1)) (same-depth (c .turn)) ∙ sym e
+
+  pub place-refused : {why : TermRefusal} {n : ℕ} {maps : List ℕ} → Stood W n maps (kindDue v (getD frames (depth - 1) 0)) at (drop at t) (Fault why) →
+      termNumbers (A.Term why) ≡ answerOf t g
+  place-refused {why} s =
+      answer-refused t at why (c .turn .inv .inside) (s .inside)
+      ∙ ap (answerOf t)
+      (refuse v t W g names frames at count deepest (depth - 1) (top (c .turn)) y (c .turn .shifted) (c .odd) below
+      (numberOf why) (drop (placeOf why - at) (drop at t)) (s .same))
+
+  pub place-clash : {k : ℕ} {n : ℕ} {maps : List ℕ} → Stood W n maps (kindDue v (getD frames (depth - 1) 0)) at (drop at t) (Name k) →
+      clashing (getD names k 0) (kindDue v (getD frames (depth - 1) 0)) ≡ true → refused 13 1 at ≡ answerOf t g
+  place-clash {k} s clashes =
+      answer-here t at 13 (c .turn .inv .inside)
+      ∙ ap (answerOf t)
+      (disagree v t W g names frames at count deepest (depth - 1) (top (c .turn)) y (c .turn .shifted) (c .odd) below
+      k (s .inside .known) (s .same) clashes)
+
+  pub place-name : {k d : ℕ} {n : ℕ} {maps : List ℕ} → d ≡ max deepest (depth + 1) →
+      Stood W n maps (kindDue v (getD frames (depth - 1) 0)) at (drop at t) (Name k) →
+      kindDue v (getD frames (depth - 1) 0) < 256 → clashing (getD names k 0) (kindDue v (getD frames (depth - 1) 0)) ≡ false →
+      Scanning v t W g (set names k (kindDue v (getD frames (depth - 1) 0))) (set frames (depth - 1) y) depth (at + 1) count d
+  place-name {k} deeper s small agrees =
+      subst₂ (λ e d. Scanning v t W g (set names k (kindDue v (getD frames (depth - 1) 0))) (set frames (depth - 1) y) e (at + 1) count d)
+      (same-depth (c .turn)) (deepened deeper)
+      (name v t W g names frames at count deepest (depth - 1) (top (c .turn)) y (c .turn .shifted) (c .odd) below
+      k (s .inside .known) small (s .inside .long) (s .same) agrees)
+
+  pub place-word : {f m z d : ℕ} {n : ℕ} {maps : List ℕ} → d ≡ max deepest (depth + 1) →
+      Stood W n maps (kindDue v (getD frames (depth - 1) 0)) at (drop at t) (Word f m) →
+      WordFramed v W f m z → Scanning v t W g names (set (set frames (depth - 1) y) depth z) (depth + 1) (at + 2) (count + 1) d
+  place-word {f} {m} {z} deeper s framed =
+      subst₂ (λ e d. Scanning v t W g names (set (set frames (depth - 1) y) e z) (e + 1) (at + 2) (count + 1) d)
+      (same-depth (c .turn)) (deepened deeper)
+      (scan-word v t W g names frames at count deepest (depth - 1) (top (c .turn)) y (c .turn .shifted) (c .odd) below
+      f (slots (flags (mapOf W f)) (flags m) (word W f .kinds)) (s .inside .long) (s .same) z (framed .fits) (framed .dues (suc (suc (suc (depth - 1))))))
+
+-- ---- the measure
+
+-- Each byte that is left may bring a frame of a written map below 256.
+abbrev pub leftOf : List ℕ → List ℕ → ℕ → ℕ → ℕ
+leftOf t frames depth at = 256 * (length t - at) + turnsOf frames depth
+
+turns-here : (frames : List ℕ) (depth : ℕ) → 0 < depth → turnsOf frames depth ≡ writtenIn (getD frames (depth - 1) 0) + 1 + turnsOf frames (depth - 1)
+turns-here frames depth some = let e : depth ≡ suc (depth - 1) = omega arith in ap (turnsOf frames) e
+
+pub left-leave : (t frames : List ℕ) (at depth : ℕ) → 0 < depth → leftOf t frames (depth - 1) at < leftOf t frames depth at
+left-leave t frames at depth some = omega (arith, turns-here frames depth some)
+
+module _ {v t : List ℕ} {W : Vocabulary} {g : Got Tally} {names frames : List ℕ} {at count deepest depth y : ℕ} where
+  turns-shifted : Turn v t W g names frames at count deepest depth y → (writtenIn (getD frames (depth - 1) 0) ≡ 0 → ⊥) →
+      turnsOf (set frames (depth - 1) y) depth + 1 ≤ turnsOf frames depth
+  turns-shifted c full =
+      let some = c .some in
+      let written = c .shifted .written in
+      let e : depth ≡ suc (depth - 1) = omega arith in
+      let after : turnsOf (set frames (depth - 1) y) depth ≡ writtenIn y + 1 + turnsOf frames (depth - 1) =
+      ap (turnsOf (set frames (depth - 1) y)) e ∙ turns-last frames (depth - 1) y (omega (arith, c .inv .shallow, c .inv .frameEntries)) in
+      omega (arith, turns-here frames depth some)
+
+  pub left-pass : Turn v t W g names frames at count deepest depth y → (writtenIn (getD frames (depth - 1) 0) ≡ 0 → ⊥) →
+      leftOf t (set frames (depth - 1) y) depth at < leftOf t frames depth at
+  left-pass c full = omega (arith, turns-shifted c full)
+
+  pub left-name : Place v t W g names frames at count deepest depth y → leftOf t (set frames (depth - 1) y) depth (at + 1) < leftOf t frames depth at
+  left-name c = let odd = c .odd in omega (arith, turns-shifted (c .turn) (λ e. omega arith))
+
+  pub left-word : Place v t W g names frames at count deepest depth y → 2 ≤ length (drop at t) → (z : ℕ) →
+      leftOf t (set (set frames (depth - 1) y) depth z) (depth + 1) (at + 2) < leftOf t frames depth at
+  left-word c long z =
+      let odd = c .odd in
+      let room = c .room in
+      let size = length-set frames (depth - 1) y in
+      let last : turnsOf (set (set frames (depth - 1) y) depth z) (depth + 1) ≡ writtenIn z + 1 + turnsOf (set frames (depth - 1) y) depth =
+      ap (turnsOf (set (set frames (depth - 1) y) depth z)) (add-one depth)
+      ∙ turns-last (set frames (depth - 1) y) depth z (omega (arith, c .turn .inv .frameEntries)) in
+      omega (arith, turns-shifted (c .turn) (λ e. omega arith), length-drop at t)

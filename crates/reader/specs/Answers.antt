@@ -1,0 +1,35 @@
+-- Answers: document 01's number and values for each case of checking a term.
+--
+--   termRefused input why    the reply that refuses a term of the given input
+--   termNumbers a            the reply of checking a term
+--   TermAnswersDiffer        different answers have different numbers or values
+--
+use mathlib.Core.Path.{_≡_}
+use mathlib.Core.List.{[], _∷_}
+use Prim.Native.Nat.{ℕ}
+use Rattle.wire.specs.Reply.{Reply, accepted, refused}
+use Rattle.signature.specs.Answers.{vocabularyRefused}
+use Rattle.reader.specs.declared.TermRefusal.{TermRefusal}
+use Rattle.reader.specs.declared.TermRefusal.the-variants as T
+use Rattle.reader.specs.declared.TermAnswer.{TermAnswer}
+use Rattle.reader.specs.declared.TermAnswer.the-variants as A
+
+-- Lines 7 to 15, of the given input.
+abbrev pub termRefused : ℕ → TermRefusal → Reply
+termRefused input T.Size = refused 7 input 0
+termRefused input T.NoSuchKind = refused 8 input 0
+termRefused input (T.Ends q) = refused 9 input q
+termRefused input (T.TooDeep q) = refused 10 input q
+termRefused input (T.NoWordOrName q) = refused 11 input q
+termRefused input (T.WrongKind q) = refused 12 input q
+termRefused input (T.Clashes q) = refused 13 input q
+termRefused input (T.StrayBit q) = refused 14 input q
+termRefused input (T.Continues q) = refused 15 input q
+
+abbrev pub termNumbers : TermAnswer → Reply
+termNumbers (A.Accepted words deepest) = accepted (words ∷ deepest ∷ [])
+termNumbers (A.Vocabulary why) = vocabularyRefused why
+termNumbers (A.Term why) = termRefused 1 why
+
+abbrev pub TermAnswersDiffer : Type 0
+TermAnswersDiffer = (a b : TermAnswer) → termNumbers a ≡ termNumbers b → a ≡ b

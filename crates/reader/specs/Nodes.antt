@@ -1,0 +1,100 @@
+-- Nodes: what the functions that read a term promise each other; no public contract cites it.
+--
+--   numberOf why, placeOf why    a refusal's number and place
+--   Tabled W n results maps      the first n entries of the tables are W's result kinds and place maps
+--   nodeOf W at rest x           what x says that stands at the front of the bytes rest, which begin at an offset
+--   Inside n maps at rest x      what x names is there
+--   NodeAt                       x is what stands where a term of kind s is due, no names seen
+--   WordAt                       the same, of a word
+--   clashing k s                 the entry k of the table of names is another kind than s
+--   tallyOf c d                  c words, the deepest at level d
+--   answerOf t g                 the reply where reading the term t gives g
+--
+use mathlib.Core.Path.{_≡_}
+use mathlib.Core.Bool.{Bool, false, not, _&&_}
+use mathlib.Core.List.{List, [], _∷_}
+use Prim.Native.Nat.{ℕ, _+_, _-_, _<_, _≤_}
+use lib.Bits.{bitAnd}
+use lib.Dec.{eqb}
+use lib.ListN.{length, getD, drop}
+use Rattle.wire.specs.Reply.{Reply, accepted, refused}
+use Rattle.wire.specs.Map.{flags, slots}
+use Rattle.wire.specs.Vocabulary.{Vocabulary, word, mapOf}
+use Rattle.wire.specs.Reading.{Got, got, stop, Node, symbol, variable, fault, node, offset}
+use Rattle.wire.proofs.Scan.{Tally}
+use Rattle.reader.specs.declared.TermRefusal.{TermRefusal}
+use Rattle.reader.specs.declared.TermRefusal.the-variants as T
+use Rattle.reader.specs.declared.term.Node.{Node as Answer}
+use Rattle.reader.specs.declared.term.Node.the-variants.{Word, Name, Fault}
+
+abbrev pub numberOf : TermRefusal → ℕ
+numberOf T.Size = 7
+numberOf T.NoSuchKind = 8
+numberOf (T.Ends q) = 9
+numberOf (T.TooDeep q) = 10
+numberOf (T.NoWordOrName q) = 11
+numberOf (T.WrongKind q) = 12
+numberOf (T.Clashes q) = 13
+numberOf (T.StrayBit q) = 14
+numberOf (T.Continues q) = 15
+
+abbrev pub placeOf : TermRefusal → ℕ
+placeOf T.Size = 0
+placeOf T.NoSuchKind = 0
+placeOf (T.Ends q) = q
+placeOf (T.TooDeep q) = q
+placeOf (T.NoWordOrName q) = q
+placeOf (T.WrongKind q) = q
+placeOf (T.Clashes q) = q
+placeOf (T.StrayBit q) = q
+placeOf (T.Continues q) = q
+
+pub record Tabled (W : Vocabulary) (n : ℕ) (results maps : List ℕ) : Type 0 where
+  pub words : n ≡ length (W .words)
+  pub result : (f : ℕ) → f < n → getD results f 0 ≡ word W f .result
+  pub placeMap : (f : ℕ) → f < n → getD maps f 0 ≡ mapOf W f
+
+abbrev pub nodeOf : Vocabulary → ℕ → List ℕ → Answer → Node
+nodeOf W at rest (Word f m) = symbol f (slots (flags (mapOf W f)) (flags m) (word W f .kinds)) (drop 2 rest)
+nodeOf W at rest (Name n) = variable n (drop 1 rest)
+nodeOf W at rest (Fault why) = fault (numberOf why) (drop (placeOf why - at) rest)
+
+pub record WordInside (n : ℕ) (maps rest : List ℕ) (f m : ℕ) : Type 0 where
+  pub known : f < n
+  pub long : 2 ≤ length rest
+  pub within : bitAnd m (getD maps f 0) ≡ m
+
+pub record NameInside (rest : List ℕ) (n : ℕ) : Type 0 where
+  pub known : n < 64
+  pub long : 1 ≤ length rest
+
+pub record PlaceInside (at : ℕ) (rest : List ℕ) (q : ℕ) : Type 0 where
+  pub from : at ≤ q
+  pub upTo : q ≤ at + length rest
+
+abbrev pub Inside : ℕ → List ℕ → ℕ → List ℕ → Answer → Type 0
+Inside n maps at rest (Word f m) = WordInside n maps rest f m
+Inside n maps at rest (Name k) = NameInside rest k
+Inside n maps at rest (Fault why) = PlaceInside at rest (placeOf why)
+
+pub record NodeAt (n : ℕ) (results maps : List ℕ) (s at : ℕ) (rest : List ℕ) (x : Answer) : Type 0 where
+  pub inside : Inside n maps at rest x
+  pub same : (W : Vocabulary) → Tabled W n results maps → node W false s [] rest ≡ nodeOf W at rest x
+
+-- The same of a word of number f, with its result kind and place map at hand.
+pub record WordAt (f result map s at : ℕ) (rest : List ℕ) (x : Answer) : Type 0 where
+  pub inside : (n : ℕ) (maps : List ℕ) → f < n → getD maps f 0 ≡ map → Inside n maps at rest x
+  pub same : (W : Vocabulary) → f < length (W .words) → result ≡ word W f .result → map ≡ mapOf W f →
+      node W false s [] rest ≡ nodeOf W at rest x
+
+-- A name that has not stood yet has the entry 256.
+abbrev pub clashing : ℕ → ℕ → Bool
+clashing k s = not (eqb k 256) && not (eqb k s)
+
+abbrev pub tallyOf : ℕ → ℕ → Tally
+tallyOf c d = record { words = c; deepest = d }
+
+abbrev pub answerOf : List ℕ → Got Tally → Reply
+answerOf t (stop n r) = refused n 1 (offset t r)
+answerOf t (got y []) = accepted (y .words ∷ y .deepest ∷ [])
+answerOf t (got y (x ∷ r)) = refused 15 1 (offset t (x ∷ r))

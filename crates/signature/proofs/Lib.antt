@@ -1,0 +1,9 @@
+-- The laws behind the proofs of loading a vocabulary. The answers differ.
+pub mod Answers
+-- Its bytes, then its records, then the kinds that have complete situations, then all of it.
+pub mod KindBytes
+pub mod RecordBytes
+pub mod RecordsRead
+pub mod Marking
+pub mod Rounds
+pub mod VocabularyLoaded

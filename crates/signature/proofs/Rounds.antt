@@ -1,0 +1,130 @@
+-- Rounds: one round of marking follows one round of grow, record by record.
+--
+--   Marked v n w before after     from the marks `before` to the marks `after`, the first w of n records had their turn
+--   Reached v n kinds round m     the kinds that so many rounds reach are marked in m
+--
+use mathlib.Core.Path.{_≡_, refl, sym, _∙_, ap}
+use mathlib.Core.Bool.{Bool, true, false}
+use mathlib.Core.List.{List, [], _∷_, _++_}
+use Prim.Native.Nat.{ℕ, _+_, _<_, _≤_}
+use native.Mathlib.Numerals.{add-one}
+use native.Mathlib.Omega.{arith}
+use lib.Count
+use lib.ListN.{length, getD, take, drop, set, replicate, length-map, List·getD-map}
+use lib.Seq.{take-suc, take-all, getD-take, getD-drop}
+use Rattle.terms.specs.Signature.{Symbol, noSymbol}
+use Rattle.terms.specs.Inhabited.{covered, joined, grow, reached, firstEmpty}
+use Rattle.terms.proofs.All.{all-at}
+use Rattle.wire.specs.Vocabulary.{Word, noWord, symbolOf, signature}
+use Rattle.wire.specs.VocabularyLines.{byteAt}
+use Rattle.wire.proofs.Map.{ones-count}
+use Rattle.signature.specs.declared.Missing.{Missing}
+use Rattle.signature.specs.Loading.{recordsIn, vocabularyOf, Entry, Filled, Marks, Markable, Covers, symbolsIn, Grows, foundKind, FirstMissing}
+use Rattle.signature.proofs.Marking.{marks-none, marks-joined, marks-stay}
+
+-- An entry of the tables, as the marking reads it.
+module _ (v : List ℕ) (o r m : ℕ) (w : Word) (entry : Entry v o r m w) where
+  places-counted : Count.ones m ≡ length (w .kinds)
+  places-counted = rw (entry .placeMap) (ones-count (w .placeMap) (entry .sound .placeMap) ∙ sym (entry .sound .count))
+
+  places-inside : o + 2 + Count.ones m ≤ length v
+  places-inside = omega (arith, places-counted, entry .inside)
+
+  kind-at : (j : ℕ) → j < length (w .kinds) → getD (w .kinds) j 0 ≡ byteAt v (o + 2 + j)
+  kind-at j h =
+      ap (λ l. getD l j 0) (sym (entry .kinds)) ∙ getD-take (length (w .kinds)) (drop (o + 2) v) j 0 h ∙ getD-drop (o + 2) v j 0
+
+  places-markable : byteAt v 0 ≤ 16 → Markable v (o + 2) (Count.ones m)
+  places-markable few j h =
+      let b : j < length (w .kinds) = omega (arith, places-counted) in
+      omega (arith, kind-at j b, all-at _ 0 (w .kinds) (entry .sound .kinds) j b)
+
+  result-markable : byteAt v 0 ≤ 16 → r < 16
+  result-markable few = omega (arith, entry .result, entry .sound .result)
+
+  entry-covers : (marked l : List ℕ) (t : Bool) → Covers v (o + 2) (Count.ones m) marked t → Marks marked l → t ≡ covered (w .kinds) l
+  entry-covers marked l t h marks = h l marks ∙ rw (places-counted, entry .kinds)
+
+grow-append : (ks ls : List Symbol) (l : List ℕ) → grow (ks ++ ls) l ≡ grow ls (grow ks l)
+grow-append [] ls l = refl
+grow-append (k ∷ ks) ls l = grow-append ks ls (joined k l)
+
+grow-more : (ks : List Symbol) (w : ℕ) (l : List ℕ) → w < length ks → grow (take (w + 1) ks) l ≡ joined (getD ks w noSymbol) (grow (take w ks) l)
+grow-more ks w l h = rw (add-one, take-suc ks w noSymbol h, grow-append)
+
+pub record Marked (v : List ℕ) (n w : ℕ) (before after : List ℕ) : Type 0 where
+  pub passed : w ≤ n
+  pub marks : (l : List ℕ) → Marks before l → Marks after (grow (take w (symbolsIn v n)) l)
+
+pub marked-none : (v : List ℕ) (n : ℕ) (marked : List ℕ) → Marked v n 0 marked marked
+marked-none v n marked = record { passed = omega arith; marks = λ l h. h }
+
+module _ (v : List ℕ) (n : ℕ) (o r m : List ℕ) (filled : Filled v n o r m) where
+  symbol-count : length (symbolsIn v n) ≡ n
+  symbol-count = length-map (recordsIn v n) symbolOf ∙ filled .count
+
+  symbol-is : (w : ℕ) → getD (symbolsIn v n) w noSymbol ≡ symbolOf (getD (recordsIn v n) w noWord)
+  symbol-is w = List·getD-map symbolOf (recordsIn v n) w noWord
+
+  pub marked-all : (w : ℕ) (before after : List ℕ) → Marked v n w before after → n ≤ w → Grows v n before after
+  marked-all w before after marked h l marks =
+      rw (take-all w (symbolsIn v n) (omega (arith, symbol-count))) at (marked .marks l marks)
+
+  -- What the record of the word w asks of the marking.
+  module _ (w : ℕ) (b : w < n) where
+    pub turn-inside : getD o w 0 + 2 + Count.ones (getD m w 0) ≤ length v
+    turn-inside = places-inside v _ _ _ _ (filled .entries w b)
+
+    pub turn-markable : byteAt v 0 ≤ 16 → Markable v (getD o w 0 + 2) (Count.ones (getD m w 0))
+    turn-markable = places-markable v _ _ _ _ (filled .entries w b)
+
+    pub turn-result : byteAt v 0 ≤ 16 → getD r w 0 < 16
+    turn-result = result-markable v _ _ _ _ (filled .entries w b)
+
+  module _ (w : ℕ) (b : w < n) (before after : List ℕ) (marked : Marked v n w before after)
+      (t : Bool) (covers : Covers v (getD o w 0 + 2) (Count.ones (getD m w 0)) after t) where
+    here : Symbol
+    here = symbolOf (getD (recordsIn v n) w noWord)
+
+    grown : (l : List ℕ) → grow (take (w + 1) (symbolsIn v n)) l ≡ joined here (grow (take w (symbolsIn v n)) l)
+    unfolding here
+    grown l = grow-more (symbolsIn v n) w l (omega (arith, symbol-count)) ∙ rw (symbol-is w)
+
+    is-covered : (l : List ℕ) → Marks before l → t ≡ covered (here .arguments) (grow (take w (symbolsIn v n)) l)
+    unfolding here
+    is-covered l h =
+        entry-covers v (getD o w 0) (getD r w 0) (getD m w 0) (getD (recordsIn v n) w noWord) (filled .entries w b)
+        after (grow (take w (symbolsIn v n)) l) t covers (marked .marks l h)
+
+    pub marked-joined : t ≡ true → (k : ℕ) → k ≡ getD r w 0 → (next : List ℕ) → next ≡ set after k 1 → Marked v n (w + 1) before next
+    unfolding here
+    marked-joined e k d next s = record {
+      passed = omega arith;
+      marks = λ l h. rw (grown l, s, d, filled .entries w b .result)
+          (marks-joined after (grow (take w (symbolsIn v n)) l) here (sym (is-covered l h) ∙ e) (marked .marks l h));
+    }
+
+    pub marked-stay : t ≡ false → (next : List ℕ) → next ≡ after → Marked v n (w + 1) before next
+    marked-stay e next s = record {
+      passed = omega arith;
+      marks = λ l h. rw (grown l, s) (marks-stay after (grow (take w (symbolsIn v n)) l) here (sym (is-covered l h) ∙ e) (marked .marks l h));
+    }
+
+-- Round by round.
+
+pub record Reached (v : List ℕ) (n kinds round : ℕ) (marked : List ℕ) : Type 0 where
+  pub passed : round ≤ kinds
+  pub marks : Marks marked (reached (signature (vocabularyOf v n)) round)
+
+pub reached-none : (v : List ℕ) (n kinds : ℕ) → Reached v n kinds 0 (replicate 16 0)
+reached-none v n kinds = record { passed = omega arith; marks = marks-none }
+
+pub reached-more : (v : List ℕ) (n kinds round : ℕ) (before after : List ℕ) → Reached v n kinds round before → round < kinds →
+    Grows v n before after → Reached v n kinds (round + 1) after
+reached-more v n kinds round before after reach b grows = record { passed = omega arith; marks = rw add-one (grows _ (reach .marks)) }
+
+pub reached-all : (v : List ℕ) (n kinds round : ℕ) (marked : List ℕ) (r : Missing) → Reached v n kinds round marked → kinds ≤ round →
+    kinds ≡ byteAt v 0 → FirstMissing kinds marked r → foundKind r ≡ firstEmpty (signature (vocabularyOf v n))
+reached-all v n kinds round marked r reach h k first =
+    let e : round ≡ byteAt v 0 = omega (arith, reach .passed) in
+    rw (k, e) at (first (reached (signature (vocabularyOf v n)) round) (reach .marks))

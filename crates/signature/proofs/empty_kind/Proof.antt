@@ -1,0 +1,53 @@
+-- `signature::empty_kind` meets its contract. The loop's invariant: what the rounds so far reach is marked. The measure is the number of rounds left.
+use Prim.Native.Nat.{_-_}
+use native.Mathlib.Omega.{arith}
+use borrow.Author.Needs.{needs}
+use Rattle.signature.proofs.Rounds.{Reached, reached-none, reached-more, reached-all}
+use Rattle.signature.proofs.empty_kind.Statement.{statement}
+use Rattle.signature.proofs.empty_kind.Tie as tie
+
+abbrev Inv-loop : tie.InvT-loop
+Inv-loop v kinds words offsets results maps marked₀ round₀ marked round = Reached v words kinds round marked
+
+abbrev μ-loop : tie.MeasureT-loop
+μ-loop v kinds words offsets results maps marked₀ round₀ marked round = kinds - round
+
+loop-holds : tie.Need-loop-holds Inv-loop μ-loop
+loop-holds c = reached-none _ _ _
+
+mark-round-requires : tie.Need-mark-round-requires Inv-loop μ-loop
+mark-round-requires c κs =
+    let pre = c .before .before .before .before .pre in
+    (pre .0, (omega arith, pre .1 .1 .1))
+
+add-round : tie.Need-add-round Inv-loop μ-loop
+add-round c = search needs
+
+loop-less : tie.Need-loop-less Inv-loop μ-loop
+loop-less c = search needs
+
+loop-again : tie.Need-loop-again Inv-loop μ-loop
+loop-again c = reached-more _ _ _ _ _ _ (c .before .before .before .loop .inv) (c .before .before .loop-test .taken) (c .mark-round .ensures)
+
+first-missing-requires : tie.Need-first-missing-requires Inv-loop μ-loop
+first-missing-requires c κs = search needs
+
+returns : tie.Need-returns Inv-loop μ-loop
+returns c =
+    let left = c .before .before in
+    reached-all _ _ _ _ _ (c .first-missing .result) (left .before .loop .inv) (left .loop-test .left) (left .before .before .before .pre .1 .1 .0)
+    (c .first-missing .ensures)
+
+pub empty-kind-spec : {M : Type 1} → statement M
+empty-kind-spec =
+    tie.close
+    (tie.spec
+    Inv-loop
+    μ-loop
+    loop-holds
+    mark-round-requires
+    add-round
+    loop-less
+    loop-again
+    first-missing-requires
+    returns)

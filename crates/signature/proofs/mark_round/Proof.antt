@@ -1,0 +1,103 @@
+-- `signature::mark_round` meets its contract. The loop's invariant: the records passed had their turn. The measure is the number of records left.
+use mathlib.Core.Logic.{⊎-elim}
+use Prim.Native.Nat.{_-_}
+use native.Mathlib.Omega.{arith}
+use borrow.Author.Needs.{needs}
+use Rattle.signature.proofs.Rounds.{Marked, marked-none, marked-all, marked-joined, marked-stay, turn-inside, turn-markable, turn-result}
+use Rattle.signature.proofs.mark_round.Statement.{statement}
+use Rattle.signature.proofs.mark_round.Tie as tie
+
+abbrev Inv-loop : tie.InvT-loop
+Inv-loop v words offsets results maps marked₀ w₀ marked w = Marked v words w marked₀ marked
+
+abbrev μ-loop : tie.MeasureT-loop
+μ-loop v words offsets results maps marked₀ w₀ marked w = words - w
+
+loop-holds : tie.Need-loop-holds Inv-loop μ-loop
+loop-holds c = marked-none _ _ _
+
+mul-at : tie.Need-mul-at Inv-loop μ-loop
+mul-at c = omega arith
+
+element-copy-out-at : tie.Need-element-copy-out-at Inv-loop μ-loop
+element-copy-out-at c = search needs
+
+cast-at : tie.Need-cast-at Inv-loop μ-loop
+cast-at c =
+    let turn = c .before in
+    omega (arith, turn-inside _ _ _ _ _ (turn .before .before .before .pre .1 .1) _ (turn .loop-test .taken))
+
+element-copy-out-n : tie.Need-element-copy-out-n Inv-loop μ-loop
+element-copy-out-n c = search needs
+
+add-covered : tie.Need-add-covered Inv-loop μ-loop
+add-covered c =
+    let turn = c .before .before in
+    omega (arith, turn-inside _ _ _ _ _ (turn .before .before .before .pre .1 .1) _ (turn .loop-test .taken))
+
+cast-covered : tie.Need-cast-covered Inv-loop μ-loop
+cast-covered c =
+    let turn = c .before .before in
+    omega (arith, turn-inside _ _ _ _ _ (turn .before .before .before .pre .1 .1) _ (turn .loop-test .taken))
+
+covered-requires : tie.Need-covered-requires Inv-loop μ-loop
+covered-requires c κs =
+    let turn = c .before .before .before in
+    let pre = turn .before .before .before .pre in (
+      turn-inside _ _ _ _ _ (pre .1 .1) _ (turn .loop-test .taken),
+      turn-markable _ _ _ _ _ (pre .1 .1) _ (turn .loop-test .taken) (pre .1 .0),
+    )
+
+element-copy-out-wide : tie.Need-element-copy-out-wide Inv-loop μ-loop
+element-copy-out-wide c = search needs
+
+wide-requires : tie.Need-wide-requires Inv-loop μ-loop
+wide-requires c κs = search needs
+
+element-write-marked : tie.Need-element-write-marked Inv-loop μ-loop
+element-write-marked c =
+    let turn = c .before .before .before .before .before .before .before in
+    let pre = turn .before .before .before .pre in
+    omega (arith, c .wide .ensures, turn-result _ _ _ _ _ (pre .1 .1) _ (turn .loop-test .taken) (pre .1 .0))
+
+add-w : tie.Need-add-w Inv-loop μ-loop
+add-w c = search needs
+
+loop-less : tie.Need-loop-less Inv-loop μ-loop
+loop-less c = search needs
+
+loop-again : tie.Need-loop-again Inv-loop μ-loop
+loop-again c =
+    let turn = c .before .before .before .before .before in
+    let filled = turn .before .before .before .pre .1 .1 in
+    let inv = turn .before .loop .inv in
+    let covers = c .before .covered .ensures in
+    ⊎-elim
+    (λ w. marked-joined _ _ _ _ _ filled _ (turn .loop-test .taken) _ _ inv _ covers (w .0 .taken) _ (w .2 .ensures) _ (w .3))
+    (λ w. marked-stay _ _ _ _ _ filled _ (turn .loop-test .taken) _ _ inv _ covers (w .0 .left) _ (w .1))
+    (c .if1 .came)
+
+returns : tie.Need-returns Inv-loop μ-loop
+returns c = marked-all _ _ _ _ _ (c .before .before .before .pre .1 .1) _ _ _ (c .before .loop .inv) (c .loop-test .left)
+
+pub mark-round-spec : {M : Type 1} → statement M
+mark-round-spec =
+    tie.close
+    (tie.spec
+    Inv-loop
+    μ-loop
+    loop-holds
+    mul-at
+    element-copy-out-at
+    cast-at
+    element-copy-out-n
+    add-covered
+    cast-covered
+    covered-requires
+    element-copy-out-wide
+    wide-requires
+    element-write-marked
+    add-w
+    loop-less
+    loop-again
+    returns)

@@ -1,0 +1,147 @@
+-- Loading: what the functions that load a vocabulary promise each other; no public contract cites it.
+--
+--   kindsGot v at r        what read_kinds answers of the kind bytes at an offset, as a Got
+--   KindsRead              it is what readKinds gives, and lies within v
+--   wordGot v at r         what read_word answers of the record there, as a Got
+--   RecordRead             it is what readWord gives, lies within v and is sound
+--   recordsIn v n          the words of the first n records of v, where they are in order
+--   vocabularyOf v n       v's kind count and these words
+--   checksIn v n           lines 3 to 6 of v, which has n records
+--   Entry v o r m w        the word w stands in v at the offset o, with result kind r and place map m
+--   Filled v n o r m       the n records of v are in order, end v and stand in the tables o, r and m
+--   WordsLoaded v n r      what read_words answers: the reply of lines 3 to 5, or filled tables
+--   Marks m l              the kinds that are marked in m are those of l
+--   Covers, Grows, FirstMissing    what covered, mark_round and first_missing answer, for any such l
+--   foundKind r            the kind that is found, where there is one
+--   Checked v n r          what inhabited answers: the reply of lines 3 to 6, and filled tables where v is accepted
+--
+use mathlib.Core.Path.{_≡_}
+use mathlib.Core.Bool.{Bool, not}
+use mathlib.Core.List.{List, [], map}
+use mathlib.Core.Option.{Option, some, none}
+use Prim.Native.Nat.{ℕ, _+_, _<_, _≤_}
+use lib.Dec.{eqb}
+use lib.ListN.{length, getD, take, drop}
+use Rattle.terms.specs.Lists.{occurs, range, keep}
+use Rattle.terms.specs.Signature.{Symbol}
+use Rattle.terms.specs.Inhabited.{covered, grow, first}
+use Rattle.wire.specs.Reply.{Reply, Reading, accept, replyOf}
+use Rattle.wire.specs.Vocabulary.{Word, Vocabulary, noWord, symbolOf, WordInOrder}
+use Rattle.wire.specs.Reading.{Got, got, stop, readKinds, readWord, readWords, lines5and6}
+use Rattle.wire.specs.VocabularyLines.{byteAt}
+use Rattle.signature.specs.Answers.{vocabularyRefused, vocabularyNumbers}
+use Rattle.signature.specs.declared.VocabularyRefusal.{VocabularyRefusal}
+use Rattle.signature.specs.declared.VocabularyAnswer.the-variants.{Accepted, Refused}
+use Rattle.signature.specs.declared.Loaded.{Loaded}
+use Rattle.signature.specs.declared.WordRead.{WordRead}
+use Rattle.signature.specs.declared.WordRead.the-variants.{Whole, Ends, NoSuchKind}
+use Rattle.signature.specs.declared.Missing.{Missing}
+use Rattle.signature.specs.declared.Missing.the-variants.{Kind, Nothing}
+
+-- read_kinds
+
+abbrev pub kindsGot : List ℕ → ℕ → WordRead → Got (List ℕ)
+kindsGot v at (Whole n) = got (take n (drop at v)) (drop (at + n) v)
+kindsGot v at Ends = stop 3 []
+kindsGot v at (NoSuchKind q) = stop 4 (drop q v)
+
+-- The n kinds from the offset `at` on, or the byte that is no kind, lie within v.
+abbrev pub KindsInside : List ℕ → ℕ → ℕ → WordRead → Type 0
+KindsInside v at n (Whole m) = (m ≡ n) × (at + n ≤ length v)
+KindsInside v at n Ends = Unit {0}
+KindsInside v at n (NoSuchKind q) = q < length v
+
+pub record KindsRead (v : List ℕ) (at n kinds : ℕ) (r : WordRead) : Type 0 where
+  pub reads : kindsGot v at r ≡ readKinds kinds n (drop at v)
+  pub inside : KindsInside v at n r
+
+-- read_word
+
+-- The word whose record stands at an offset and has n places.
+abbrev pub wordAt : List ℕ → ℕ → ℕ → Word
+wordAt v at n = record { result = byteAt v at; placeMap = byteAt v (at + 1); kinds = take n (drop (at + 2) v) }
+
+abbrev pub wordGot : List ℕ → ℕ → WordRead → Got Word
+wordGot v at (Whole n) = got (wordAt v at n) (drop (at + 2 + n) v)
+wordGot v at Ends = stop 3 []
+wordGot v at (NoSuchKind q) = stop 4 (drop q v)
+
+abbrev pub WordInside : List ℕ → ℕ → ℕ → WordRead → Type 0
+WordInside v at kinds (Whole n) = (at + 2 + n ≤ length v) × WordInOrder kinds (wordAt v at n)
+WordInside v at kinds Ends = Unit {0}
+WordInside v at kinds (NoSuchKind q) = q < length v
+
+pub record RecordRead (v : List ℕ) (at kinds : ℕ) (r : WordRead) : Type 0 where
+  pub reads : wordGot v at r ≡ readWord kinds (drop at v)
+  pub inside : WordInside v at kinds r
+
+-- read_words
+
+abbrev pub wordsIn : Got (List Word) → List Word
+wordsIn (got ws r) = ws
+wordsIn (stop n r) = []
+
+abbrev pub recordsIn : List ℕ → ℕ → List Word
+recordsIn v n = wordsIn (readWords (byteAt v 0) n (drop 2 v))
+
+abbrev pub vocabularyOf : List ℕ → ℕ → Vocabulary
+vocabularyOf v n = record { kinds = byteAt v 0; words = recordsIn v n }
+
+abbrev pub checksIn : List ℕ → ℕ → Reading Vocabulary
+checksIn v n = lines5and6 v (byteAt v 0) (readWords (byteAt v 0) n (drop 2 v))
+
+abbrev pub checksReply : List ℕ → ℕ → Reply
+checksReply v n = replyOf 0 (λ W. []) (checksIn v n)
+
+pub record Entry (v : List ℕ) (o r m : ℕ) (w : Word) : Type 0 where
+  pub result : r ≡ w .result
+  pub placeMap : m ≡ w .placeMap
+  pub inside : o + 2 + length (w .kinds) ≤ length v
+  pub kinds : take (length (w .kinds)) (drop (o + 2) v) ≡ w .kinds
+  pub sound : WordInOrder (byteAt v 0) w
+
+pub record Filled (v : List ℕ) (n : ℕ) (offsets results maps : List ℕ) : Type 0 where
+  pub read : readWords (byteAt v 0) n (drop 2 v) ≡ got (recordsIn v n) []
+  pub count : length (recordsIn v n) ≡ n
+  pub entries : (f : ℕ) → f < n → Entry v (getD offsets f 0) (getD results f 0) (getD maps f 0) (getD (recordsIn v n) f noWord)
+
+pub record WordsLoaded (v : List ℕ) (n : ℕ) (r : Loaded) : Type 0 where
+  pub refused : (why : VocabularyRefusal) → r .answer ≡ Refused why → vocabularyRefused why ≡ checksReply v n
+  pub words : r .answer ≡ Accepted → r .words ≡ n
+  pub filled : r .answer ≡ Accepted → Filled v n (r .offsets) (r .results) (r .maps)
+
+-- covered, mark_round, first_missing
+
+pub record Marks (marked l : List ℕ) : Type 0 where
+  pub size : length marked ≡ 16
+  pub each : (k : ℕ) → k < 16 → eqb (getD marked k 0) 0 ≡ not (occurs k l)
+
+-- Each of the n bytes from an offset on may be marked.
+abbrev pub Markable : List ℕ → ℕ → ℕ → Type 0
+Markable v at n = (j : ℕ) → j < n → byteAt v (at + j) < 16
+
+abbrev pub Covers : List ℕ → ℕ → ℕ → List ℕ → Bool → Type 0
+Covers v at n marked r = (l : List ℕ) → Marks marked l → r ≡ covered (take n (drop at v)) l
+
+abbrev pub symbolsIn : List ℕ → ℕ → List Symbol
+symbolsIn v n = map symbolOf (recordsIn v n)
+
+-- One round of marking follows one round of grow.
+abbrev pub Grows : List ℕ → ℕ → List ℕ → List ℕ → Type 0
+Grows v n before after = (l : List ℕ) → Marks before l → Marks after (grow (symbolsIn v n) l)
+
+abbrev pub foundKind : Missing → Option ℕ
+foundKind (Kind k) = some k
+foundKind Nothing = none
+
+abbrev pub FirstMissing : ℕ → List ℕ → Missing → Type 0
+FirstMissing kinds marked r = (l : List ℕ) → Marks marked l → foundKind r ≡ first (keep (λ k. not (occurs k l)) (range 0 kinds))
+
+-- inhabited
+
+-- The records of v are in order, and r says so of the kinds too, or which of them is empty.
+pub record Checked (v : List ℕ) (n : ℕ) (r : Loaded) : Type 0 where
+  pub answer : vocabularyNumbers (r .answer) ≡ checksReply v n
+  pub words : r .answer ≡ Accepted → r .words ≡ n
+  pub filled : r .answer ≡ Accepted → Filled v n (r .offsets) (r .results) (r .maps)
+  pub accepted : r .answer ≡ Accepted → checksIn v n ≡ accept (vocabularyOf v n)

@@ -1,0 +1,281 @@
+// Document 01's check of a vocabulary, and its records in tables: offsets, result kinds and place maps.
+ghost use mathlib.Core.Path.{_≡_};
+ghost use Prim.Native.Nat.{_+_, _≤_};
+ghost use lib.ListN.{length};
+ghost use Rattle.terms.specs.Inhabited.{firstEmpty};
+ghost use Rattle.wire.specs.Checks.{vocabularyReply};
+ghost use Rattle.wire.specs.Vocabulary.{signature};
+ghost use Rattle.wire.specs.VocabularyLines.{byteAt};
+ghost use Rattle.signature.specs.Answers.{vocabularyNumbers};
+ghost use Rattle.signature.specs.Tables.{LoadedFrom};
+ghost use Rattle.signature.specs.Loading.{KindsRead, RecordRead, Filled, WordsLoaded, Markable, Covers, Grows, FirstMissing, Checked, foundKind, vocabularyOf};
+ghost use Rattle.signature.specs.declared.VocabularyAnswer.the-variants.{Accepted, Refused};
+
+// Why a vocabulary is refused, with the place where it is not fixed: document 01, lines 1 to 6.
+pub enum VocabularyRefusal {
+    Head,
+    WordCount,
+    Ends(usize),
+    NoSuchKind(usize),
+    Continues(usize),
+    EmptyKind(usize),
+}
+
+pub enum VocabularyAnswer {
+    Accepted,
+    Refused(VocabularyRefusal),
+}
+
+// What loading a vocabulary gives. Where it is accepted, the first `words` entries of each table hold.
+pub struct Loaded {
+    pub answer: VocabularyAnswer,
+    pub words: usize,
+    pub offsets: [u16; 96],
+    pub results: [u8; 96],
+    pub maps: [u8; 96],
+}
+
+// A record that is in order and has so many places, or what is wrong with it.
+enum WordRead {
+    Whole(usize),
+    Ends,
+    NoSuchKind(usize),
+}
+
+// The lowest kind without complete situations, where there is one.
+enum Missing {
+    Kind(usize),
+    Nothing,
+}
+
+fn wide(b: u8) -> usize
+    ensures { λ r. ⌜ r ≡ b ⌝ }
+{
+    b as usize
+}
+
+// A refused vocabulary's tables hold nothing.
+fn refuse(why: VocabularyRefusal) -> Loaded
+    ensures { λ r. ⌜ r .answer ≡ Refused why ⌝ }
+{
+    Loaded {
+        answer: VocabularyAnswer::Refused(why),
+        words: 0,
+        offsets: [0u16; 96],
+        results: [0u8; 96],
+        maps: [0u8; 96],
+    }
+}
+
+// Reads n kind bytes from an offset on.
+fn read_kinds(v: &[u8], at: usize, n: usize, kinds: u8) -> WordRead
+    requires { ⌜ at ≤ length (now v) ⌝ }
+    ensures { λ r. ⌜ KindsRead (now (v .entry)) at n kinds r ⌝ }
+{
+    let mut i = 0;
+    while i < n {
+        if v.len() <= at + i {
+            return WordRead::Ends;
+        }
+        if kinds <= v[at + i] {
+            return WordRead::NoSuchKind(at + i);
+        }
+        i += 1;
+    }
+    WordRead::Whole(n)
+}
+
+// Reads the record at an offset. A word has as many places as its map has ones.
+fn read_word(v: &[u8], at: usize, kinds: u8) -> WordRead
+    requires { ⌜ at ≤ length (now v) ⌝ }
+    ensures { λ r. ⌜ RecordRead (now (v .entry)) at kinds r ⌝ }
+{
+    if v.len() <= at {
+        return WordRead::Ends;
+    }
+    if kinds <= v[at] {
+        return WordRead::NoSuchKind(at);
+    }
+    if v.len() - at < 2 {
+        return WordRead::Ends;
+    }
+    let places = u8::count_ones(v[at + 1]);
+    read_kinds(v, at + 2, places as usize, kinds)
+}
+
+// Reads all records into the tables, and sees that nothing follows the last.
+fn read_words(v: &[u8], words: usize, kinds: u8) -> Loaded
+    requires { ⌜ 2 ≤ length (now v) ⌝ }
+    requires { ⌜ words ≤ 96 ⌝ }
+    requires { ⌜ kinds ≡ byteAt (now v) 0 ⌝ }
+    ensures { λ r. ⌜ WordsLoaded (now (v .entry)) words r ⌝ }
+{
+    let mut offsets = [0u16; 96];
+    let mut results = [0u8; 96];
+    let mut maps = [0u8; 96];
+    let mut at = 2;
+    let mut w = 0;
+    while w < words {
+        match read_word(v, at, kinds) {
+            WordRead::Whole(places) => {
+                offsets[w] = at as u16;
+                results[w] = v[at];
+                maps[w] = v[at + 1];
+                at = at + 2 + places;
+                w += 1;
+            }
+            WordRead::Ends => {
+                return refuse(VocabularyRefusal::Ends(v.len()));
+            }
+            WordRead::NoSuchKind(q) => {
+                return refuse(VocabularyRefusal::NoSuchKind(q));
+            }
+        }
+    }
+    if at < v.len() {
+        return refuse(VocabularyRefusal::Continues(at));
+    }
+    Loaded {
+        answer: VocabularyAnswer::Accepted,
+        words,
+        offsets,
+        results,
+        maps,
+    }
+}
+
+// Whether each of n kind bytes from an offset on is marked.
+fn covered(v: &[u8], at: usize, n: usize, marked: &[u8; 16]) -> bool
+    requires { ⌜ at + n ≤ length (now v) ⌝ }
+    requires { ⌜ Markable (now v) at n ⌝ }
+    ensures { λ r. ⌜ Covers (now (v .entry)) at n (now (marked .entry)) r ⌝ }
+{
+    let mut i = 0;
+    while i < n {
+        if marked[wide(v[at + i])] == 0 {
+            return false;
+        }
+        i += 1;
+    }
+    true
+}
+
+// One round: marks the result kind of every word whose places' kinds are marked.
+fn mark_round<'a>(
+    v: &[u8],
+    words: usize,
+    offsets: &'a [u16; 96],
+    results: &'a [u8; 96],
+    maps: &'a [u8; 96],
+    marked: &mut [u8; 16],
+)
+    requires { ⌜ words ≤ 96 ⌝ }
+    requires { ⌜ byteAt (now v) 0 ≤ 16 ⌝ }
+    requires { ⌜ Filled (now v) words (now offsets) (now results) (now maps) ⌝ }
+    ensures { λ _. ⌜ Grows (now (v .entry)) words (now (marked .entry)) (now (marked .exit)) ⌝ }
+{
+    let mut w = 0;
+    while w < words {
+        let at = offsets[w] as usize;
+        let n = u8::count_ones(maps[w]);
+        if covered(v, at + 2, n as usize, marked) {
+            marked[wide(results[w])] = 1;
+        }
+        w += 1;
+    }
+}
+
+// The lowest kind that is not marked.
+fn first_missing(kinds: usize, marked: &[u8; 16]) -> Missing
+    requires { ⌜ kinds ≤ 16 ⌝ }
+    ensures { λ r. ⌜ FirstMissing kinds (now (marked .entry)) r ⌝ }
+{
+    let mut k = 0;
+    while k < kinds {
+        if marked[k] == 0 {
+            return Missing::Kind(k);
+        }
+        k += 1;
+    }
+    Missing::Nothing
+}
+
+// The lowest kind without complete situations: as many rounds as there are kinds reach all others.
+fn empty_kind<'a>(
+    v: &[u8],
+    kinds: usize,
+    words: usize,
+    offsets: &'a [u16; 96],
+    results: &'a [u8; 96],
+    maps: &'a [u8; 96],
+) -> Missing
+    requires { ⌜ words ≤ 96 ⌝ }
+    requires { ⌜ kinds ≤ 16 ⌝ }
+    requires { ⌜ kinds ≡ byteAt (now v) 0 ⌝ }
+    requires { ⌜ Filled (now v) words (now offsets) (now results) (now maps) ⌝ }
+    ensures { λ r. ⌜ foundKind r ≡ firstEmpty (signature (vocabularyOf (now (v .entry)) words)) ⌝ }
+{
+    let mut marked = [0u8; 16];
+    let mut round = 0;
+    while round < kinds {
+        mark_round(v, words, offsets, results, maps, &mut marked);
+        round += 1;
+    }
+    first_missing(kinds, &marked)
+}
+
+// Sees that each kind has a complete situation.
+fn inhabited(v: &[u8], kinds: usize, loaded: Loaded) -> Loaded
+    requires { ⌜ loaded .words ≤ 96 ⌝ }
+    requires { ⌜ kinds ≤ 16 ⌝ }
+    requires { ⌜ kinds ≡ byteAt (now v) 0 ⌝ }
+    requires { ⌜ loaded .answer ≡ Accepted ⌝ }
+    requires { ⌜ Filled (now v) (loaded .words) (loaded .offsets) (loaded .results) (loaded .maps) ⌝ }
+    ensures { λ r. ⌜ Checked (now (v .entry)) (loaded .words) r ⌝ }
+{
+    let words = loaded.words;
+    let offsets = loaded.offsets;
+    let results = loaded.results;
+    let maps = loaded.maps;
+    match empty_kind(v, kinds, words, &offsets, &results, &maps) {
+        Missing::Kind(k) => refuse(VocabularyRefusal::EmptyKind(k)),
+        Missing::Nothing => loaded,
+    }
+}
+
+// Reads a vocabulary into tables, or says why it is refused.
+pub fn load(v: &[u8]) -> Loaded
+    ensures { λ r. ⌜ LoadedFrom (now (v .entry)) r ⌝ }
+{
+    if v.len() < 2 {
+        return refuse(VocabularyRefusal::Head);
+    }
+    let kinds = v[0];
+    let words = wide(v[1]);
+    if kinds < 1 {
+        return refuse(VocabularyRefusal::Head);
+    }
+    if 16 < kinds {
+        return refuse(VocabularyRefusal::Head);
+    }
+    if words < 1 {
+        return refuse(VocabularyRefusal::WordCount);
+    }
+    if 96 < words {
+        return refuse(VocabularyRefusal::WordCount);
+    }
+    let loaded = read_words(v, words, kinds);
+    let answer = loaded.answer;
+    match answer {
+        VocabularyAnswer::Accepted => inhabited(v, wide(kinds), loaded),
+        VocabularyAnswer::Refused(_) => loaded,
+    }
+}
+
+// Checks a vocabulary.
+pub fn check_vocabulary(vocabulary: &[u8]) -> VocabularyAnswer
+    ensures { λ r. ⌜ vocabularyNumbers r ≡ vocabularyReply (now (vocabulary .entry)) ⌝ }
+{
+    let loaded = load(vocabulary);
+    loaded.answer
+}
