@@ -1,9 +1,9 @@
 // A reply as text, in document 01's numbers.
+use libc::STDOUT_FILENO;
 use reader::TermAnswer;
 use reader::TermRefusal;
 use signature::VocabularyAnswer;
 use signature::VocabularyRefusal;
-use libc::STDOUT_FILENO;
 
 pub(crate) fn text(bytes: &[u8]) {
     io::write_all(STDOUT_FILENO, bytes);
