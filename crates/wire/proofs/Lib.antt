@@ -48,3 +48,4 @@ pub mod Matching
 -- All of it.
 pub mod Starred
 pub mod Theorems
+pub mod MatchExample

@@ -8,7 +8,7 @@ use borrow.Author.Tests.{eqb-true}
 use Rattle.terms.specs.Lists.{All}
 use Rattle.terms.proofs.Bools.{and-parts}
 use Rattle.wire.specs.Reply.{Reply, accepted, refused}
-use Rattle.wire.specs.Starred.{Row, replyTo, starred, StarredHold}
+use Rattle.wire.specs.Starred.{Outcome, outcome, Row, starred, StarredHold}
 
 abbrev sameNumbers : List ℕ → List ℕ → Bool
 sameNumbers [] [] = true
@@ -42,16 +42,26 @@ same-reply (refused n i q) (refused m j r) e =
     let z = eqb-true q r (d .1) in
     cc
 
+abbrev sameOutcome : Outcome → Outcome → Bool
+sameOutcome x y = sameReply (x .reply) (y .reply) && sameNumbers (x .lent) (y .lent)
+
+same-outcome : (x y : Outcome) → sameOutcome x y ≡ true → x ≡ y
+same-outcome x y e =
+    let c = and-parts (sameReply (x .reply) (y .reply)) (sameNumbers (x .lent) (y .lent)) e in
+    let p = same-reply (x .reply) (y .reply) (c .0) in
+    let q = same-numbers (x .lent) (y .lent) (c .1) in
+    λ i. record { reply = p i; lent = q i }
+
 -- The one test over all rows.
 abbrev allHold : List Row → Bool
 allHold [] = true
-allHold (r ∷ rs) = sameReply (replyTo (r .call)) (r .reply) && allHold rs
+allHold (r ∷ rs) = sameOutcome (outcome (r .call)) (r .outcome) && allHold rs
 
-all-hold : (rs : List Row) → allHold rs ≡ true → All (λ r. replyTo (r .call) ≡ r .reply) rs
+all-hold : (rs : List Row) → allHold rs ≡ true → All (λ r. outcome (r .call) ≡ r .outcome) rs
 all-hold [] e = tt
 all-hold (r ∷ rs) e =
-    let c = and-parts (sameReply (replyTo (r .call)) (r .reply)) (allHold rs) e in
-    (same-reply (replyTo (r .call)) (r .reply) (c .0), all-hold rs (c .1))
+    let c = and-parts (sameOutcome (outcome (r .call)) (r .outcome)) (allHold rs) e in
+    (same-outcome (outcome (r .call)) (r .outcome) (c .0), all-hold rs (c .1))
 
 pub starred-hold : StarredHold
 starred-hold = all-hold starred refl

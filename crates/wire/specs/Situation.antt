@@ -4,7 +4,8 @@
 --   GapsAt W ts at q           the same for the terms of a word's places
 --   Gap W t q                  the term t with its kind byte has a name, 255 or short map at q
 --   FirstGap W t q             q is the first of them
---   situationOf k W r          lines 16 and 17, once the term is read
+--   situationOf k x o          lines 16 and 17, once the term x is read, o being its first gap
+--   situationIn W k r          the same for the reading r of a term
 --   checkedSituation W k b     reading a situation for a pattern of kind k
 --   SituationLine W k b n q    line n, of 7 to 17, fits the bytes b at the place q
 --   FirstGapIsExact            firstGap gives the first gap, where there is one
