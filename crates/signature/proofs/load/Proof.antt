@@ -25,7 +25,7 @@ refuse-requires-2 : tie.Need-refuse-requires-2
 refuse-requires-2 c κs = search needs
 
 returns-2 : tie.Need-returns-2
-returns-2 c = refused-kinds _ _ (c .before .before .before .before .before .if1 .left) (below-range _ _ _ (c .before .if2 .taken)) (c .refuse2 .ensures)
+returns-2 c = refused-kinds _ _ (c .before .before .before .before .before .if1 .left) (below-range 1 16 _ (c .before .if2 .taken)) (c .refuse2 .ensures)
 
 refuse-requires-3 : tie.Need-refuse-requires-3
 refuse-requires-3 c κs = search needs
@@ -33,7 +33,7 @@ refuse-requires-3 c κs = search needs
 returns-3 : tie.Need-returns-3
 returns-3 c =
     refused-kinds _ _ (c .before .before .before .before .before .before .if1 .left)
-    (above-range _ _ _ (c .before .before .if2 .left) (c .before .if3 .taken)) (c .refuse3 .ensures)
+    (above-range 1 16 _ (c .before .before .if2 .left) (c .before .if3 .taken)) (c .refuse3 .ensures)
 
 refuse-requires-4 : tie.Need-refuse-requires-4
 refuse-requires-4 c κs = search needs
@@ -44,7 +44,7 @@ returns-4 c =
     let kinds = words .before in
     let read = kinds .before .before in
     refused-words _ _ (read .before .before .before .if1 .left) (kinds .before .if2 .left) (kinds .if3 .left) _ (read .wide .ensures)
-    (below-range _ _ _ (words .if4 .taken)) (c .refuse4 .ensures)
+    (below-range 1 96 _ (words .if4 .taken)) (c .refuse4 .ensures)
 
 refuse-requires-5 : tie.Need-refuse-requires-5
 refuse-requires-5 c κs = search needs
@@ -55,7 +55,7 @@ returns-5 c =
     let kinds = words .before in
     let read = kinds .before .before in
     refused-words _ _ (read .before .before .before .if1 .left) (kinds .before .if2 .left) (kinds .if3 .left) _ (read .wide .ensures)
-    (above-range _ _ _ (words .if4 .left) (c .before .if5 .taken)) (c .refuse5 .ensures)
+    (above-range 1 96 _ (words .if4 .left) (c .before .if5 .taken)) (c .refuse5 .ensures)
 
 read-words-requires : tie.Need-read-words-requires
 read-words-requires c κs = search needs
