@@ -17,11 +17,11 @@ use Rattle.wire.specs.Entries.{EntriesAreGood}
 
 module _ (W : Vocabulary) where
   -- Open places take no byte.
-  open-bytes : (ks : List ℕ) → encodeAll W (allOpen ks) ≡ []
+  pub open-bytes : (ks : List ℕ) → encodeAll W (allOpen ks) ≡ []
   open-bytes [] = refl
   open-bytes (k ∷ ks) = open-bytes ks
 
-  open-every-bytes : (ts : Terms) → encodeAll W (openEvery ts) ≡ []
+  pub open-every-bytes : (ts : Terms) → encodeAll W (openEvery ts) ≡ []
   open-every-bytes nil = refl
   open-every-bytes (cons t ts) = open-every-bytes ts
 

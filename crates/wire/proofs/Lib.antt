@@ -45,6 +45,16 @@ pub mod Pending
 pub mod Spans
 pub mod SpanTable
 pub mod Matching
+-- On listing.
+pub mod Repeats
+pub mod LinearRefusals
+pub mod EntryLevels
+pub mod EntriesRead
+pub mod Listed
+pub mod EntryBytes
+pub mod EntrySizes
+pub mod EntryMaps
+pub mod EntryWalk
 -- All of it.
 pub mod Starred
 pub mod Theorems

@@ -25,15 +25,15 @@ use Rattle.wire.proofs.TermsInverse.{terms-inverse}
 use Rattle.wire.proofs.TermRefusals.{node-rank, term-refusals}
 
 -- Of one line the earlier place comes first.
-sooner-place : (n q r : ℕ) → q ≤ r → Sooner n q n r
+pub sooner-place : (n q r : ℕ) → q ≤ r → Sooner n q n r
 sooner-place n q r h = go (eqb q r) refl
   where
     go : (c : Bool) → eqb q r ≡ c → Sooner n q n r
     go true e = inr (refl, inr (eqb-true q r e, omega arith))
     go false e = let other : (q ≡ r → ⊥) = eqb-false q r e in inr (refl, inl (omega arith))
 
--- Lines 7 to 15 come before 16 and 17.
-term-rank : (W : Vocabulary) (b : List ℕ) {n q : ℕ} → TermLine W b n q → rank n ≤ 15
+-- Lines 7 to 15 come before 16 to 18.
+pub term-rank : (W : Vocabulary) (b : List ℕ) {n q : ℕ} → TermLine W b n q → rank n ≤ 15
 term-rank W b (size o) = omega arith
 term-rank W b (kind s l e h) = omega arith
 term-rank W b (inside s l x d ds n q e p u h) = omega (arith, node-rank W x d h)

@@ -14,6 +14,8 @@
 --   situation-refusals       a situation is refused exactly by lines 7 to 17 of the refusal list
 --   match-keeps              the definitions of match's reply and table keep what match promises
 --   part-keeps               the definition of part's reply keeps what part promises
+--   linear-refusals          a pattern to be listed is refused exactly by lines 7 to 15 and 18 of the refusal list
+--   list-keeps               the definition of list's reply and lent slice keeps what list promises
 --   starred-hold             every starred case has the reply that document 01 gives
 --
 use Rattle.wire.specs.Vocabulary.{InOrderIsWellFormed}
@@ -24,6 +26,7 @@ use Rattle.wire.specs.VocabularyLines.{VocabularyRefusals}
 use Rattle.wire.specs.TermLines.{TermRefusals}
 use Rattle.wire.specs.Situation.{FirstGapIsExact, SituationRefusals}
 use Rattle.wire.specs.Matching.{MatchKeeps, PartKeeps}
+use Rattle.wire.specs.Listed.{LinearRefusals, ListKeeps}
 use Rattle.wire.specs.Starred.{StarredHold}
 
 pub in-order-is-well-formed : InOrderIsWellFormed
@@ -67,6 +70,12 @@ match-keeps = Rattle.wire.proofs.Matching.match-keeps
 
 pub part-keeps : PartKeeps
 part-keeps = Rattle.wire.proofs.Matching.part-keeps
+
+pub linear-refusals : LinearRefusals
+linear-refusals = Rattle.wire.proofs.LinearRefusals.linear-refusals
+
+pub list-keeps : ListKeeps
+list-keeps = Rattle.wire.proofs.Listed.list-keeps
 
 pub starred-hold : StarredHold
 starred-hold = Rattle.wire.proofs.Starred.starred-hold

@@ -13,4 +13,5 @@ pub mod VocabularyLines
 pub mod TermLines
 pub mod Situation
 pub mod Matching
+pub mod Listed
 pub mod Starred

@@ -1,0 +1,219 @@
+-- Listed: the definition of list's reply and lent slice keeps what list promises.
+use mathlib.Core.Path.{_≡_, refl, sym, ap, _∙_, subst}
+use mathlib.Core.Bool.{Bool, true, false, cond}
+use mathlib.Core.List.{List, [], _∷_, _++_}
+use mathlib.Core.Option.{Option, some, none}
+use Prim.Native.Nat.{ℕ, _≤_}
+use native.Mathlib.Omega.{arith}
+use lib.Dec.{leb}
+use lib.ListN.{length, take, drop}
+use lib.Seq.{take-at}
+use borrow.Author.Tests.{leb-true, le-leb}
+use Rattle.terms.specs.Lists.{All}
+use Rattle.terms.specs.Term.{Term, Linear}
+use Rattle.terms.specs.Listing.{listing}
+use Rattle.terms.proofs.All.{all-implies, all-both, all-map}
+use Rattle.terms.proofs.Theorems.{partition, strike-out, listing-represents}
+use Rattle.wire.specs.Reply.{accepted, refused, Reading, accept, refuse, IsBytes}
+use Rattle.wire.specs.Vocabulary.{Vocabulary, signature, InOrder}
+use Rattle.wire.specs.Written.{encodeTerm, GoodTerm, deepest}
+use Rattle.wire.specs.Reading.{readVocabulary, Kinded}
+use Rattle.wire.specs.Checks.{leastBytes, mostBytes, mostLevels, checkedTerm}
+use Rattle.wire.specs.Listed.{placed, repeatedIn, linearOf, linearIn, checkedLinear, kinded, entriesBytes, entriesOf, readEntries, Listed, listedInto, listedPattern, listedVocabulary, listed, Pattern, Entries, ListKeeps}
+use Rattle.wire.proofs.Cond.{cond-true}
+use Rattle.wire.proofs.Outside.{inside-outside}
+use Rattle.wire.proofs.Levels.{deepest-bytes}
+use Rattle.wire.proofs.Words.{in-order-well-formed}
+use Rattle.wire.proofs.VocabulariesInverse.{vocabularies-inverse}
+use Rattle.wire.proofs.WholeTerms.{writes-whole}
+use Rattle.wire.proofs.Inputs.{TermIn, checked-in, in-checked}
+use Rattle.wire.proofs.Entries.{entries-are-good}
+use Rattle.wire.proofs.EntryLevels.{entries-deepest}
+use Rattle.wire.proofs.EntriesRead.{GoodKinded, read-all-entries, entries-same}
+use Rattle.wire.proofs.Repeats.{unrepeated-is-linear}
+
+-- ---- a pattern to be listed is accepted exactly where it is linear and the writing of a good one within the limits
+
+pub record LinearIn (W : Vocabulary) (b : List ℕ) (s : ℕ) (t : Term) : Type 0 where
+  pub term : TermIn W b s t
+  pub linear : Linear t
+
+abbrev AcceptedLinear : Vocabulary → List ℕ → Reading Kinded → Type 0
+AcceptedLinear W b (refuse n q) = Unit {0}
+AcceptedLinear W b (accept x) = LinearIn W b (x .kind) (x .term)
+
+linear-in-of : (W : Vocabulary) (b : List ℕ) → InOrder W → IsBytes b → AcceptedLinear W b (checkedLinear W b)
+linear-in-of W b inOrder bytes = go (checkedTerm W b) refl
+  where
+    names : (x : Kinded) → TermIn W b (x .kind) (x .term) → (o : Option ℕ) → repeatedIn [] (placed W (x .term)) ≡ o →
+        AcceptedLinear W b (linearOf x o)
+    names x h (some q) e = tt
+    names x h none e = record { term = h; linear = unrepeated-is-linear W (x .term) .0 e }
+
+    go : (r : Reading Kinded) → checkedTerm W b ≡ r → AcceptedLinear W b (linearIn W r)
+    go (refuse n q) e = tt
+    go (accept x) e = names x (checked-in W b x inOrder bytes e) (repeatedIn [] (placed W (x .term))) refl
+
+pub linear-in : (W : Vocabulary) (b : List ℕ) (x : Kinded) → InOrder W → IsBytes b → checkedLinear W b ≡ accept x → LinearIn W b (x .kind) (x .term)
+linear-in W b x inOrder bytes e = subst (AcceptedLinear W b) e (linear-in-of W b inOrder bytes)
+
+pub in-linear : (W : Vocabulary) (b : List ℕ) (x : Kinded) → InOrder W → IsBytes b → LinearIn W b (x .kind) (x .term) → checkedLinear W b ≡ accept x
+in-linear W b x inOrder bytes h =
+    ap (linearIn W) (in-checked W b x inOrder bytes (h .term))
+    ∙ ap (linearOf x) (unrepeated-is-linear W (x .term) .1 (h .linear))
+
+-- ---- what is read and what is written
+
+pub pattern-read : (v p : List ℕ) (W : Vocabulary) (x : Kinded) → IsBytes v → IsBytes p →
+    readVocabulary v ≡ accept W → checkedLinear W p ≡ accept x → Pattern v p W (x .kind) (x .term)
+pattern-read v p W x bv bp e f =
+    let read = vocabularies-inverse v W bv .0 e in
+    let h = linear-in W p x (read .0 .inOrder) bp f in
+    record {
+      vocabulary = read .0;
+      written = read .1;
+      pattern = h .term .good;
+      patternWritten = h .term .written;
+      limits = h .term .limits;
+      linear = h .linear;
+    }
+
+-- The reply and the lent slice of a pattern that is accepted.
+pub pattern-listed : (v p out : List ℕ) (W : Vocabulary) (s : ℕ) (t : Term) → IsBytes v → IsBytes p → Pattern v p W s t →
+    listed v p out ≡ listedInto out (length (entriesOf W s t)) (entriesBytes W (entriesOf W s t))
+pattern-listed v p out W s t bv bp h =
+    ap (listedVocabulary p out) (vocabularies-inverse v W bv .1 (h .vocabulary, h .written))
+    ∙ ap (listedPattern W out)
+    (in-linear W p (kinded s t) (h .vocabulary .inOrder) bp
+    (record { term = record { good = h .pattern; written = h .patternWritten; limits = h .limits }; linear = h .linear }))
+
+-- ---- an answer
+
+-- Where the entries are written, they are as many and as long as answered.
+record Answer (out : List ℕ) (n : ℕ) (b : List ℕ) (n′ m : ℕ) (after : List ℕ) : Type 0 where
+  fits : length b ≤ length out
+  count : n ≡ n′
+  size : length b ≡ m
+  written : after ≡ b ++ drop (length b) out
+
+not-accepted : (n i q : ℕ) (l : List ℕ) → refused n i q ≡ accepted l → ⊥
+not-accepted n i q l e = let z : _≡_ {A = ℕ} 0 1 = cc in omega arith
+
+answer-of : (out : List ℕ) (n : ℕ) (b : List ℕ) (n′ m : ℕ) → listedInto out n b .reply ≡ accepted (n′ ∷ m ∷ []) →
+    Answer out n b n′ m (listedInto out n b .out)
+answer-of out n b n′ m e = go (leb (length b) (length out)) refl e
+  where
+    into : Bool → Listed
+    into c =
+        cond c
+        (record { reply = accepted (n ∷ length b ∷ []); out = b ++ drop (length b) out })
+        (record { reply = refused 20 3 (length b); out = out })
+
+    go : (c : Bool) → leb (length b) (length out) ≡ c → into c .reply ≡ accepted (n′ ∷ m ∷ []) → Answer out n b n′ m (into c .out)
+    go true h e = record { fits = leb-true (length b) (length out) h; count = cc; size = cc; written = refl }
+    go false h e = absurd (not-accepted 20 3 (length b) (n′ ∷ m ∷ []) e)
+
+-- An answer comes of a vocabulary and a pattern that are accepted.
+answered-pattern : (v p out : List ℕ) (n m : ℕ) → IsBytes v → IsBytes p → listed v p out .reply ≡ accepted (n ∷ m ∷ []) →
+    (W : Vocabulary) × (s : ℕ) × (t : Term) × Pattern v p W s t × (length (entriesBytes W (entriesOf W s t)) ≤ length out)
+answered-pattern v p out n m bv bp e = vocabulary (readVocabulary v) refl e
+  where
+    pattern : (W : Vocabulary) → readVocabulary v ≡ accept W → (r : Reading Kinded) → checkedLinear W p ≡ r →
+        listedPattern W out r .reply ≡ accepted (n ∷ m ∷ []) →
+        (W : Vocabulary) × (s : ℕ) × (t : Term) × Pattern v p W s t × (length (entriesBytes W (entriesOf W s t)) ≤ length out)
+    pattern W q (refuse i at) f e = absurd (not-accepted i 1 at (n ∷ m ∷ []) e)
+    pattern W q (accept x) f e = (
+      W,
+      x .kind,
+      x .term,
+      pattern-read v p W x bv bp q f,
+      answer-of out (length (entriesOf W (x .kind) (x .term))) (entriesBytes W (entriesOf W (x .kind) (x .term))) n m e .fits,
+    )
+
+    vocabulary : (r : Reading Vocabulary) → readVocabulary v ≡ r → listedVocabulary p out r .reply ≡ accepted (n ∷ m ∷ []) →
+        (W : Vocabulary) × (s : ℕ) × (t : Term) × Pattern v p W s t × (length (entriesBytes W (entriesOf W s t)) ≤ length out)
+    vocabulary (refuse i at) q e = absurd (not-accepted i 0 at (n ∷ m ∷ []) e)
+    vocabulary (accept W) q e = pattern W q (checkedLinear W p) refl e
+
+-- ---- the entries
+
+-- A good term within the limits is accepted from its writing.
+written-checked : (W : Vocabulary) (s : ℕ) (t : Term) → InOrder W → GoodTerm W s t → length (encodeTerm W s t) ≤ mostBytes →
+    deepest t ≤ mostLevels → checkedTerm W (encodeTerm W s t) ≡ accept (kinded s t)
+written-checked W s t inOrder good most deep =
+    let b : List ℕ = encodeTerm W s t in
+    let least : leastBytes ≤ length b = omega (arith, deepest-bytes W t) in
+    rw (inside-outside leastBytes mostBytes (length b) least most)
+    (writes-whole W mostLevels b (kinded s t) inOrder (record { good = good; bytes = refl; fits = deep }))
+
+module _ (v p : List ℕ) (W : Vocabulary) (s : ℕ) (t : Term) (h : Pattern v p W s t) where
+  abbrev entries : List Term
+  entries = listing (signature W) t
+
+  abbrev bytes : List ℕ
+  bytes = entriesBytes W (entriesOf W s t)
+
+  inOrder : InOrder W
+  inOrder = h .vocabulary .inOrder
+
+  good-entries : All (λ e. GoodTerm W s e × Linear e × (length (encodeTerm W s e) ≤ length (encodeTerm W s t))) entries
+  good-entries = entries-are-good W s t (h .pattern) (h .linear)
+
+  good-kinded : All (GoodKinded W) (entriesOf W s t)
+  good-kinded = all-map (GoodKinded W) (kinded s) entries (all-implies _ (λ e. GoodTerm W s e) (λ e g. g .0) entries good-entries)
+
+  each-entry : All (λ e. (checkedTerm W (encodeTerm W s e) ≡ accept (kinded s e)) × Linear e × (length (encodeTerm W s e) ≤ length p)) entries
+  each-entry = all-implies Known _ entry entries (all-both _ _ entries good-entries (entries-deepest (signature W) t))
+    where
+      Known : Term → Type 0
+      Known e = (GoodTerm W s e × Linear e × (length (encodeTerm W s e) ≤ length (encodeTerm W s t))) × (deepest e ≤ deepest t)
+
+      entry : (e : Term) → Known e →
+          (checkedTerm W (encodeTerm W s e) ≡ accept (kinded s e)) × Linear e × (length (encodeTerm W s e) ≤ length p)
+      entry e ((good, alone, short), deep) =
+          let same : length p ≡ length (encodeTerm W s t) = ap length (h .patternWritten) in
+          let limits = h .limits in
+          let most = limits .most in
+          let low = limits .levels in
+          (written-checked W s e inOrder good (omega arith) (omega arith), alone, omega arith)
+
+  entries-kept : (n m : ℕ) (after : List ℕ) → length (entriesOf W s t) ≡ n → take m after ≡ bytes → Entries W s t p n m after
+  entries-kept n m after count written = record {
+    entries = entries;
+    read =
+        ap (readEntries W n) written
+        ∙ ap (λ n. readEntries W n bytes) (sym count)
+        ∙ read-all-entries W inOrder (entriesOf W s t) good-kinded;
+    one = λ l long good e. entries-same W inOrder l (entriesOf W s t) good good-kinded (long ∙ sym count) (sym e ∙ written);
+    order = refl;
+    each = each-entry;
+    once = partition (signature W) t s (h .pattern .sorted .sorted) (h .linear);
+    needed =
+        strike-out (signature W) t s (in-order-well-formed W inOrder) (h .vocabulary .inhabited) (h .pattern .sorted .sorted) (h .linear);
+    represents = listing-represents (signature W) t s (h .pattern .sorted .sorted) (h .linear);
+  }
+
+pub list-keeps : ListKeeps
+list-keeps v p out bv bp = record {
+  reply = refl;
+  out = refl;
+  answered = (
+    (λ a. answered-pattern v p out (a .0) (a .1) bv bp (a .2)),
+    (λ a.
+        let W : Vocabulary = a .0 in
+        let s : ℕ = a .1 in
+        let t : Term = a .2 in
+        let b : List ℕ = entriesBytes W (entriesOf W s t) in (
+          length (entriesOf W s t),
+          length b,
+          ap (λ (r : Listed). r .reply) (pattern-listed v p out W s t bv bp (a .3))
+              ∙ ap (λ (r : Listed). r .reply) (cond-true (leb (length b) (length out)) _ _ (le-leb (length b) (length out) (a .4))),
+        )),
+  );
+  entries = λ n m e W s t h.
+      let b : List ℕ = entriesBytes W (entriesOf W s t) in
+      let known = pattern-listed v p out W s t bv bp h in
+      let a = answer-of out (length (entriesOf W s t)) b n m (sym (ap (λ (r : Listed). r .reply) known) ∙ e) in
+      entries-kept v p W s t h n m (listed v p out .out) (a .count)
+      (ap (take m) (ap (λ (r : Listed). r .out) known ∙ a .written) ∙ take-at b (drop (length b) out) m (a .size));
+}
