@@ -3,6 +3,7 @@ pub mod Answers
 -- Its bytes, then its records, then the kinds that have complete situations, then all of it.
 pub mod KindBytes
 pub mod RecordBytes
+pub mod Padded
 pub mod RecordsRead
 pub mod Marking
 pub mod Rounds

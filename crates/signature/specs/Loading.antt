@@ -1,5 +1,7 @@
 -- Loading: what the functions that load a vocabulary promise each other; no public contract cites it.
 --
+--   Empty r                no word is loaded, and the tables hold zeros
+--   Refuses why r          what refuse answers: this refusal, and nothing loaded
 --   kindsGot v at r        what read_kinds answers of the kind bytes at an offset, as a Got
 --   KindsRead              it is what readKinds gives, and lies within v
 --   wordGot v at r         what read_word answers of the record there, as a Got
@@ -8,12 +10,13 @@
 --   vocabularyOf v n       v's kind count and these words
 --   checksIn v n           lines 3 to 6 of v, which has n records
 --   Entry v o r m w        the word w stands in v at the offset o, with result kind r and place map m
---   Filled v n o r m       the n records of v are in order, end v and stand in the tables o, r and m
---   WordsLoaded v n r      what read_words answers: the reply of lines 3 to 5, or filled tables
+--   Filled v n o r m       the n records of v are in order, end v and stand in the tables o, r and m, zeros behind them
+--   WordsLoaded v n r      what read_words answers: the reply of lines 3 to 5 and nothing loaded, or filled tables
 --   Marks m l              the kinds that are marked in m are those of l
 --   Covers, Grows, FirstMissing    what covered, mark_round and first_missing answer, for any such l
 --   foundKind r            the kind that is found, where there is one
---   Checked v n r          what inhabited answers: the reply of lines 3 to 6, and filled tables where v is accepted
+--   Checked v n r          what inhabited answers: the reply of lines 3 to 6, with filled tables where v is accepted
+--                          and nothing loaded where it is refused
 --
 use mathlib.Core.Path.{_≡_}
 use mathlib.Core.Bool.{Bool, not}
@@ -21,15 +24,16 @@ use mathlib.Core.List.{List, [], map}
 use mathlib.Core.Option.{Option, some, none}
 use Prim.Native.Nat.{ℕ, _+_, _<_, _≤_}
 use lib.Dec.{eqb}
-use lib.ListN.{length, getD, take, drop}
+use lib.ListN.{length, getD, take, drop, replicate}
 use Rattle.terms.specs.Lists.{occurs, range, keep}
 use Rattle.terms.specs.Signature.{Symbol}
 use Rattle.terms.specs.Inhabited.{covered, grow, first}
 use Rattle.wire.specs.Reply.{Reply, Reading, accept, replyOf}
-use Rattle.wire.specs.Vocabulary.{Word, Vocabulary, noWord, symbolOf, WordInOrder}
+use Rattle.wire.specs.Vocabulary.{Word, Vocabulary, noWord, symbolOf, mostWords, WordInOrder}
 use Rattle.wire.specs.Reading.{Got, got, stop, readKinds, readWord, readWords, lines5and6}
-use Rattle.wire.specs.VocabularyLines.{byteAt}
+use Rattle.wire.specs.VocabularyLines.{byteAt, recordAt}
 use Rattle.signature.specs.Answers.{vocabularyRefused, vocabularyNumbers}
+use Rattle.signature.specs.Tables.{padded}
 use Rattle.signature.specs.declared.VocabularyRefusal.{VocabularyRefusal}
 use Rattle.signature.specs.declared.VocabularyAnswer.the-variants.{Accepted, Refused}
 use Rattle.signature.specs.declared.Loaded.{Loaded}
@@ -37,6 +41,18 @@ use Rattle.signature.specs.declared.WordRead.{WordRead}
 use Rattle.signature.specs.declared.WordRead.the-variants.{Whole, Ends, NoSuchKind}
 use Rattle.signature.specs.declared.Missing.{Missing}
 use Rattle.signature.specs.declared.Missing.the-variants.{Kind, Nothing}
+
+-- refuse
+
+pub record Empty (r : Loaded) : Type 0 where
+  pub words : r .words ≡ 0
+  pub offsets : r .offsets ≡ replicate mostWords 0
+  pub results : r .results ≡ replicate mostWords 0
+  pub maps : r .maps ≡ replicate mostWords 0
+
+pub record Refuses (why : VocabularyRefusal) (r : Loaded) : Type 0 where
+  pub answer : r .answer ≡ Refused why
+  pub empty : Empty r
 
 -- read_kinds
 
@@ -100,13 +116,17 @@ pub record Entry (v : List ℕ) (o r m : ℕ) (w : Word) : Type 0 where
   pub kinds : take (length (w .kinds)) (drop (o + 2) v) ≡ w .kinds
   pub sound : WordInOrder (byteAt v 0) w
 
-pub record Filled (v : List ℕ) (n : ℕ) (offsets results maps : List ℕ) : Type 0 where
+pub record Filled (v : List ℕ) (n : ℕ) (o r m : List ℕ) : Type 0 where
   pub read : readWords (byteAt v 0) n (drop 2 v) ≡ got (recordsIn v n) []
   pub count : length (recordsIn v n) ≡ n
-  pub entries : (f : ℕ) → f < n → Entry v (getD offsets f 0) (getD results f 0) (getD maps f 0) (getD (recordsIn v n) f noWord)
+  pub entries : (f : ℕ) → f < n → Entry v (getD o f 0) (getD r f 0) (getD m f 0) (getD (recordsIn v n) f noWord)
+  pub offsets : o ≡ padded (map (recordAt v) (range 0 n))
+  pub results : r ≡ padded (map (λ (w : Word). w .result) (recordsIn v n))
+  pub maps : m ≡ padded (map (λ (w : Word). w .placeMap) (recordsIn v n))
 
 pub record WordsLoaded (v : List ℕ) (n : ℕ) (r : Loaded) : Type 0 where
   pub refused : (why : VocabularyRefusal) → r .answer ≡ Refused why → vocabularyRefused why ≡ checksReply v n
+  pub empty : (why : VocabularyRefusal) → r .answer ≡ Refused why → Empty r
   pub words : r .answer ≡ Accepted → r .words ≡ n
   pub filled : r .answer ≡ Accepted → Filled v n (r .offsets) (r .results) (r .maps)
 
@@ -142,6 +162,7 @@ FirstMissing kinds marked r = (l : List ℕ) → Marks marked l → foundKind r 
 -- The records of v are in order, and r says so of the kinds too, or which of them is empty.
 pub record Checked (v : List ℕ) (n : ℕ) (r : Loaded) : Type 0 where
   pub answer : vocabularyNumbers (r .answer) ≡ checksReply v n
+  pub empty : (why : VocabularyRefusal) → r .answer ≡ Refused why → Empty r
   pub words : r .answer ≡ Accepted → r .words ≡ n
   pub filled : r .answer ≡ Accepted → Filled v n (r .offsets) (r .results) (r .maps)
   pub accepted : r .answer ≡ Accepted → checksIn v n ≡ accept (vocabularyOf v n)

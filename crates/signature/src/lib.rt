@@ -8,8 +8,8 @@ ghost use Rattle.wire.specs.Vocabulary.{signature};
 ghost use Rattle.wire.specs.VocabularyLines.{byteAt};
 ghost use Rattle.signature.specs.Answers.{vocabularyNumbers};
 ghost use Rattle.signature.specs.Tables.{LoadedFrom};
-ghost use Rattle.signature.specs.Loading.{KindsRead, RecordRead, Filled, WordsLoaded, Markable, Covers, Grows, FirstMissing, Checked, foundKind, vocabularyOf};
-ghost use Rattle.signature.specs.declared.VocabularyAnswer.the-variants.{Accepted, Refused};
+ghost use Rattle.signature.specs.Loading.{Refuses, KindsRead, RecordRead, Filled, WordsLoaded, Markable, Covers, Grows, FirstMissing, Checked, foundKind, vocabularyOf};
+ghost use Rattle.signature.specs.declared.VocabularyAnswer.the-variants.{Accepted};
 
 // Why a vocabulary is refused, with the place where it is not fixed: document 01, lines 1 to 6.
 pub enum VocabularyRefusal {
@@ -26,7 +26,8 @@ pub enum VocabularyAnswer {
     Refused(VocabularyRefusal),
 }
 
-// What loading a vocabulary gives. Where it is accepted, the first `words` entries of each table hold.
+// What loading a vocabulary gives: the tables have an entry for each word, and zeros behind the last. A
+// refused vocabulary has no words.
 pub struct Loaded {
     pub answer: VocabularyAnswer,
     pub words: usize,
@@ -56,7 +57,7 @@ fn wide(b: u8) -> usize
 
 // A refused vocabulary's tables hold nothing.
 fn refuse(why: VocabularyRefusal) -> Loaded
-    ensures { λ r. ⌜ r .answer ≡ Refused why ⌝ }
+    ensures { λ r. ⌜ Refuses why r ⌝ }
 {
     Loaded {
         answer: VocabularyAnswer::Refused(why),

@@ -100,7 +100,8 @@ returns-7 c =
     let read = kinds .before .before in
     let refused = c .enum-told2 .given .1 in
     loaded-rest _ _ (read .before .before .before .if1 .left) (kinds .before .if2 .left) (kinds .if3 .left) _ (read .wide .ensures)
-    (words .before .if4 .left) (words .if5 .left) (checked-refused _ _ _ _ refused (loaded .read-words .ensures .refused _ refused))
+    (words .before .if4 .left) (words .if5 .left)
+    (checked-refused _ _ _ _ refused (loaded .read-words .ensures .empty _ refused) (loaded .read-words .ensures .refused _ refused))
 
 pub load-spec : {M : Type 1} → statement M
 load-spec =

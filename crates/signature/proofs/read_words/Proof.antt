@@ -1,4 +1,4 @@
--- `signature::read_words` meets its contract. The loop's invariant: the records passed stand in the tables. The measure is the number of records left.
+-- `signature::read_words` meets its contract. The loop's invariant: the records passed stand in the tables, zeros behind them. The measure is the number of records left.
 use mathlib.Core.Path.{refl}
 use Prim.Native.Nat.{_-_}
 use native.Mathlib.Omega.{arith}
@@ -15,7 +15,7 @@ abbrev μ-loop : tie.MeasureT-loop
 μ-loop v words kinds offsets₀ results₀ maps₀ at₀ w₀ offsets results maps at w = words - w
 
 loop-holds : tie.Need-loop-holds Inv-loop μ-loop
-loop-holds c = tabled-none _ _ _ _ _ (c .before .pre .0) refl refl refl
+loop-holds c = tabled-none _ _ (c .before .pre .0)
 
 read-word-requires : tie.Need-read-word-requires Inv-loop μ-loop
 read-word-requires c κs = search needs
