@@ -14,7 +14,7 @@ use Rattle.signature.specs.declared.VocabularyRefusal.the-variants.{Head, WordC
 no-values : (n i q : ℕ) → refused n i q ≡ accepted [] → ⊥
 no-values n i q e = let z : _≡_ {A = ℕ} 0 1 = cc in omega arith
 
-refused-never : (why : VocabularyRefusal) → vocabularyRefused why ≡ accepted [] → ⊥
+pub refused-never : (why : VocabularyRefusal) → vocabularyRefused why ≡ accepted [] → ⊥
 refused-never Head = no-values 1 0 0
 refused-never WordCount = no-values 2 0 1
 refused-never (Ends q) = no-values 3 0 q

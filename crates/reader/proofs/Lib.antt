@@ -1,4 +1,4 @@
--- The laws behind the proofs of reading a term. The answers differ.
+-- The laws behind the proofs of reading a term and of judging the inputs of match. The answers differ.
 pub mod Answers
 -- Frames and names, what stands at a place, what each turn leads to, and the root.
 pub mod Frames
@@ -12,3 +12,6 @@ pub mod Turns
 pub mod Roots
 -- The vocabulary's check and the term's together.
 pub mod Calls
+-- A situation's gaps, and the inputs of match together.
+pub mod Gaps
+pub mod Judging

@@ -10,7 +10,7 @@ use Rattle.wire.specs.Reading.{Got, got, stop, Read, offset, atLimit, line15}
 use Rattle.wire.specs.Checks.{termValues}
 use Rattle.wire.proofs.Bytes.{offset-drop}
 use Rattle.wire.proofs.Scan.{Tally, tallied}
-use Rattle.reader.specs.Answers.{termNumbers}
+use Rattle.reader.specs.Answers.{termRefused, termNumbers}
 use Rattle.reader.specs.Nodes.{numberOf, placeOf, PlaceInside, answerOf}
 use Rattle.reader.specs.declared.TermRefusal.{TermRefusal}
 use Rattle.reader.specs.declared.TermRefusal.the-variants as T
@@ -39,16 +39,16 @@ module _ (t : List ℕ) (at : ℕ) where
   pub answer-here : (k : ℕ) → at ≤ length t → refused k 1 at ≡ answerOf t (stop k (drop at t))
   answer-here k h = ap (refused k 1) (sym (offset-drop t (drop at t) at refl h))
 
-refusal-reply : (why : TermRefusal) → termNumbers (A.Term why) ≡ refused (numberOf why) 1 (placeOf why)
-refusal-reply T.Size = refl
-refusal-reply T.NoSuchKind = refl
-refusal-reply (T.Ends q) = refl
-refusal-reply (T.TooDeep q) = refl
-refusal-reply (T.NoWordOrName q) = refl
-refusal-reply (T.WrongKind q) = refl
-refusal-reply (T.Clashes q) = refl
-refusal-reply (T.StrayBit q) = refl
-refusal-reply (T.Continues q) = refl
+pub refusal-reply : (input : ℕ) (why : TermRefusal) → termRefused input why ≡ refused (numberOf why) input (placeOf why)
+refusal-reply input T.Size = refl
+refusal-reply input T.NoSuchKind = refl
+refusal-reply input (T.Ends q) = refl
+refusal-reply input (T.TooDeep q) = refl
+refusal-reply input (T.NoWordOrName q) = refl
+refusal-reply input (T.WrongKind q) = refl
+refusal-reply input (T.Clashes q) = refl
+refusal-reply input (T.StrayBit q) = refl
+refusal-reply input (T.Continues q) = refl
 
 -- A refusal at a place of the bytes from an offset on.
 pub answer-refused : (t : List ℕ) (at : ℕ) (why : TermRefusal) → at ≤ length t → PlaceInside at (drop at t) (placeOf why) →
@@ -58,7 +58,7 @@ answer-refused t at why h i =
     let from = i .from in
     let upTo = i .upTo in
     let before : at + (q - at) ≡ q = omega arith in
-    refusal-reply why
+    refusal-reply 1 why
     ∙ ap (refused (numberOf why) 1) (sym (offset-drop t (drop q t) q refl (omega (arith, length-drop at t))))
     ∙ ap (λ l. refused (numberOf why) 1 (offset t l)) (sym (drop-drop (q - at) at t ∙ ap (λ n. drop n t) before))
 

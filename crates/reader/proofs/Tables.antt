@@ -8,7 +8,7 @@ use lib.Count
 use lib.ListN.{length, getD}
 use Rattle.terms.proofs.All.{at-all}
 use Rattle.wire.specs.Map.{flags, ones}
-use Rattle.wire.specs.Vocabulary.{word, mapOf, encodeVocabulary}
+use Rattle.wire.specs.Vocabulary.{word, mapOf, InOrder, encodeVocabulary}
 use Rattle.wire.specs.Checks.{GoodVocabulary}
 use Rattle.wire.proofs.Map.{ones-count}
 use Rattle.wire.proofs.Words.{word-in-order}
@@ -26,8 +26,11 @@ module _ {v : List ℕ} {n : ℕ} {offsets results maps : List ℕ} (t : Tables 
     written : GoodVocabulary (vocabularyIn v) × (v ≡ encodeVocabulary (vocabularyIn v))
     written = vocabularies-inverse v (vocabularyIn v) (at-all (λ b. b < 256) 0 v (λ i h. bytes i)) .0 (t .accepted)
 
+    pub in-order : InOrder (vocabularyIn v)
+    in-order = written .0 .inOrder
+
     pub few-words : n ≤ 96
-    few-words = omega (arith, t .words, written .0 .inOrder .fewWords)
+    few-words = omega (arith, t .words, in-order .fewWords)
 
     pub kind-count : getD v 0 0 ≡ vocabularyIn v .kinds
     kind-count = ap (λ l. getD l 0 0) (written .1)
@@ -37,7 +40,7 @@ module _ {v : List ℕ} {n : ℕ} {offsets results maps : List ℕ} (t : Tables 
 
     -- A word has as many kinds as its map has places.
     kinds-counted : (f : ℕ) → f < n → length (word (vocabularyIn v) f .kinds) ≡ ones (flags (mapOf (vocabularyIn v) f))
-    kinds-counted f h = word-in-order (vocabularyIn v) f (written .0 .inOrder) (omega (arith, t .words)) .count
+    kinds-counted f h = word-in-order (vocabularyIn v) f in-order (omega (arith, t .words)) .count
 
     -- The frame z of the word f at the written map m.
     module _ {f m z : ℕ} {rest : List ℕ} (stands : WordInside n maps rest f m)

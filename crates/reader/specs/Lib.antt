@@ -1,8 +1,10 @@
--- What the contracts of checking a term cite.
+-- What the contracts of checking a term and of judging the inputs of match cite.
 --
 --   Answers    document 01's number and values for each case of the answer
 --   Frames     what the private functions promise each other of the words whose places are due; no public contract cites it
 --   Nodes      the same, of what stands where a term is due
+--   Gaps       the same, of a situation's gaps and of judging it
 pub mod Answers
 pub mod Frames
 pub mod Nodes
+pub mod Gaps

@@ -1,10 +1,12 @@
-// Document 01's check of a term.
+// Document 01's check of a term, and its judging of the inputs of match.
 ghost use mathlib.Core.Path.{_≡_};
 ghost use Rattle.wire.specs.Checks.{termReply};
-ghost use Rattle.reader.specs.Answers.{termNumbers};
+ghost use Rattle.wire.specs.Matching.{judged, clearReply};
+ghost use Rattle.reader.specs.Answers.{termNumbers, inputsNumbers};
 use signature::VocabularyAnswer;
 use signature::VocabularyRefusal;
 
+mod inputs;
 mod term;
 
 // Why a term is refused, with the place where it is not fixed: document 01, lines 7 to 15.
@@ -27,6 +29,20 @@ pub enum TermAnswer {
     Term(TermRefusal),
 }
 
+// Why the inputs of match are refused: document 01, lines 1 to 17.
+pub enum InputsRefusal {
+    Vocabulary(VocabularyRefusal),
+    Pattern(TermRefusal),
+    Situation(TermRefusal),
+    Incomplete(usize),
+    KindsDiffer,
+}
+
+pub enum InputsAnswer {
+    Clear,
+    Refused(InputsRefusal),
+}
+
 // Checks a term under a vocabulary.
 pub fn check_term(vocabulary: &[u8], term: &[u8]) -> TermAnswer
     ensures { λ r. ⌜ termNumbers r ≡ termReply (now (vocabulary .entry)) (now (term .entry)) ⌝ }
@@ -41,6 +57,33 @@ pub fn check_term(vocabulary: &[u8], term: &[u8]) -> TermAnswer
             let results = loaded.results;
             let maps = loaded.maps;
             term::read(vocabulary, term, words, &offsets, &results, &maps)
+        }
+    }
+}
+
+// Judges the inputs of match: a vocabulary, a pattern and a complete situation of the pattern's kind, in
+// this order.
+pub fn judge(vocabulary: &[u8], pattern: &[u8], situation: &[u8]) -> InputsAnswer
+    ensures { λ r. ⌜ inputsNumbers r ≡ clearReply (judged (now (vocabulary .entry)) (now (pattern .entry)) (now (situation .entry))) ⌝ }
+{
+    let loaded = signature::load(vocabulary);
+    let answer = loaded.answer;
+    match answer {
+        VocabularyAnswer::Refused(why) => InputsAnswer::Refused(InputsRefusal::Vocabulary(why)),
+        VocabularyAnswer::Accepted => {
+            let words = loaded.words;
+            let offsets = loaded.offsets;
+            let results = loaded.results;
+            let maps = loaded.maps;
+            inputs::judge_terms(
+                vocabulary,
+                pattern,
+                situation,
+                words,
+                &offsets,
+                &results,
+                &maps,
+            )
         }
     }
 }

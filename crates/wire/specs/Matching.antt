@@ -3,6 +3,7 @@
 --   Inputs                   a vocabulary, a pattern and a situation that are in order
 --   Judged                   inputs in order, or a refusal's number, input and place
 --   judged v p s             the inputs of match, in the order in which they are judged
+--   clearReply j             the reply that says whether the inputs are in order, with no values
 --   tableLength              the table has this many numbers (128)
 --   size W g                 how many bytes the ground term g takes
 --   Span                     an offset and a length
@@ -65,6 +66,10 @@ judgedVocabulary p s (accept W) = judgedPattern W s (checkedTerm W p)
 
 abbrev pub judged : List ℕ → List ℕ → List ℕ → Judged
 judged v p s = judgedVocabulary p s (readVocabulary v)
+
+abbrev pub clearReply : Judged → Reply
+clearReply (clear x) = accepted []
+clearReply (refusal n i q) = refused n i q
 
 -- "a lent table of 128 u16".
 abbrev pub tableLength : ℕ

@@ -1,0 +1,37 @@
+-- Gaps: what the functions that judge a situation promise each other; no public contract cites it.
+--
+--   gapIn maps l at        the first gap of the bytes l, which begin at an offset: a byte that is no word, or
+--                          a map that is not the one in the table maps; up to there each node has two bytes
+--   gapOf g                the place that first_gap answers, where there is one
+--   situationReply W k s   the reply where only the situation s is left to be judged, for a pattern of kind k
+--   patternReply W p s     the reply where pattern and situation are
+--
+use mathlib.Core.Bool.{cond}
+use mathlib.Core.List.{List, [], _∷_}
+use mathlib.Core.Option.{Option, some, none}
+use Prim.Native.Nat.{ℕ, _+_}
+use lib.Dec.{eqb, ltb}
+use lib.ListN.{getD}
+use Rattle.wire.specs.Reply.{Reply, replyOf}
+use Rattle.wire.specs.Vocabulary.{Vocabulary}
+use Rattle.wire.specs.Checks.{checkedTerm}
+use Rattle.wire.specs.Situation.{checkedSituation}
+use Rattle.wire.specs.Matching.{judgedPattern, clearReply}
+use Rattle.reader.specs.declared.inputs.Gap.{Gap}
+use Rattle.reader.specs.declared.inputs.Gap.the-variants.{At, Nothing}
+
+abbrev pub gapIn : List ℕ → List ℕ → ℕ → Option ℕ
+gapIn maps [] at = none
+gapIn maps (b ∷ []) at = some at
+gapIn maps (b ∷ m ∷ l) at =
+    cond (ltb 95 b) (some at) (cond (eqb m (getD maps b 0)) (gapIn maps l (at + 2)) (some (at + 1)))
+
+abbrev pub gapOf : Gap → Option ℕ
+gapOf (At q) = some q
+gapOf Nothing = none
+
+abbrev pub situationReply : Vocabulary → ℕ → List ℕ → Reply
+situationReply W k s = replyOf 2 (λ g. []) (checkedSituation W k s)
+
+abbrev pub patternReply : Vocabulary → List ℕ → List ℕ → Reply
+patternReply W p s = clearReply (judgedPattern W s (checkedTerm W p))
