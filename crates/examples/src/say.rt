@@ -1,5 +1,6 @@
 // A reply as text, in document 01's numbers.
 use libc::STDOUT_FILENO;
+use reader::InputsRefusal;
 use reader::TermAnswer;
 use reader::TermRefusal;
 use signature::VocabularyAnswer;
@@ -9,17 +10,22 @@ pub(crate) fn text(bytes: &[u8]) {
     io::write_all(STDOUT_FILENO, bytes);
 }
 
+// Prints a number and what stands behind it.
+pub(crate) fn count(n: usize, behind: &[u8]) {
+    io::print_decimal(STDOUT_FILENO, n as u64);
+    text(behind);
+}
+
 fn number(n: usize) {
     text(b" ");
     io::print_decimal(STDOUT_FILENO, n as u64);
 }
 
-fn refused(line: usize, input: usize, place: usize) {
+pub(crate) fn refused(line: usize, input: usize, place: usize) {
     text(b"refused");
     number(line);
     number(input);
     number(place);
-    text(b"\n");
 }
 
 // Lines 1 to 6. The vocabulary is input 0.
@@ -34,18 +40,29 @@ fn vocabulary_refused(why: VocabularyRefusal) {
     }
 }
 
-// Lines 7 to 15. A term that is checked alone is input 1.
-fn term_refused(why: TermRefusal) {
+// Lines 7 to 15, of a term that is input 1 or input 2.
+fn term_refused(why: TermRefusal, input: usize) {
     match why {
-        TermRefusal::Size => refused(7, 1, 0),
-        TermRefusal::NoSuchKind => refused(8, 1, 0),
-        TermRefusal::Ends(at) => refused(9, 1, at),
-        TermRefusal::TooDeep(at) => refused(10, 1, at),
-        TermRefusal::NoWordOrName(at) => refused(11, 1, at),
-        TermRefusal::WrongKind(at) => refused(12, 1, at),
-        TermRefusal::Clashes(at) => refused(13, 1, at),
-        TermRefusal::StrayBit(at) => refused(14, 1, at),
-        TermRefusal::Continues(at) => refused(15, 1, at),
+        TermRefusal::Size => refused(7, input, 0),
+        TermRefusal::NoSuchKind => refused(8, input, 0),
+        TermRefusal::Ends(at) => refused(9, input, at),
+        TermRefusal::TooDeep(at) => refused(10, input, at),
+        TermRefusal::NoWordOrName(at) => refused(11, input, at),
+        TermRefusal::WrongKind(at) => refused(12, input, at),
+        TermRefusal::Clashes(at) => refused(13, input, at),
+        TermRefusal::StrayBit(at) => refused(14, input, at),
+        TermRefusal::Continues(at) => refused(15, input, at),
+    }
+}
+
+// Lines 1 to 17. The pattern is input 1, the situation input 2.
+pub(crate) fn inputs_refused(why: InputsRefusal) {
+    match why {
+        InputsRefusal::Vocabulary(of) => vocabulary_refused(of),
+        InputsRefusal::Pattern(of) => term_refused(of, 1),
+        InputsRefusal::Situation(of) => term_refused(of, 2),
+        InputsRefusal::Incomplete(at) => refused(16, 2, at),
+        InputsRefusal::KindsDiffer => refused(17, 2, 0),
     }
 }
 
@@ -53,7 +70,6 @@ fn term_accepted(words: usize, deepest: usize) {
     text(b"accepted");
     number(words);
     number(deepest);
-    text(b"\n");
 }
 
 // Checks a vocabulary and prints the case's line.
@@ -62,12 +78,14 @@ pub(crate) fn vocabulary(label: &[u8], vocabulary: &[u8]) {
     text(label);
     text(b": ");
     match signature::check_vocabulary(vocabulary) {
-        VocabularyAnswer::Accepted => text(b"accepted\n"),
+        VocabularyAnswer::Accepted => text(b"accepted"),
         VocabularyAnswer::Refused(why) => vocabulary_refused(why),
     }
+    text(b"\n");
 }
 
-// Checks a term under a vocabulary, each with its label, and prints the case's line.
+// Checks a term under a vocabulary, each with its label, and prints the case's line. A term that is checked
+// alone is input 1.
 pub(crate) fn term(name: &[u8], vocabulary: &[u8], label: &[u8], term: &[u8]) {
     text(b"term, ");
     text(name);
@@ -77,6 +95,7 @@ pub(crate) fn term(name: &[u8], vocabulary: &[u8], label: &[u8], term: &[u8]) {
     match reader::check_term(vocabulary, term) {
         TermAnswer::Accepted(words, deepest) => term_accepted(words, deepest),
         TermAnswer::Vocabulary(why) => vocabulary_refused(why),
-        TermAnswer::Term(why) => term_refused(why),
+        TermAnswer::Term(why) => term_refused(why, 1),
     }
+    text(b"\n");
 }

@@ -1,5 +1,7 @@
 // Tables of cases: a line a case, its label, a colon, and its bytes in hexadecimal with single blanks.
 use crate::long;
+use crate::match_line;
+use crate::match_line::Call;
 use crate::say;
 ghost use Prim.Native.Nat.{_≤_, _<_};
 ghost use lib.ListN.{length};
@@ -127,6 +129,37 @@ pub(crate) fn under_each(label: &[u8], term: &[u8], table: &[u8]) {
     while at < table.len() {
         let end = find(table, at, b'\n');
         under(&table[at..end], label, term);
+        at = end + 1;
+    }
+}
+
+fn case(name: &[u8], vocabulary: &[u8], what: Call, line: &[u8]) {
+    if line.len() == 0 {
+        return;
+    }
+    let colon = find(line, 0, b':');
+    let slash = find(line, colon, b'/');
+    let mut pattern = [0u8; 4097];
+    let mut situation = [0u8; 4097];
+    let p = decode(&line[colon..slash], &mut pattern, 0);
+    let s = decode(&line[slash..], &mut situation, 0);
+    match_line::run(
+        name,
+        vocabulary,
+        &line[0..colon],
+        long::first(&pattern, p),
+        long::first(&situation, s),
+        what,
+    );
+}
+
+// Calls match or part under a vocabulary on each line of a table, in which a slash stands between the bytes of the
+// pattern and those of the situation.
+pub(crate) fn calls(name: &[u8], vocabulary: &[u8], what: Call, table: &[u8]) {
+    let mut at = 0;
+    while at < table.len() {
+        let end = find(table, at, b'\n');
+        case(name, vocabulary, what, &table[at..end]);
         at = end + 1;
     }
 }

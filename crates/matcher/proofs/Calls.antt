@@ -1,0 +1,217 @@
+-- Calls: the answers of match and part are those of the definitions, which keep the calls' promises.
+use mathlib.Core.Path.{_≡_, refl, sym, ap, ap₂, _∙_, subst, subst₂}
+use mathlib.Core.Bool.{Bool, true, false, cond, _&&_, true≢false, false≢true}
+use mathlib.Core.List.{List, [], _∷_, _++_, append-nil}
+use mathlib.Core.Option.{Option, some, none}
+use Prim.Native.Nat.{ℕ, zero, suc, _+_, _-_, _*_, _<_, _≤_}
+use native.Mathlib.Omega.{arith}
+use lib.Dec.{eqb, ltb}
+use lib.ListN.{length, getD, take, drop, length-drop, length-append}
+use borrow.Author.Tests.{ne-eqb, eq-eqb, le-ltb, lt-ltb}
+use Rattle.terms.specs.Lists.{occurs}
+use Rattle.terms.specs.Term.{Ground, names}
+use Rattle.terms.specs.Filling.{Filling}
+use Rattle.terms.specs.Matcher.{matcher}
+use Rattle.wire.specs.Reply.{Reply, accepted, refused, IsBytes}
+use Rattle.wire.specs.Written.{nameCount, encodeAt, asTerm}
+use Rattle.wire.specs.Vocabulary.{Vocabulary}
+use Rattle.wire.specs.Matching.{Inputs, Judged, clear, refusal, judged, clearReply, tableLength, Span, orNoSpan, noSpan, span, spanFrom, spanTable, spanIn, yes, no, verdict, matchedWith, matched, cutOut, partFound, partWith, partOf, Reads, MatchPromise, PartPromise}
+use Rattle.wire.proofs.Inputs.{clear-is-reads}
+use Rattle.wire.proofs.Matching.{match-keeps, part-keeps}
+use Rattle.wire.proofs.GroundBytes.{size-least, root-ground}
+use Rattle.wire.proofs.Spans.{coverFrom, Covers, SpanHolds, span-covers, span-absent}
+use Rattle.wire.proofs.SpanTable.{length-table, table-span}
+use Rattle.reader.specs.Answers.{inputsRefused, inputsNumbers}
+use Rattle.reader.specs.declared.InputsRefusal.{InputsRefusal}
+use Rattle.reader.specs.declared.InputsAnswer.the-variants.{Clear, Refused}
+use Rattle.reader.proofs.Answers.{inputs-answers-differ}
+use Rattle.matcher.specs.Walking.{InputsRead, found, Walked}
+
+-- ---- bytes
+
+pub bytes-of : (l : List ℕ) → ((i : ℕ) → getD l i 0 < 256) → IsBytes l
+bytes-of [] h = tt
+bytes-of (b ∷ l) h = (h 0, bytes-of l (λ i. h (suc i)))
+
+-- ---- what the inputs are judged to be
+
+pub judged-clear : (j : Judged) → accepted [] ≡ clearReply j → (x : Inputs) × (j ≡ clear x)
+judged-clear (clear x) e = (x, refl)
+judged-clear (refusal n i q) e = absurd (let z : _≡_ {A = ℕ} 0 1 = cc in omega arith)
+
+not-clear : (why : InputsRefusal) → inputsRefused why ≡ accepted [] → ⊥
+not-clear why e = let same = inputs-answers-differ (Refused why) Clear e in let z : _≡_ {A = ℕ} 0 1 = cc in omega arith
+
+-- The lent inputs are bytes.
+pub record Lent (v p s : List ℕ) : Type 0 where
+  pub vocabulary : IsBytes v
+  pub pattern : IsBytes p
+  pub situation : IsBytes s
+
+-- The part from an offset on, as it is lent.
+part-cut : (s spans : List ℕ) (n from long : ℕ) → from ≡ getD spans (2 * n) 0 → long ≡ getD spans (2 * n + 1) 0 →
+    take (from + long - from) (drop from s) ≡ cutOut s (spanIn spans n)
+part-cut s spans n from long e l =
+    let size : from + long - from ≡ long = omega arith in
+    ap₂ (λ k o. take k (drop o s)) (size ∙ l) e
+
+module _ {v p s : List ℕ} (lent : Lent v p s) where
+  pub inputs-read : accepted [] ≡ clearReply (judged v p s) → InputsRead p s
+  inputs-read e =
+      let j = judged-clear (judged v p s) e in
+      record { bytes = v; inputs = j .0; reads = clear-is-reads v p s (j .0) (lent .vocabulary) (lent .pattern) (lent .situation) .0 (j .1) }
+
+  -- ---- match
+
+  module _ (before after : List ℕ) where
+    promised : (r : Reply) → r ≡ matched v p s before .reply → after ≡ matched v p s before .table → MatchPromise v p s before after r
+    promised r e t = subst₂ (λ a r. MatchPromise v p s before a r) (sym t) (sym e) (match-keeps v p s before (lent .vocabulary) (lent .pattern) (lent .situation))
+
+    pub match-refused : (why : InputsRefusal) → inputsRefused why ≡ clearReply (judged v p s) → after ≡ before →
+        MatchPromise v p s before after (inputsRefused why)
+    match-refused why e t = promised (inputsRefused why) (reply (judged v p s) e) (t ∙ table (judged v p s) e)
+      where
+        reply : (j : Judged) → inputsRefused why ≡ clearReply j → inputsRefused why ≡ matchedWith before j .reply
+        reply (clear x) e = absurd (not-clear why e)
+        reply (refusal n i q) e = e
+
+        table : (j : Judged) → inputsRefused why ≡ clearReply j → before ≡ matchedWith before j .table
+        table (clear x) e = absurd (not-clear why e)
+        table (refusal n i q) e = refl
+
+    module _ (clears : accepted [] ≡ clearReply (judged v p s)) where
+      here : InputsRead p s
+      here = inputs-read clears
+
+      matched-here : matched v p s before ≡ matchedWith before (clear (here .inputs))
+      unfolding here inputs-read
+      matched-here = ap (matchedWith before) (judged-clear (judged v p s) clears .1)
+
+      pub match-length : (length before ≡ tableLength → ⊥) → after ≡ before → MatchPromise v p s before after (refused 19 3 0)
+      match-length d t =
+          let e = matched-here ∙ ap (λ b. cond b (verdict before (here .inputs) (matcher (here .inputs .pattern) (here .inputs .situation)))
+          (record { reply = refused 19 3 0; table = before })) (ne-eqb (length before) tableLength d) in
+          promised (refused 19 3 0) (sym (ap (λ m. m .reply) e)) (t ∙ sym (ap (λ m. m .table) e))
+
+      module _ (long : length before ≡ tableLength) where
+        judged-here : matched v p s before ≡ verdict before (here .inputs) (matcher (here .inputs .pattern) (here .inputs .situation))
+        judged-here =
+            matched-here ∙ ap (λ b. cond b (verdict before (here .inputs) (matcher (here .inputs .pattern) (here .inputs .situation)))
+            (record { reply = refused 19 3 0; table = before })) (eq-eqb (length before) tableLength long)
+
+        pub match-yes : {spans : List ℕ} → Walked p s spans true → after ≡ spans → MatchPromise v p s before after yes
+        match-yes {spans} walked t =
+            promised yes (sym (ap (λ m. m .reply) judged-here ∙ reply (matcher (here .inputs .pattern) (here .inputs .situation)) (walked here .answer)))
+            (t ∙ walked here .table refl ∙ sym (ap (λ m. m .table) judged-here ∙ table (matcher (here .inputs .pattern) (here .inputs .situation)) (walked here .answer)))
+          where
+            reply : (o : Option Filling) → true ≡ found o → verdict before (here .inputs) o .reply ≡ yes
+            reply (some f) e = refl
+            reply none e = absurd (true≢false e)
+
+            table : (o : Option Filling) → true ≡ found o →
+                verdict before (here .inputs) o .table ≡ spanTable (here .inputs .vocabulary) (here .inputs .pattern) (here .inputs .situation)
+            table (some f) e = refl
+            table none e = absurd (true≢false e)
+
+        pub match-no : {spans : List ℕ} → Walked p s spans false → after ≡ before → MatchPromise v p s before after no
+        match-no walked t =
+            promised no (sym (ap (λ m. m .reply) judged-here ∙ reply (matcher (here .inputs .pattern) (here .inputs .situation)) (walked here .answer)))
+            (t ∙ sym (ap (λ m. m .table) judged-here ∙ table (matcher (here .inputs .pattern) (here .inputs .situation)) (walked here .answer)))
+          where
+            reply : (o : Option Filling) → false ≡ found o → verdict before (here .inputs) o .reply ≡ no
+            reply (some f) e = absurd (false≢true e)
+            reply none e = refl
+
+            table : (o : Option Filling) → false ≡ found o → verdict before (here .inputs) o .table ≡ before
+            table (some f) e = absurd (false≢true e)
+            table none e = refl
+
+  -- ---- part
+
+  module _ (n : ℕ) where
+    part-promised : (r : List ℕ) → r ≡ partOf v p s n → PartPromise v p s n r
+    part-promised r e = subst (PartPromise v p s n) (sym e) (part-keeps v p s n (lent .vocabulary) (lent .pattern) (lent .situation))
+
+    pub part-refused : (why : InputsRefusal) → inputsRefused why ≡ clearReply (judged v p s) → PartPromise v p s n []
+    part-refused why e = part-promised [] (reply (judged v p s) e)
+      where
+        reply : (j : Judged) → inputsRefused why ≡ clearReply j → [] ≡ partWith s n j
+        reply (clear x) e = absurd (not-clear why e)
+        reply (refusal n i q) e = refl
+
+    module _ (clears : accepted [] ≡ clearReply (judged v p s)) where
+      part-here : partOf v p s n ≡ partWith s n (clear (inputs-read clears .inputs))
+      unfolding inputs-read
+      part-here = ap (partWith s n) (judged-clear (judged v p s) clears .1)
+
+      pub part-above : 63 < n → PartPromise v p s n []
+      part-above l = part-promised [] (sym (part-here ∙ reply (matcher (inputs-read clears .inputs .pattern) (inputs-read clears .inputs .situation))))
+        where
+          reply : (o : Option Filling) → partFound s (inputs-read clears .inputs) n o ≡ []
+          reply none = refl
+          reply (some f) =
+              let x = inputs-read clears .inputs in
+              ap (λ b. cond (b && occurs n (names (x .pattern))) (cutOut s (span (x .vocabulary) (x .pattern) (x .situation) n)) [])
+              (le-ltb n nameCount (omega arith))
+
+      pub part-none : {spans : List ℕ} → Walked p s spans false → PartPromise v p s n []
+      part-none walked = part-promised [] (sym (part-here ∙ reply (matcher (inputs-read clears .inputs .pattern) (inputs-read clears .inputs .situation)) (walked (inputs-read clears) .answer)))
+        where
+          reply : (o : Option Filling) → false ≡ found o → partFound s (inputs-read clears .inputs) n o ≡ []
+          reply (some f) e = absurd (false≢true e)
+          reply none e = refl
+
+      module _ (low : n < 64) {spans : List ℕ} (walked : Walked p s spans true) where
+        span-here : spanIn spans n ≡ span (inputs-read clears .inputs .vocabulary) (inputs-read clears .inputs .pattern) (inputs-read clears .inputs .situation) n
+        span-here =
+            let x = inputs-read clears .inputs in
+            ap (λ t. spanIn t n) (walked (inputs-read clears) .table refl) ∙ table-span (x .vocabulary) (x .pattern) (x .situation) n low
+
+        pub part-inside : getD spans (2 * n) 0 + getD spans (2 * n + 1) 0 ≤ length s
+        part-inside =
+            let x = inputs-read clears .inputs in
+            let reads = inputs-read clears .reads in
+            subst (λ (y : Span). y .offset + y .length ≤ length s) (sym span-here)
+            (go (spanFrom (x .vocabulary) (x .pattern) (x .situation) n 1) (coverFrom (x .pattern) (x .situation) n)
+            (span-covers (x .vocabulary) (x .pattern) (x .situation) n 1 s []
+            (ap (drop 1) (reads .situationWritten) ∙ root-ground (x .vocabulary) (x .situation)
+            ∙ sym (append-nil (encodeAt (x .vocabulary) (asTerm (x .situation)))))))
+          where
+            go : (o : Option Span) (c : Option Ground) → SpanHolds (inputs-read clears .inputs .vocabulary) s o c → orNoSpan o .offset + orNoSpan o .length ≤ length s
+            go none c h = omega arith
+            go (some y) none h = absurd h
+            go (some y) (some g) h =
+                let W = inputs-read clears .inputs .vocabulary in
+                let l = h .long in
+                omega (arith, size-least W g, length-drop (y .offset) s, ap length (h .stands), length-append (encodeAt W (asTerm g)) (h .behind))
+
+        pub part-found : (from long : ℕ) → from ≡ getD spans (2 * n) 0 → long ≡ getD spans (2 * n + 1) 0 →
+            PartPromise v p s n (take (from + long - from) (drop from s))
+        part-found from long e l =
+            part-promised (take (from + long - from) (drop from s)) (part-cut s spans n from long e l ∙ ap (cutOut s) span-here ∙ sym (part-here ∙ reply (matcher (inputs-read clears .inputs .pattern) (inputs-read clears .inputs .situation)) (walked (inputs-read clears) .answer)))
+          where
+            go : (b : Bool) → occurs n (names (inputs-read clears .inputs .pattern)) ≡ b →
+                cond b (cutOut s (span (inputs-read clears .inputs .vocabulary) (inputs-read clears .inputs .pattern) (inputs-read clears .inputs .situation) n)) []
+                ≡ cutOut s (span (inputs-read clears .inputs .vocabulary) (inputs-read clears .inputs .pattern) (inputs-read clears .inputs .situation) n)
+            go true q = refl
+            go false q =
+                let y = inputs-read clears .inputs in
+                ap (λ o. cutOut s (orNoSpan o)) (sym (span-absent (y .vocabulary) (y .pattern) (y .situation) n 1 q))
+
+            reply : (o : Option Filling) → true ≡ found o →
+                partFound s (inputs-read clears .inputs) n o
+                ≡ cutOut s (span (inputs-read clears .inputs .vocabulary) (inputs-read clears .inputs .pattern) (inputs-read clears .inputs .situation) n)
+            reply none e = absurd (true≢false e)
+            reply (some f) e =
+                let y = inputs-read clears .inputs in
+                ap (λ b. cond (b && occurs n (names (y .pattern))) (cutOut s (span (y .vocabulary) (y .pattern) (y .situation) n)) []) (lt-ltb n nameCount low)
+                ∙ go (occurs n (names (y .pattern))) refl
+
+-- ---- what a walk says, by its answer
+
+pub walked-as : {p s spans : List ℕ} {r : Bool} (b : Bool) → r ≡ b → Walked p s spans r → Walked p s spans b
+walked-as {p} {s} {spans} b e h = subst (λ q. Walked p s spans q) e h
+
+pub walked-long : {p s spans : List ℕ} → InputsRead p s → Walked p s spans true → length spans ≡ 128
+walked-long a walked =
+    ap length (walked a .table refl) ∙ length-table (a .inputs .vocabulary) (a .inputs .pattern) (a .inputs .situation)

@@ -1,0 +1,101 @@
+-- Parts: parts of the situation compared byte by byte, and the table filled.
+use mathlib.Core.Path.{_≡_, refl, sym, ap, ap₂, _∙_, subst}
+use mathlib.Core.Bool.{Bool, not, true, false, true≢false, false≢true}
+use mathlib.Core.List.{List, [], _∷_, _++_}
+use mathlib.Core.Logic.{_≢_}
+use Prim.Native.Nat.{ℕ, _+_, _*_, _<_, _≤_}
+use native.Mathlib.Decide.{ℕ-discrete}
+use native.Mathlib.Numerals.{add-one}
+use native.Mathlib.Omega.{arith}
+use lib.ListN.{length, getD, take, drop, set, length-drop, length-set}
+use lib.Seq.{take-suc, getD-take, getD-drop, getD-set-same, getD-set-other, ext-getD}
+use Rattle.matcher.specs.Walking.{Same, Covered}
+
+-- One byte more.
+pub part-more : (s : List ℕ) (a b i : ℕ) → a + i < length s → b + i < length s → getD s (a + i) 0 ≡ getD s (b + i) 0 →
+    take i (drop a s) ≡ take i (drop b s) → take (i + 1) (drop a s) ≡ take (i + 1) (drop b s)
+part-more s a b i la lb e h =
+    one a la ∙ ap₂ (λ l x. l ++ (x ∷ [])) h e ∙ sym (one b lb)
+  where
+    one : (c : ℕ) → c + i < length s → take (i + 1) (drop c s) ≡ take i (drop c s) ++ (getD s (c + i) 0 ∷ [])
+    one c l =
+        ap (λ n. take n (drop c s)) (add-one i)
+        ∙ take-suc (drop c s) i 0 (omega (arith, length-drop c s))
+        ∙ ap (λ x. take i (drop c s) ++ (x ∷ [])) (getD-drop c s i 0)
+
+pub part-other : (s : List ℕ) (a b n i : ℕ) → i < n → (getD s (a + i) 0 ≡ getD s (b + i) 0 → ⊥) → Same s a b n false
+part-other s a b n i l d = record {
+  yes = λ e. absurd (false≢true e);
+  no = λ q e. d (sym (one a) ∙ ap (λ l. getD l i 0) e ∙ one b);
+}
+  where
+    one : (c : ℕ) → getD (take n (drop c s)) i 0 ≡ getD s (c + i) 0
+    one c = getD-take n (drop c s) i 0 l ∙ getD-drop c s i 0
+
+pub part-same : (s : List ℕ) (a b n i : ℕ) → n ≤ i → i ≤ n → take i (drop a s) ≡ take i (drop b s) → Same s a b n true
+part-same s a b n i l m e =
+    let same : i ≡ n = omega arith in
+    record {
+      yes = λ q. subst (λ k. take k (drop a s) ≡ take k (drop b s)) same e;
+      no = λ q h. absurd (true≢false q);
+    }
+
+-- The first i numbers of a table are those of the spans.
+pub record Filled (spans table : List ℕ) (i : ℕ) : Type 0 where
+  pub long : length table ≡ 128
+  pub inside : i ≤ 128
+  pub first : (k : ℕ) → k < i → getD table k 0 ≡ getD spans k 0
+
+pub filled-more : {spans table : List ℕ} {i : ℕ} → Filled spans table i → i < 128 → Filled spans (set table i (getD spans i 0)) (i + 1)
+filled-more {spans} {table} {i} h l = record {
+  long = length-set table i (getD spans i 0) ∙ h .long;
+  inside = omega arith;
+  first = λ k b. go k b (ℕ-discrete k i);
+}
+  where
+    go : (k : ℕ) → k < i + 1 → Dec (k ≡ i) → getD (set table i (getD spans i 0)) k 0 ≡ getD spans k 0
+    go k b (yes e) = ap (λ n. getD (set table i (getD spans i 0)) n 0) e ∙ getD-set-same table i (getD spans i 0) 0 (omega (arith, h .long)) ∙ ap (λ n. getD spans n 0) (sym e)
+    go k b (no d) = let apart : k ≢ i = d in getD-set-other table i k (getD spans i 0) 0 apart ∙ h .first k (omega arith)
+
+pub filled-whole : {spans table : List ℕ} {i : ℕ} → Filled spans table i → 128 ≤ i → length spans ≡ 128 → table ≡ spans
+filled-whole {spans} {table} {i} h l m =
+    ext-getD 0 table spans (h .long ∙ sym m) (λ k b. h .first k (omega (arith, h .long)))
+
+-- ---- a name's part
+
+pub covered-new : (s before : List ℕ) (name at n : ℕ) → getD before (2 * name + 1) 0 ≡ 0 →
+    Covered s before (set (set before (2 * name) at) (2 * name + 1) n) name at n true
+covered-new s before name at n e = record {
+  new = λ q. (refl, refl);
+  kept = λ d. absurd (d e);
+  yes = λ d q. absurd (d e);
+  no = λ d q l h. d e;
+}
+
+pub covered-longer : (s before : List ℕ) (name at n : ℕ) → (getD before (2 * name + 1) 0 ≡ 0 → ⊥) → (getD before (2 * name + 1) 0 ≡ n → ⊥) →
+    Covered s before before name at n false
+covered-longer s before name at n d o = record {
+  new = λ e. absurd (d e);
+  kept = λ q. refl;
+  yes = λ q t. absurd (false≢true t);
+  no = λ q t l h. o l;
+}
+
+pub covered-again : (s before : List ℕ) (name at n first : ℕ) (r : Bool) → (getD before (2 * name + 1) 0 ≡ 0 → ⊥) → getD before (2 * name + 1) 0 ≡ n →
+    first ≡ getD before (2 * name) 0 → Same s first at n r → Covered s before before name at n r
+covered-again s before name at n first r d e f h = record {
+  new = λ q. absurd (d q);
+  kept = λ q. refl;
+  yes = λ q t. (e, subst (λ a. take n (drop a s) ≡ take n (drop at s)) f (h .yes t));
+  no = λ q t l k. h .no t (subst (λ a. take n (drop a s) ≡ take n (drop at s)) (sym f) k);
+}
+
+-- ---- a test that is turned round
+
+pub not-true : (b : Bool) → not b ≡ true → b ≡ false
+not-true true e = absurd (false≢true e)
+not-true false e = refl
+
+pub not-false : (b : Bool) → not b ≡ false → b ≡ true
+not-false true e = refl
+not-false false e = absurd (true≢false e)

@@ -1,0 +1,6 @@
+-- What the contracts of match and part cite.
+--
+--   Answers    document 01's number and values for each case of match's answer
+--   Walking    what the private functions promise each other; no public contract cites it
+pub mod Answers
+pub mod Walking
