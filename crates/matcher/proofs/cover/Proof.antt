@@ -1,5 +1,6 @@
 -- `matcher::cover` meets its contract.
 use mathlib.Core.Path.{sym, _∙_}
+use native.Mathlib.Omega.{arith}
 use borrow.Author.Needs.{needs}
 use Rattle.matcher.proofs.Parts.{covered-new, covered-longer, covered-again}
 use Rattle.matcher.proofs.cover.Statement.{statement}
@@ -48,7 +49,7 @@ element-write-spans-2 : tie.Need-element-write-spans-2
 element-write-spans-2 c = search needs
 
 returns : tie.Need-returns
-returns c = covered-new _ _ _ _ _ (sym (c .before .wide16 .ensures .0) ∙ c .if1 .taken)
+returns c = let before = c .before .wide16 .ensures .0 in let none = c .if1 .taken in covered-new _ _ (c .before .before .before .before .args .name) _ _ (omega arith)
 
 returns-2 : tie.Need-returns-2
 returns-2 c = let before = c .before .before .wide16 .ensures .0 in

@@ -35,13 +35,13 @@ loop-less : tie.Need-loop-less Inv-loop μ-loop
 loop-less c = search needs
 
 loop-again : tie.Need-loop-again Inv-loop μ-loop
-loop-again c = filled-more (c .before .before .loop .inv) (c .before .loop-test .taken)
+loop-again c = let below = c .before .loop-test .taken in filled-more (c .before .before .loop .inv) (omega arith)
 
 same-length : tie.Need-same-length Inv-loop μ-loop
 same-length c = c .before .loop .inv .long ∙ sym (c .before .before .pre .0)
 
 returns : tie.Need-returns Inv-loop μ-loop
-returns c = filled-whole (c .before .loop .inv) (c .loop-test .left) (c .before .before .pre .1)
+returns c = let over = c .loop-test .left in filled-whole (c .before .loop .inv) (omega arith) (c .before .before .pre .1)
 
 pub fill-table-spec : {M : Type 1} → statement M
 fill-table-spec =
