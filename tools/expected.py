@@ -3,9 +3,10 @@
 
   python3 tools/expected.py > crates/examples/stdout
 
-The checks below are a second reading of document 01's sentences; they share no code with the
-crates. They were written with the crates' code in view, so they are no blind second opinion. Each section of cases is a function that yields lines; a new call gets a section of its own,
-added to SECTIONS at the end. Values worked out by hand stand in `by_hand`, which runs first.
+The checks below are a second reading of document 01's sentences. They share no code with the crates,
+but they were written with the crates' code in view, so they are no blind second opinion. Each section
+of cases is a function that yields lines; a new call gets a section of its own, added to SECTIONS at
+the end. Values worked out by hand stand in `by_hand`, which runs first.
 """
 import sys
 from dataclasses import dataclass, field
