@@ -18,7 +18,7 @@ use Rattle.reader.specs.declared.InputsAnswer.{InputsAnswer}
 use Rattle.reader.specs.declared.InputsAnswer.the-variants.{Clear, Refused}
 
 -- The refusal of a number and a place.
-abbrev termRefusalOf : ℕ → ℕ → TermRefusal
+abbrev pub termRefusalOf : ℕ → ℕ → TermRefusal
 termRefusalOf n q =
     cond (eqb n 7) T.Size (cond (eqb n 8) T.NoSuchKind (cond (eqb n 9) (T.Ends q) (cond (eqb n 10) (T.TooDeep q)
     (cond (eqb n 11) (T.NoWordOrName q) (cond (eqb n 12) (T.WrongKind q) (cond (eqb n 13) (T.Clashes q)

@@ -1,0 +1,160 @@
+-- Calls: the whole call from its parts.
+use mathlib.Core.Path.{_≡_, refl, sym, ap, ap₂, _∙_, subst}
+use mathlib.Core.List.{List, [], _∷_}
+use mathlib.Core.Option.{Option, some, none}
+use Prim.Native.Nat.{ℕ, _<_, _≤_}
+use native.Mathlib.Omega.{arith}
+use lib.ListN.{length, getD}
+use Rattle.terms.proofs.All.{at-all}
+use Rattle.wire.specs.Reply.{Reply, accepted, refused, Reading, accept, refuse, replyOf, IsBytes}
+use Rattle.wire.specs.Vocabulary.{Vocabulary}
+use Rattle.wire.specs.Written.{encodeTerm}
+use Rattle.wire.specs.Reading.{readVocabulary, Kinded}
+use Rattle.wire.specs.Checks.{checkedTerm, termValues, termReplyUnder, termReply, vocabularyReply}
+use Rattle.wire.specs.Listed.{Listed, placed, repeatedIn, linearOf, linearIn, kinded, entriesBytes, entriesOf, listedInto, listedPattern, listedVocabulary, listed, ListPromise}
+use Rattle.wire.proofs.Inputs.{checked-in}
+use Rattle.wire.proofs.Listed.{list-keeps}
+use Rattle.wire.proofs.VocabulariesInverse.{vocabularies-inverse}
+use Rattle.signature.specs.Answers.{vocabularyRefused, vocabularyNumbers}
+use Rattle.signature.specs.Tables.{Tables, vocabularyIn}
+use Rattle.signature.specs.declared.VocabularyRefusal.{VocabularyRefusal}
+use Rattle.signature.specs.declared.VocabularyRefusal.the-variants.{Head, WordCount, Ends, NoSuchKind, Continues, EmptyKind}
+use Rattle.reader.specs.Answers.{termRefused}
+use Rattle.reader.specs.declared.TermRefusal.{TermRefusal}
+use Rattle.reader.specs.declared.TermRefusal.the-variants as T
+use Rattle.reader.proofs.Calls.{reply-refused}
+use Rattle.complement.specs.Listing.{Tabled, placedIn, repeatOf}
+use Rattle.complement.specs.Calls.{Patterned, Shows}
+use Rattle.complement.specs.declared.Repeat.{Repeat}
+use Rattle.complement.specs.declared.Repeat.the-variants.{At, Nothing}
+use Rattle.complement.proofs.Repeating.{placed-pattern}
+
+-- ---- a name that stands twice
+
+module _ {p : List ℕ} {words : ℕ} {results : List ℕ} (h : Patterned p words results) (before : List ℕ) where
+  repeats : (r : Repeat) → repeatOf r ≡ repeatedIn [] (placedIn words 1 p 0) → repeatOf r ≡ repeatedIn [] (placed (h .vocabulary) (h .term))
+  repeats r e =
+      e
+      ∙ ap₂ (λ n b. repeatedIn [] (placedIn n 1 b 0)) (h .tabled .words) (h .written)
+      ∙ ap (repeatedIn []) (placed-pattern (h .vocabulary) (h .inOrder) (h .kind) (h .term) (h .good))
+
+  judged : (r : Repeat) → repeatOf r ≡ repeatedIn [] (placedIn words 1 p 0) →
+      listedPattern (h .vocabulary) before (linearIn (h .vocabulary) (accept (kinded (h .kind) (h .term))))
+      ≡ listedPattern (h .vocabulary) before (linearOf (kinded (h .kind) (h .term)) (repeatOf r))
+  judged r e = ap (λ o. listedPattern (h .vocabulary) before (linearOf (kinded (h .kind) (h .term)) o)) (sym (repeats r e))
+
+  pub pattern-repeated : (r : Repeat) → repeatOf r ≡ repeatedIn [] (placedIn words 1 p 0) → (q : ℕ) → r ≡ At q →
+      Shows (listedPattern (h .vocabulary) before (linearIn (h .vocabulary) (accept (kinded (h .kind) (h .term))))) (refused 18 1 q) before
+  pattern-repeated r e q f =
+      let g = judged r e ∙ ap (λ r. listedPattern (h .vocabulary) before (linearOf (kinded (h .kind) (h .term)) (repeatOf r))) f in
+      record { reply = sym (ap (λ (l : Listed). l .reply) g); out = sym (ap (λ (l : Listed). l .out) g) }
+
+  pub pattern-linear : (r : Repeat) → repeatOf r ≡ repeatedIn [] (placedIn words 1 p 0) → r ≡ Nothing → {reply : Reply} {after : List ℕ} →
+      Shows
+      (listedInto before (length (entriesOf (h .vocabulary) (h .kind) (h .term)))
+      (entriesBytes (h .vocabulary) (entriesOf (h .vocabulary) (h .kind) (h .term)))) reply after →
+      Shows (listedPattern (h .vocabulary) before (linearIn (h .vocabulary) (accept (kinded (h .kind) (h .term))))) reply after
+  pattern-linear r e f {reply} {after} s =
+      let g = judged r e ∙ ap (λ r. listedPattern (h .vocabulary) before (linearOf (kinded (h .kind) (h .term)) (repeatOf r))) f in
+      subst (λ l. Shows l reply after) (sym g) s
+
+-- ---- refusals of the vocabulary and of the pattern
+
+abbrev Refuses : Reply → Type 0
+Refuses (accepted l) = ⊥
+Refuses (refused n i q) = Unit {0}
+
+vocabulary-refuses : (why : VocabularyRefusal) → Refuses (vocabularyRefused why)
+vocabulary-refuses Head = tt
+vocabulary-refuses WordCount = tt
+vocabulary-refuses (Ends q) = tt
+vocabulary-refuses (NoSuchKind q) = tt
+vocabulary-refuses (Continues q) = tt
+vocabulary-refuses (EmptyKind k) = tt
+
+term-refuses : (why : TermRefusal) → Refuses (termRefused 1 why)
+term-refuses T.Size = tt
+term-refuses T.NoSuchKind = tt
+term-refuses (T.Ends q) = tt
+term-refuses (T.TooDeep q) = tt
+term-refuses (T.NoWordOrName q) = tt
+term-refuses (T.WrongKind q) = tt
+term-refuses (T.Clashes q) = tt
+term-refuses (T.StrayBit q) = tt
+term-refuses (T.Continues q) = tt
+
+-- Where the check of the term refuses, so does list, in the same way.
+refused-listed : (v p before : List ℕ) (r : Reply) → Refuses r → r ≡ termReply v p → Shows (listed v p before) r before
+refused-listed v p before r k e = vocabulary (readVocabulary v) e
+  where
+    pattern : (W : Vocabulary) (x : Reading Kinded) → r ≡ replyOf 1 termValues x → Shows (listedPattern W before (linearIn W x)) r before
+    pattern W (refuse n q) e = record { reply = e; out = refl }
+    pattern W (accept x) e = absurd (subst Refuses e k)
+
+    vocabulary : (x : Reading Vocabulary) → r ≡ termReplyUnder p x → Shows (listedVocabulary p before x) r before
+    vocabulary (refuse n q) e = record { reply = e; out = refl }
+    vocabulary (accept W) e = pattern W (checkedTerm W p) e
+
+-- ---- the whole call
+
+module _ (v p before : List ℕ) (vocabularyBytes : (i : ℕ) → getD v i 0 < 256) (patternBytes : (i : ℕ) → getD p i 0 < 256) where
+  bv : IsBytes v
+  bv = at-all (λ b. b < 256) 0 v (λ i h. vocabularyBytes i)
+
+  bp : IsBytes p
+  bp = at-all (λ b. b < 256) 0 p (λ i h. patternBytes i)
+
+  pub promised : {r : Reply} {after : List ℕ} → Shows (listed v p before) r after → ListPromise v p before after r
+  promised {r} {after} s =
+      subst (λ r. ListPromise v p before after r) (sym (s .reply))
+      (subst (λ a. ListPromise v p before a (listed v p before .reply)) (sym (s .out)) (list-keeps v p before bv bp))
+
+  pub list-no-vocabulary : (why : VocabularyRefusal) → vocabularyRefused why ≡ vocabularyReply v → ListPromise v p before before (vocabularyRefused why)
+  list-no-vocabulary why e = promised (refused-listed v p before (vocabularyRefused why) (vocabulary-refuses why) (reply-refused v p why e))
+
+  pub list-vocabulary : (why : VocabularyRefusal) → vocabularyRefused why ≡ termReply v p → ListPromise v p before before (vocabularyRefused why)
+  list-vocabulary why e = promised (refused-listed v p before (vocabularyRefused why) (vocabulary-refuses why) e)
+
+  pub list-term : (why : TermRefusal) → termRefused 1 why ≡ termReply v p → ListPromise v p before before (termRefused 1 why)
+  list-term why e = promised (refused-listed v p before (termRefused 1 why) (term-refuses why) e)
+
+  -- Both are accepted.
+  module _ {words : ℕ} {offsets results maps : List ℕ} (t : Tables v words offsets results maps) (l : List ℕ) (e : accepted l ≡ termReply v p) where
+    abbrev W : Vocabulary
+    W = vocabularyIn v
+
+    abbrev Found : Reading Kinded → Type 0
+    Found r = (x : Kinded) × (r ≡ accept x)
+
+    found : Found (checkedTerm W p)
+    found = go (checkedTerm W p) (e ∙ ap (termReplyUnder p) (t .accepted))
+      where
+        go : (r : Reading Kinded) → accepted l ≡ replyOf 1 termValues r → Found r
+        go (accept x) e = (x, refl)
+        go (refuse n q) e = absurd (subst Refuses (sym e) tt)
+
+    pub patterned : Patterned p words results
+    patterned =
+        let read = vocabularies-inverse v W bv .0 (t .accepted) in
+        let x : Kinded = found .0 in
+        let h = checked-in W p x (read .0 .inOrder) bp (found .1) in
+        record {
+          vocabulary = W;
+          kind = x .kind;
+          term = x .term;
+          inOrder = read .0 .inOrder;
+          tabled = record { words = t .words; result = t .result };
+          good = h .good;
+          written = h .written;
+          limits = h .limits;
+        }
+
+    pub list-pattern : {r : Reply} {after : List ℕ} →
+        Shows
+        (listedPattern (patterned .vocabulary) before (linearIn (patterned .vocabulary) (accept (kinded (patterned .kind) (patterned .term))))) r after →
+        ListPromise v p before after r
+    unfolding patterned
+    list-pattern {r} {after} s =
+        promised
+        (subst (λ l. Shows l r after)
+        (sym (ap (listedVocabulary p before) (t .accepted) ∙ ap (λ x. listedPattern W before (linearIn W x)) (found .1))) s)

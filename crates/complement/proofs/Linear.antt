@@ -1,0 +1,142 @@
+-- Linear: the listing of an accepted pattern is measured, refused where there is no room, and else written.
+use mathlib.Core.Path.{_≡_, refl, sym, ap, ap₂, _∙_, subst}
+use mathlib.Core.Bool.{Bool, true, false, cond}
+use mathlib.Core.List.{List, [], _∷_, _++_, append-assoc}
+use Prim.Native.Nat.{ℕ, zero, suc, _+_, _<_, _≤_}
+use native.Mathlib.Nat.{le-max-right}
+use native.Mathlib.Omega.{arith}
+use lib.Dec.{leb}
+use lib.ListN.{length, take, drop, take-append-drop}
+use borrow.Author.Tests.{le-leb, lt-leb}
+use Rattle.terms.specs.Term.{Term, any, var, app}
+use Rattle.wire.specs.Reply.{accepted, refused}
+use Rattle.wire.specs.Map.{isOpen}
+use Rattle.wire.specs.Vocabulary.{Vocabulary}
+use Rattle.wire.specs.Written.{encodeAt, encodeRoot, encodeTerm, levels}
+use Rattle.wire.specs.Listed.{Listed, entriesBytes, entriesOf, listedInto}
+use Rattle.wire.proofs.Cond.{cond-true, cond-false}
+use Rattle.wire.proofs.EntryBytes.{spots, spotsBytes, entries-bytes}
+use Rattle.wire.proofs.EntrySizes.{countAt, sizeAt, summedIn, pattern-count, pattern-length}
+use Rattle.complement.specs.Listing.{Measures, CopyOf, Written, TermAt, TermListed}
+use Rattle.complement.specs.Calls.{Patterned, Shows}
+
+-- ---- what listedInto shows
+
+module _ (before : List ℕ) (n : ℕ) (b : List ℕ) (entries bytes : ℕ) (counts : entries ≡ n) (sizes : bytes ≡ length b) where
+  pub shows-no-room : length before < bytes → Shows (listedInto before n b) (refused 20 3 bytes) before
+  shows-no-room h =
+      let e : listedInto before n b ≡ record { reply = refused 20 3 (length b); out = before } =
+      cond-false (leb (length b) (length before)) _ _ (lt-leb (length b) (length before) (omega arith)) in
+      record {
+        reply = ap (refused 20 3) sizes ∙ sym (ap (λ (l : Listed). l .reply) e);
+        out = sym (ap (λ (l : Listed). l .out) e);
+      }
+
+  pub shows-written : bytes ≤ length before → {after : List ℕ} → after ≡ b ++ drop (length b) before →
+      Shows (listedInto before n b) (accepted (entries ∷ bytes ∷ [])) after
+  shows-written h {after} a =
+      let e : listedInto before n b ≡ record { reply = accepted (n ∷ length b ∷ []); out = b ++ drop (length b) before } =
+      cond-true (leb (length b) (length before)) _ _ (le-leb (length b) (length before) (omega arith)) in
+      record {
+        reply = ap₂ (λ x y. accepted (x ∷ y ∷ [])) counts sizes ∙ sym (ap (λ (l : Listed). l .reply) e);
+        out = a ∙ sym (ap (λ (l : Listed). l .out) e);
+      }
+
+nothing : (b : List ℕ) → length b ≡ 0 → b ≡ []
+nothing [] e = refl
+nothing (x ∷ b) e = absurd (omega arith)
+
+-- ---- the pattern's entries
+
+module _ {p : List ℕ} {words : ℕ} {results : List ℕ} (h : Patterned p words results) where
+  abbrev W : Vocabulary
+  W = h .vocabulary
+
+  abbrev s : ℕ
+  s = h .kind
+
+  abbrev t : Term
+  t = h .term
+
+  abbrev pub entryCount : ℕ
+  entryCount = length (entriesOf W s t)
+
+  abbrev pub entryBytes : List ℕ
+  entryBytes = entriesBytes W (entriesOf W s t)
+
+  pub few-words : words ≤ 96
+  few-words = omega (arith, h .tabled .words, h .inOrder .fewWords)
+
+  pub most-bytes : length p ≤ 4096
+  most-bytes = h .limits .most
+
+  module _ {entries bytes : ℕ} (m : Measures p words results entries bytes) where
+    pub count-is : entries ≡ entryCount
+    count-is =
+        m W (h .tabled) .0
+        ∙ ap (λ b. summedIn W (countAt W) 1 b 0) (h .written)
+        ∙ sym (pattern-count W (h .inOrder) s t (h .good))
+
+    pub size-is : bytes ≡ length entryBytes
+    size-is =
+        m W (h .tabled) .1
+        ∙ ap (λ b. summedIn W (sizeAt W) 1 b 0) (h .written)
+        ∙ sym (pattern-length W (h .inOrder) s t (h .good))
+
+  -- A pattern with entries is no open place.
+  not-open : (t : Term) → (length (entriesBytes W (entriesOf W s t)) ≡ 0 → ⊥) → isOpen t ≡ false
+  not-open any e = absurd (e refl)
+  not-open (var n) e = refl
+  not-open (app f ts) e = refl
+
+  root-same : (t : Term) → isOpen t ≡ false → encodeRoot W t ≡ encodeAt W t
+  root-same any e = absurd (mathlib.Core.Bool.true≢false e)
+  root-same (var n) e = refl
+  root-same (app f ts) e = refl
+
+  -- The root in a copy of the pattern.
+  module _ {bytes : ℕ} (size : bytes ≡ length entryBytes) (some-bytes : bytes ≡ 0 → ⊥) {copy : List ℕ} (c : CopyOf p copy)
+      (before : List ℕ) (room : bytes ≤ length before) where
+    closed : isOpen t ≡ false
+    closed = not-open t (λ e. some-bytes (size ∙ e))
+
+    pub root-term : TermAt copy 1 words results 32 (length before)
+    root-term = record {
+      vocabulary = W;
+      front = s ∷ [];
+      term = t;
+      kind = s;
+      rest = drop (length p) copy;
+      inOrder = h .inOrder;
+      tabled = h .tabled;
+      size = c .size;
+      begins = refl;
+      sorted = h .good .sorted .sorted;
+      closed = closed;
+      stands =
+          sym (take-append-drop (length p) copy)
+          ∙ ap (λ l. l ++ drop (length p) copy) (c .same ∙ h .written ∙ ap (λ l. s ∷ l) (root-same t closed));
+      deep = omega (arith, h .limits .levels, le-max-right 1 (levels t));
+      fits = omega (arith, ap length (entries-bytes W s t));
+    }
+
+    pub root-listed : {copied after : List ℕ} {end n : ℕ} → TermListed root-term copied before after end n →
+        after ≡ entryBytes ++ drop (length entryBytes) before
+    unfolding root-term
+    root-listed l = l .written .same ∙ ap (λ b. b ++ drop (length b) before) (sym (entries-bytes W s t))
+
+  -- The three answers.
+  module _ {entries bytes : ℕ} (m : Measures p words results entries bytes) (before : List ℕ) where
+    pub linear-no-room : length before < bytes → Shows (listedInto before entryCount entryBytes) (refused 20 3 bytes) before
+    linear-no-room = shows-no-room before entryCount entryBytes entries bytes (count-is m) (size-is m)
+
+    pub linear-none : bytes ≤ length before → bytes ≡ 0 → Shows (listedInto before entryCount entryBytes) (accepted (entries ∷ bytes ∷ [])) before
+    linear-none k e =
+        shows-written before entryCount entryBytes entries bytes (count-is m) (size-is m) k
+        (sym (ap (λ b. b ++ drop (length b) before) (nothing entryBytes (sym (size-is m) ∙ e))))
+
+    pub linear-written : (k : bytes ≤ length before) (e : bytes ≡ 0 → ⊥) {copy : List ℕ} (c : CopyOf p copy) {copied after : List ℕ} {end n : ℕ} →
+        TermListed (root-term (size-is m) e c before k) copied before after end n →
+        Shows (listedInto before entryCount entryBytes) (accepted (entries ∷ bytes ∷ [])) after
+    linear-written k e c l =
+        shows-written before entryCount entryBytes entries bytes (count-is m) (size-is m) k (root-listed (size-is m) e c before k l)

@@ -1,0 +1,202 @@
+-- Terms: what list_term does at a name and at a word.
+use mathlib.Core.Path.{_≡_, refl, sym, ap, ap₂, _∙_, subst}
+use mathlib.Core.Bool.{Bool, true, false, true≢false}
+use mathlib.Core.List.{List, [], _∷_, _++_, append-nil, append-assoc}
+use Prim.Native.Nat.{ℕ, zero, suc, _+_, _-_, _<_, _≤_, max}
+use native.Mathlib.Nat.{zero-max}
+use native.Mathlib.Omega.{arith}
+use lib.ListN.{length, getD, take, drop, length-append}
+use lib.Seq.{take-at, getD-at}
+use Rattle.terms.specs.Term.{Term, any, var, app, Terms, nil, cons, Sorted}
+use Rattle.terms.specs.Listing.{others}
+use Rattle.wire.specs.Map.{mapBytes, writeMap, flags, isOpen}
+use Rattle.wire.specs.Vocabulary.{Vocabulary, signature}
+use Rattle.wire.specs.Written.{nameByte, writtenMap, encodeAt, encodeAll, levels, levelsAll}
+use Rattle.wire.proofs.Words.{length-symbols}
+use Rattle.wire.proofs.EntryBytes.{othersBytes, spots, spotsBytes}
+use Rattle.wire.proofs.EntryMaps.{closed, closed-bytes, bitSpots, spots-by-bits}
+use Rattle.wire.proofs.EntryWalk.{Stands, closed-stands, word-bytes}
+use Rattle.complement.specs.Listing.{othersIn, Written, TermAt, TermListed, PlacesAt, PlacesListed}
+use Rattle.complement.proofs.Others.{others-tabled}
+use Rattle.complement.proofs.Writing.{part, back, part-room, written-none, written-more, written-length}
+
+-- A term that is no open place is a name or a word.
+data Shape (t : Term) : Type 0 where
+  name : (n : ℕ) → t ≡ var n → Shape t
+  symbol : (f : ℕ) (ts : Terms) → t ≡ app f ts → Shape t
+
+shape : (t : Term) → isOpen t ≡ false → Shape t
+shape any h = absurd (true≢false h)
+shape (var n) h = name n refl
+shape (app f ts) h = symbol f ts refl
+
+closed-levels : (ts : Terms) → levelsAll (closed ts) ≡ levelsAll ts
+closed-levels nil = refl
+closed-levels (cons any ts) = closed-levels ts ∙ sym (zero-max (levelsAll ts))
+closed-levels (cons (var n) ts) = ap (max 1) (closed-levels ts)
+closed-levels (cons (app f us) ts) = ap (max (suc (levelsAll us))) (closed-levels ts)
+
+-- The byte where a term stands.
+module _ {copy : List ℕ} {at words : ℕ} {results : List ℕ} {left room : ℕ} (h : TermAt copy at words results left room) where
+  abbrev W : Vocabulary
+  W = h .vocabulary
+
+  byte-of : (b : ℕ) (l : List ℕ) → encodeAt W (h .term) ≡ b ∷ l → getD copy at 0 ≡ b
+  byte-of b l e =
+      ap (λ z. getD z at 0) (h .stands ∙ ap (λ z. h .front ++ (z ++ h .rest)) e)
+      ∙ getD-at (h .front) b (l ++ h .rest) 0 at (h .begins)
+
+  longer : (b : ℕ) (l : List ℕ) → encodeAt W (h .term) ≡ b ∷ l → at + suc (length l) ≤ 4096
+  longer b l e =
+      let z : length copy ≡ length (h .front) + length ((b ∷ l) ++ h .rest) =
+      ap length (h .stands ∙ ap (λ z. h .front ++ (z ++ h .rest)) e) ∙ length-append (h .front) ((b ∷ l) ++ h .rest) in
+      omega (arith, h .size, h .begins, length-append (b ∷ l) (h .rest))
+
+  few-words : words ≤ 96
+  few-words = omega (arith, h .tabled .words, h .inOrder .fewWords)
+
+  known : (f : ℕ) (ts : Terms) → h .term ≡ app f ts → f < words
+  known f ts e =
+      let s = subst (λ t. Sorted (signature W) t (h .kind)) e (h .sorted) in
+      omega (arith, s .0, length-symbols W, h .tabled .words)
+
+  -- What the first byte tells.
+  pub record Begun : Type 0 where
+    pub inside : at < 4096
+    pub few : words ≤ 96
+
+  pub term-begun : Begun
+  term-begun = go (shape (h .term) (h .closed))
+    where
+      go : Shape (h .term) → Begun
+      go (name n e) = record { inside = let z = longer (nameByte n) [] (ap (encodeAt W) e) in omega arith; few = few-words }
+      go (symbol f ts e) =
+          record { inside = let z = longer f (writeMap (writtenMap W f ts) ++ encodeAll W ts) (ap (encodeAt W) e) in omega arith; few = few-words }
+
+  -- A name has no entries.
+  pub name-listed : 127 < getD copy at 0 → (before : List ℕ) → TermListed h copy before before (at + 1) 0
+  name-listed k before = go (shape (h .term) (h .closed))
+    where
+      go : Shape (h .term) → TermListed h copy before before (at + 1) 0
+      go (name n e) = record {
+        passed = ap (λ t. at + length (encodeAt W t)) (sym e);
+        restored = refl;
+        written = subst (λ t. Written (spotsBytes W (spots W t (h .front))) before 0 before) (sym e) (written-none before);
+      }
+      go (symbol f ts e) = absurd (omega (arith, byte-of f (writeMap (writtenMap W f ts) ++ encodeAll W ts) (ap (encodeAt W) e), known f ts e, few-words))
+
+  pub record Word : Type 0 where
+    pub terms : Terms
+    pub same : h .term ≡ app (getD copy at 0) terms
+    pub map : getD copy (at + 1) 0 ≡ writtenMap W (getD copy at 0) terms
+    pub inside : at + 1 < 4096
+    pub known : getD copy at 0 < words
+
+  pub term-word : getD copy at 0 ≤ 127 → Word
+  term-word k = go (shape (h .term) (h .closed))
+    where
+      go : Shape (h .term) → Word
+      go (name n e) = absurd (omega (arith, byte-of (nameByte n) [] (ap (encodeAt W) e)))
+      go (symbol f ts e) =
+          let m : ℕ = writtenMap W f ts in
+          let first : f ≡ getD copy at 0 = sym (byte-of f (m ∷ encodeAll W ts) (ap (encodeAt W) e)) in
+          let second : getD copy (at + 1) 0 ≡ m =
+          ap (λ z. getD z (at + 1) 0)
+          (h .stands
+          ∙ ap (λ t. h .front ++ (encodeAt W t ++ h .rest)) e
+          ∙ sym (append-assoc (h .front) (f ∷ []) (m ∷ (encodeAll W ts ++ h .rest))))
+          ∙ getD-at (h .front ++ (f ∷ [])) m (encodeAll W ts ++ h .rest) 0 (at + 1)
+          (omega (arith, length-append (h .front) (f ∷ []), h .begins)) in
+          record {
+            terms = ts;
+            same = e ∙ ap (λ f. app f ts) first;
+            map = second ∙ ap (λ f. writtenMap W f ts) first;
+            inside = let z = longer f (m ∷ encodeAll W ts) (ap (encodeAt W) e) in omega arith;
+            known = subst (λ f. f < words) first (known f ts e);
+          }
+
+-- A word: its own entries, then those of its places.
+module _ {copy : List ℕ} {at words : ℕ} {results : List ℕ} {left : ℕ} (before : List ℕ)
+    (h : TermAt copy at words results left (length before)) (w : Word h) (g : ℕ) (same : g ≡ getD copy at 0) where
+  abbrev U : Vocabulary
+  U = h .vocabulary
+
+  abbrev f : ℕ
+  f = getD copy at 0
+
+  abbrev m : ℕ
+  m = getD copy (at + 1) 0
+
+  abbrev ts : Terms
+  ts = closed (w .terms)
+
+  sorted : Sorted (signature U) (app f (w .terms)) (h .kind)
+  sorted = subst (λ t. Sorted (signature U) t (h .kind)) (w .same) (h .sorted)
+
+  abbrev own-bytes : List ℕ
+  own-bytes = othersBytes (take at copy) (othersIn words results g)
+
+  abbrev place-bytes : List ℕ
+  place-bytes = spotsBytes U (bitSpots U f m (h .front) (flags m) 0 [] ts)
+
+  front-is : take at copy ≡ h .front
+  front-is = ap (take at) (h .stands) ∙ take-at (h .front) (encodeAt U (h .term) ++ h .rest) at (h .begins)
+
+  own-others : othersBytes (h .front) (others (signature U) f) ≡ own-bytes
+  own-others =
+      ap₂ othersBytes (sym front-is)
+      (others-tabled U words results (h .tabled) f (w .known) ∙ ap (othersIn words results) (sym same))
+
+  all-bytes : spotsBytes U (spots U (h .term) (h .front)) ≡ own-bytes ++ place-bytes
+  all-bytes =
+      ap (λ t. spotsBytes U (spots U t (h .front))) (w .same)
+      ∙ ap (spotsBytes U) (spots-by-bits U (h .inOrder) f (w .terms) (h .kind) sorted (h .front))
+      ∙ ap₂ (λ l m. l ++ spotsBytes U (bitSpots U f m (h .front) (flags m) 0 [] ts)) own-others (sym (w .map))
+
+  room-both : length own-bytes + length place-bytes ≤ length before
+  room-both = let fits = h .fits in omega (arith, ap length all-bytes, length-append own-bytes place-bytes)
+
+  pub own-room : length own-bytes ≤ length before
+  own-room = omega (arith, room-both)
+
+  stands-here : copy ≡ h .front ++ (f ∷ (writeMap m ++ (encodeAll U ts ++ h .rest)))
+  stands-here =
+      h .stands
+      ∙ ap (λ t. h .front ++ (encodeAt U t ++ h .rest)) (w .same)
+      ∙ ap (λ l. h .front ++ l) (word-bytes U f (w .terms) (h .rest))
+      ∙ ap (λ m. h .front ++ (f ∷ (writeMap m ++ (encodeAll U ts ++ h .rest)))) (sym (w .map))
+
+  module _ {after : List ℕ} {n : ℕ} (l : Written own-bytes before n after) where
+    pub own-inside : n ≤ length after
+    own-inside = omega (arith, l .count, own-room, written-length l own-room)
+
+    pub word-places : PlacesAt copy at m 0 (at + 2) words results left (length (part n after))
+    word-places = record {
+      vocabulary = U;
+      front = h .front;
+      symbol = f;
+      current = m;
+      body = [];
+      terms = ts;
+      rest = h .rest;
+      inOrder = h .inOrder;
+      tabled = h .tabled;
+      size = h .size;
+      begins = h .begins;
+      stands = stands-here;
+      offset = omega arith;
+      bits = omega arith;
+      due = subst (λ m. Stands U (flags m) ts) (sym (w .map)) (closed-stands U (h .inOrder) f (w .terms) (h .kind) sorted);
+      deep = omega (arith, h .deep, ap levels (w .same), closed-levels (w .terms));
+      fits = omega (arith, room-both, part-room l own-room);
+    }
+
+    pub word-listed : {copied ys : List ℕ} {end n′ : ℕ} → PlacesListed word-places copied (part n after) ys end n′ →
+        TermListed h copied before (back n after ys) end (n + n′)
+    unfolding word-places
+    word-listed {copied} {ys} {end} {n′} p = record {
+      passed =
+          omega (arith, p .passed, ap (λ t. length (encodeAt U t)) (w .same), ap length (closed-bytes U (w .terms)));
+      restored = p .restored ∙ sym stands-here;
+      written = subst (λ bytes. Written bytes before (n + n′) (back n after ys)) (sym all-bytes) (written-more l own-room (p .written));
+    }

@@ -1,0 +1,44 @@
+-- Calls: what the parts of the call list promise each other; no public contract cites it.
+--
+--   Patterned p n results    p is the writing of a good term of a vocabulary in order, within the limits; the table is the vocabulary's
+--   Shows l r after          reply and lent slice are those of l
+--   ListsLinear              what list_linear does: the entries are written, or there is no room
+--   ListsPattern             what list_pattern does: the same, or a name stands twice
+--
+use mathlib.Core.Path.{_≡_}
+use mathlib.Core.List.{List}
+use Prim.Native.Nat.{ℕ}
+use lib.ListN.{length}
+use Rattle.terms.specs.Term.{Term}
+use Rattle.wire.specs.Reply.{Reply, accept}
+use Rattle.wire.specs.Vocabulary.{Vocabulary, InOrder}
+use Rattle.wire.specs.Written.{encodeTerm, GoodTerm}
+use Rattle.wire.specs.Matching.{Limits}
+use Rattle.wire.specs.Listed.{Listed, linearIn, kinded, entriesBytes, entriesOf, listedInto, listedPattern}
+use Rattle.complement.specs.Listing.{Tabled}
+
+pub record Patterned (p : List ℕ) (words : ℕ) (results : List ℕ) : Type 0 where
+  pub vocabulary : Vocabulary
+  pub kind : ℕ
+  pub term : Term
+  pub inOrder : InOrder vocabulary
+  pub tabled : Tabled vocabulary words results
+  pub good : GoodTerm vocabulary kind term
+  pub written : p ≡ encodeTerm vocabulary kind term
+  pub limits : Limits p term
+
+pub record Shows (l : Listed) (r : Reply) (after : List ℕ) : Type 0 where
+  pub reply : r ≡ l .reply
+  pub out : after ≡ l .out
+
+abbrev pub ListsLinear : List ℕ → ℕ → List ℕ → List ℕ → List ℕ → Reply → Type 0
+ListsLinear p words results before after r =
+    (h : Patterned p words results) →
+    Shows
+    (listedInto before (length (entriesOf (h .vocabulary) (h .kind) (h .term)))
+    (entriesBytes (h .vocabulary) (entriesOf (h .vocabulary) (h .kind) (h .term)))) r after
+
+abbrev pub ListsPattern : List ℕ → ℕ → List ℕ → List ℕ → List ℕ → Reply → Type 0
+ListsPattern p words results before after r =
+    (h : Patterned p words results) →
+    Shows (listedPattern (h .vocabulary) before (linearIn (h .vocabulary) (accept (kinded (h .kind) (h .term))))) r after

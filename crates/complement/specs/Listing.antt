@@ -1,0 +1,131 @@
+-- Listing: what the functions that list promise each other; no public contract cites it.
+--
+--   Tabled W n results         the first n entries of the table are the result kinds of W's words, which are n
+--   isOther results f h        the word h is another than f and has its result kind, by the table
+--   othersIn n results f       the other words of f's result kind, by the table
+--   Measures p n results e m   the listing of the pattern p has e entries and m bytes, where the table is a vocabulary's
+--   placedIn n skip l at       the names of the bytes l at an offset with theirs, where n numbers are words' and the first
+--                              `skip` bytes are not looked at
+--   repeatOf r                 where a name stands again, as an Option
+--   CopyOf p copy              the copy begins with the pattern p
+--   Written bytes before n after   n bytes are written into the lent slice, and those behind them are as before
+--   TermAt                     a term stands at an offset of the copy, at most `left` levels deep, and its entries have room
+--   TermListed, ListsTerm      what list_term does to such a copy and the lent slice
+--   PlacesAt                   the terms of a word's written bits from bit b on stand at an offset of the copy
+--   PlacesListed, ListsPlaces  what list_places does to such a copy and the lent slice
+--
+use mathlib.Core.Path.{_≡_}
+use mathlib.Core.Bool.{Bool, false, not, _&&_, cond}
+use mathlib.Core.List.{List, [], _∷_, _++_}
+use mathlib.Core.Option.{Option, some, none}
+use Prim.Native.Nat.{ℕ, zero, suc, _+_, _-_, _<_, _≤_}
+use lib.Dec.{eqb, ltb}
+use lib.ListN.{length, getD, take, drop}
+use Rattle.terms.specs.Lists.{range, keep}
+use Rattle.terms.specs.Term.{Term, Terms, Sorted}
+use Rattle.wire.specs.Map.{mapBits, mapBytes, writeMap, flags, isOpen}
+use Rattle.wire.specs.Vocabulary.{Vocabulary, InOrder, signature, word}
+use Rattle.wire.specs.Written.{firstNameByte, encodeAt, encodeAll, levels, levelsAll}
+use Rattle.wire.specs.Reading.{isName}
+use Rattle.wire.specs.Checks.{mostBytes}
+use Rattle.wire.specs.Listed.{Placed}
+use Rattle.wire.proofs.EntrySizes.{countAt, sizeAt, summedIn}
+use Rattle.wire.proofs.EntryBytes.{spots, spotsBytes}
+use Rattle.wire.proofs.EntryMaps.{bitSpots}
+use Rattle.wire.proofs.EntryWalk.{Stands}
+use Rattle.complement.specs.declared.Repeat.{Repeat}
+use Rattle.complement.specs.declared.Repeat.the-variants.{At, Nothing}
+
+pub record Tabled (W : Vocabulary) (n : ℕ) (results : List ℕ) : Type 0 where
+  pub words : n ≡ length (W .words)
+  pub result : (f : ℕ) → f < n → getD results f 0 ≡ word W f .result
+
+abbrev pub isOther : List ℕ → ℕ → ℕ → Bool
+isOther results f h = not (eqb h f) && eqb (getD results h 0) (getD results f 0)
+
+abbrev pub othersIn : ℕ → List ℕ → ℕ → List ℕ
+othersIn n results f = keep (isOther results f) (range 0 n)
+
+abbrev pub Measures : List ℕ → ℕ → List ℕ → ℕ → ℕ → Type 0
+Measures p n results entries bytes =
+    (W : Vocabulary) → Tabled W n results → (entries ≡ summedIn W (countAt W) 1 p 0) × (bytes ≡ summedIn W (sizeAt W) 1 p 0)
+
+abbrev pub placedIn : ℕ → ℕ → List ℕ → ℕ → List Placed
+placedIn n skip [] at = []
+placedIn n (suc skip) (b ∷ l) at = placedIn n skip l (at + 1)
+placedIn n zero (b ∷ l) at =
+    cond (ltb b n) (placedIn n mapBytes l (at + 1))
+    (cond (isName b) (record { name = b - firstNameByte; offset = at } ∷ placedIn n zero l (at + 1)) (placedIn n zero l (at + 1)))
+
+abbrev pub repeatOf : Repeat → Option ℕ
+repeatOf (At q) = some q
+repeatOf Nothing = none
+
+pub record CopyOf (p copy : List ℕ) : Type 0 where
+  pub size : length copy ≡ mostBytes
+  pub same : take (length p) copy ≡ p
+
+pub record Written (bytes before : List ℕ) (n : ℕ) (after : List ℕ) : Type 0 where
+  pub count : n ≡ length bytes
+  pub same : after ≡ bytes ++ drop (length bytes) before
+
+-- The bytes before the term are those that its entries have before it.
+pub record TermAt (copy : List ℕ) (at words : ℕ) (results : List ℕ) (left room : ℕ) : Type 0 where
+  pub vocabulary : Vocabulary
+  pub front : List ℕ
+  pub term : Term
+  pub kind : ℕ
+  pub rest : List ℕ
+  pub inOrder : InOrder vocabulary
+  pub tabled : Tabled vocabulary words results
+  pub size : length copy ≡ mostBytes
+  pub begins : length front ≡ at
+  pub sorted : Sorted (signature vocabulary) term kind
+  pub closed : isOpen term ≡ false
+  pub stands : copy ≡ front ++ (encodeAt vocabulary term ++ rest)
+  pub deep : levels term ≤ left
+  pub fits : length (spotsBytes vocabulary (spots vocabulary term front)) ≤ room
+
+-- The copy is as before, and the entries are written.
+pub record TermListed {copy : List ℕ} {at words : ℕ} {results : List ℕ} {left room : ℕ} (h : TermAt copy at words results left room)
+    (copied before after : List ℕ) (end n : ℕ) : Type 0 where
+  pub passed : end ≡ at + length (encodeAt (h .vocabulary) (h .term))
+  pub restored : copied ≡ copy
+  pub written : Written (spotsBytes (h .vocabulary) (spots (h .vocabulary) (h .term) (h .front))) before n after
+
+abbrev pub ListsTerm : List ℕ → ℕ → ℕ → List ℕ → ℕ → List ℕ → List ℕ → List ℕ → ℕ → ℕ → Type 0
+ListsTerm copy at words results left before copied after end n =
+    (h : TermAt copy at words results left (length before)) → TermListed h copied before after end n
+
+-- The word stands at the offset `at`, whatever its map is by now; its terms up to bit b have the bytes body.
+pub record PlacesAt (copy : List ℕ) (at map b next words : ℕ) (results : List ℕ) (left room : ℕ) : Type 0 where
+  pub vocabulary : Vocabulary
+  pub front : List ℕ
+  pub symbol : ℕ
+  pub current : ℕ
+  pub body : List ℕ
+  pub terms : Terms
+  pub rest : List ℕ
+  pub inOrder : InOrder vocabulary
+  pub tabled : Tabled vocabulary words results
+  pub size : length copy ≡ mostBytes
+  pub begins : length front ≡ at
+  pub stands : copy ≡ front ++ (symbol ∷ (writeMap current ++ (body ++ (encodeAll vocabulary terms ++ rest))))
+  pub offset : next ≡ at + 1 + mapBytes + length body
+  pub bits : b ≤ mapBits
+  pub due : Stands vocabulary (drop b (flags map)) terms
+  pub deep : suc (levelsAll terms) ≤ left
+  pub fits : length (spotsBytes vocabulary (bitSpots vocabulary symbol map front (drop b (flags map)) b body terms)) ≤ room
+
+-- The word's map in the copy is `map`, and the entries are written.
+pub record PlacesListed {copy : List ℕ} {at map b next words : ℕ} {results : List ℕ} {left room : ℕ}
+    (h : PlacesAt copy at map b next words results left room) (copied before after : List ℕ) (end n : ℕ) : Type 0 where
+  pub passed : end ≡ next + length (encodeAll (h .vocabulary) (h .terms))
+  pub restored : copied ≡ h .front ++ (h .symbol ∷ (writeMap map ++ (h .body ++ (encodeAll (h .vocabulary) (h .terms) ++ h .rest))))
+  pub written :
+      Written (spotsBytes (h .vocabulary) (bitSpots (h .vocabulary) (h .symbol) map (h .front) (drop b (flags map)) b (h .body) (h .terms)))
+      before n after
+
+abbrev pub ListsPlaces : List ℕ → ℕ → ℕ → ℕ → ℕ → ℕ → List ℕ → ℕ → List ℕ → List ℕ → List ℕ → ℕ → ℕ → Type 0
+ListsPlaces copy at map b next words results left before copied after end n =
+    (h : PlacesAt copy at map b next words results left (length before)) → PlacesListed h copied before after end n
