@@ -59,3 +59,4 @@ pub mod EntryWalk
 pub mod Starred
 pub mod Theorems
 pub mod MatchExample
+pub mod ListExample

@@ -19,7 +19,7 @@ use Rattle.wire.specs.Vocabulary.{Vocabulary, signature, InOrder}
 use Rattle.wire.specs.Written.{encodeTerm, GoodTerm, deepest}
 use Rattle.wire.specs.Reading.{readVocabulary, Kinded}
 use Rattle.wire.specs.Checks.{leastBytes, mostBytes, mostLevels, checkedTerm}
-use Rattle.wire.specs.Listed.{placed, repeatedIn, linearOf, linearIn, checkedLinear, kinded, entriesBytes, entriesOf, readEntries, Listed, listedInto, listedPattern, listedVocabulary, listed, Pattern, Entries, ListKeeps}
+use Rattle.wire.specs.Listed.{placed, repeatedIn, linearOf, linearIn, checkedLinear, kinded, entriesBytes, entriesOf, readEntries, Listed, listedInto, listedPattern, listedVocabulary, listed, Pattern, Entries, PatternIsOne, ListKeeps}
 use Rattle.wire.proofs.Cond.{cond-true}
 use Rattle.wire.proofs.Outside.{inside-outside}
 use Rattle.wire.proofs.Levels.{deepest-bytes}
@@ -78,14 +78,37 @@ pattern-read v p W x bv bp e f =
       linear = h .linear;
     }
 
+-- A pattern that is accepted is read again.
+read-pattern : (v p : List ℕ) (W : Vocabulary) (s : ℕ) (t : Term) → IsBytes v → IsBytes p → Pattern v p W s t →
+    (readVocabulary v ≡ accept W) × (checkedLinear W p ≡ accept (kinded s t))
+read-pattern v p W s t bv bp h = (
+  vocabularies-inverse v W bv .1 (h .vocabulary, h .written),
+  in-linear W p (kinded s t) (h .vocabulary .inOrder) bp
+      (record { term = record { good = h .pattern; written = h .patternWritten; limits = h .limits }; linear = h .linear }),
+)
+
+accept-same : {A : Type 0} (x y : A) → accept x ≡ accept y → x ≡ y
+accept-same x y e = ap (acceptedOr x) e
+  where
+    acceptedOr : {A : Type 0} → A → Reading A → A
+    acceptedOr x (accept y) = y
+    acceptedOr x (refuse n q) = x
+
+pub pattern-is-one : PatternIsOne
+pattern-is-one v p W W′ s s′ t t′ bv bp h h′ =
+    let r = read-pattern v p W s t bv bp h in
+    let r′ = read-pattern v p W′ s′ t′ bv bp h′ in
+    let same : W ≡ W′ = accept-same W W′ (sym (r .0) ∙ r′ .0) in
+    let k : kinded s t ≡ kinded s′ t′ =
+    accept-same (kinded s t) (kinded s′ t′) (sym (r .1) ∙ ap (λ U. checkedLinear U p) same ∙ r′ .1) in
+    (same, ap (λ (x : Kinded). x .kind) k, ap (λ (x : Kinded). x .term) k)
+
 -- The reply and the lent slice of a pattern that is accepted.
 pub pattern-listed : (v p out : List ℕ) (W : Vocabulary) (s : ℕ) (t : Term) → IsBytes v → IsBytes p → Pattern v p W s t →
     listed v p out ≡ listedInto out (length (entriesOf W s t)) (entriesBytes W (entriesOf W s t))
 pattern-listed v p out W s t bv bp h =
-    ap (listedVocabulary p out) (vocabularies-inverse v W bv .1 (h .vocabulary, h .written))
-    ∙ ap (listedPattern W out)
-    (in-linear W p (kinded s t) (h .vocabulary .inOrder) bp
-    (record { term = record { good = h .pattern; written = h .patternWritten; limits = h .limits }; linear = h .linear }))
+    let r = read-pattern v p W s t bv bp h in
+    ap (listedVocabulary p out) (r .0) ∙ ap (listedPattern W out) (r .1)
 
 -- ---- an answer
 
@@ -210,10 +233,19 @@ list-keeps v p out bv bp = record {
               ∙ ap (λ (r : Listed). r .reply) (cond-true (leb (length b) (length out)) _ _ (le-leb (length b) (length out) (a .4))),
         )),
   );
-  entries = λ n m e W s t h.
+  entries = λ n m e.
+      let x = answered-pattern v p out n m bv bp e in
+      let W : Vocabulary = x .0 in
+      let s : ℕ = x .1 in
+      let t : Term = x .2 in
       let b : List ℕ = entriesBytes W (entriesOf W s t) in
-      let known = pattern-listed v p out W s t bv bp h in
-      let a = answer-of out (length (entriesOf W s t)) b n m (sym (ap (λ (r : Listed). r .reply) known) ∙ e) in
-      entries-kept v p W s t h n m (listed v p out .out) (a .count)
-      (ap (take m) (ap (λ (r : Listed). r .out) known ∙ a .written) ∙ take-at b (drop (length b) out) m (a .size));
+      let known = pattern-listed v p out W s t bv bp (x .3) in
+      let a = answer-of out (length (entriesOf W s t)) b n m (sym (ap (λ (r : Listed). r .reply) known) ∙ e) in (
+        W,
+        s,
+        t,
+        x .3,
+        entries-kept v p W s t (x .3) n m (listed v p out .out) (a .count)
+            (ap (take m) (ap (λ (r : Listed). r .out) known ∙ a .written) ∙ take-at b (drop (length b) out) m (a .size)),
+      );
 }

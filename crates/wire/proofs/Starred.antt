@@ -8,7 +8,7 @@ use borrow.Author.Tests.{eqb-true}
 use Rattle.terms.specs.Lists.{All}
 use Rattle.terms.proofs.Bools.{and-parts}
 use Rattle.wire.specs.Reply.{Reply, accepted, refused}
-use Rattle.wire.specs.Starred.{Outcome, outcome, Row, starred, StarredHold}
+use Rattle.wire.specs.Starred.{Outcome, answers, prints, outcome, Row, starred, StarredHold}
 
 abbrev sameNumbers : List ℕ → List ℕ → Bool
 sameNumbers [] [] = true
@@ -43,14 +43,18 @@ same-reply (refused n i q) (refused m j r) e =
     cc
 
 abbrev sameOutcome : Outcome → Outcome → Bool
-sameOutcome x y = sameReply (x .reply) (y .reply) && sameNumbers (x .lent) (y .lent)
+sameOutcome (answers r l) (answers s k) = sameReply r s && sameNumbers l k
+sameOutcome (answers r l) (prints t) = false
+sameOutcome (prints t) (answers s k) = false
+sameOutcome (prints t) (prints u) = sameNumbers t u
 
 same-outcome : (x y : Outcome) → sameOutcome x y ≡ true → x ≡ y
-same-outcome x y e =
-    let c = and-parts (sameReply (x .reply) (y .reply)) (sameNumbers (x .lent) (y .lent)) e in
-    let p = same-reply (x .reply) (y .reply) (c .0) in
-    let q = same-numbers (x .lent) (y .lent) (c .1) in
-    λ i. record { reply = p i; lent = q i }
+same-outcome (answers r l) (answers s k) e =
+    let c = and-parts (sameReply r s) (sameNumbers l k) e in
+    ap₂ answers (same-reply r s (c .0)) (same-numbers l k (c .1))
+same-outcome (answers r l) (prints t) e = absurd (false≢true e)
+same-outcome (prints t) (answers s k) e = absurd (false≢true e)
+same-outcome (prints t) (prints u) e = ap prints (same-numbers t u e)
 
 -- The one test over all rows.
 abbrev allHold : List Row → Bool

@@ -14,4 +14,6 @@ pub mod TermLines
 pub mod Situation
 pub mod Matching
 pub mod Listed
+pub mod Text
+pub mod Printed
 pub mod Starred

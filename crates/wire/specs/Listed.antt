@@ -19,6 +19,7 @@
 --   Pattern v p W s t        the bytes v and p write the vocabulary W and its linear pattern t
 --   Entries                  demand 3 of the entries that stand in the lent slice
 --   ListPromise              what list promises of its reply and the lent slice
+--   PatternIsOne             the bytes write one vocabulary and one pattern only
 --   LinearRefusals           checkedLinear refuses by these lines
 --   ListKeeps                the definitions keep the promise
 --
@@ -183,9 +184,15 @@ pub record ListPromise (v p before after : List ℕ) (r : Reply) : Type 0 where
   -- It is accepted exactly where vocabulary and pattern are, no name stands twice, and the listing fits.
   pub answered : ((n : ℕ) × (m : ℕ) × (r ≡ accepted (n ∷ m ∷ []))) ↔
       ((W : Vocabulary) × (s : ℕ) × (t : Term) × Pattern v p W s t × (length (entriesBytes W (entriesOf W s t)) ≤ length before))
-  -- Demand 3, about the bytes that stand in the lent slice after the call.
-  pub entries : (n m : ℕ) → r ≡ accepted (n ∷ m ∷ []) → (W : Vocabulary) (s : ℕ) (t : Term) → Pattern v p W s t →
-      Entries W s t p n m after
+  -- Demand 3, about the bytes that stand in the lent slice after the call, wherever the reply is no refusal.
+  pub entries : (n m : ℕ) → r ≡ accepted (n ∷ m ∷ []) →
+      (W : Vocabulary) × (s : ℕ) × (t : Term) × Pattern v p W s t × Entries W s t p n m after
+
+-- No other vocabulary and pattern are meant.
+abbrev pub PatternIsOne : Type 0
+PatternIsOne =
+    (v p : List ℕ) (W W′ : Vocabulary) (s s′ : ℕ) (t t′ : Term) → IsBytes v → IsBytes p →
+    Pattern v p W s t → Pattern v p W′ s′ t′ → (W ≡ W′) × (s ≡ s′) × (t ≡ t′)
 
 abbrev pub LinearRefusals : Type 0
 LinearRefusals =
