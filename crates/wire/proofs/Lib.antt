@@ -41,6 +41,7 @@ pub mod SituationRefusals
 -- On matching.
 pub mod GroundBytes
 pub mod Inputs
+pub mod MatchRefusals
 pub mod Pending
 pub mod Spans
 pub mod SpanTable

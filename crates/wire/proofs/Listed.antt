@@ -8,23 +8,25 @@ use native.Mathlib.Omega.{arith}
 use lib.Dec.{leb}
 use lib.ListN.{length, take, drop}
 use lib.Seq.{take-at}
-use borrow.Author.Tests.{leb-true, le-leb}
+use borrow.Author.Tests.{leb-true, leb-false, le-leb, lt-leb}
 use Rattle.terms.specs.Lists.{All}
 use Rattle.terms.specs.Term.{Term, Linear}
 use Rattle.terms.specs.Listing.{listing}
 use Rattle.terms.proofs.All.{all-implies, all-both, all-map}
 use Rattle.terms.proofs.Theorems.{partition, strike-out, listing-represents}
-use Rattle.wire.specs.Reply.{accepted, refused, Reading, accept, refuse, IsBytes}
+use Rattle.wire.specs.Reply.{Reply, accepted, refused, Reading, accept, refuse, IsBytes}
 use Rattle.wire.specs.Vocabulary.{Vocabulary, signature, InOrder}
 use Rattle.wire.specs.Written.{encodeTerm, GoodTerm, deepest}
 use Rattle.wire.specs.Reading.{readVocabulary, Kinded}
 use Rattle.wire.specs.Checks.{leastBytes, mostBytes, mostLevels, checkedTerm}
-use Rattle.wire.specs.Listed.{placed, repeatedIn, linearOf, linearIn, checkedLinear, kinded, entriesBytes, entriesOf, readEntries, Listed, listedInto, listedPattern, listedVocabulary, listed, Pattern, Entries, PatternIsOne, ListKeeps}
-use Rattle.wire.proofs.Cond.{cond-true}
+use Rattle.wire.specs.Listed.{placed, repeatedIn, linearOf, linearIn, checkedLinear, kinded, entriesBytes, entriesOf, readEntries, Listed, listedInto, listedPattern, listedVocabulary, listed, Pattern, Entries, ListRefusal, ofVocabulary, ofPattern, noRoom, PatternIsOne, ListKeeps}
+use Rattle.wire.proofs.Cond.{cond-true, cond-false}
 use Rattle.wire.proofs.Outside.{inside-outside}
 use Rattle.wire.proofs.Levels.{deepest-bytes}
 use Rattle.wire.proofs.Words.{in-order-well-formed}
 use Rattle.wire.proofs.VocabulariesInverse.{vocabularies-inverse}
+use Rattle.wire.proofs.VocabularyRefusals.{vocabulary-refusals}
+use Rattle.wire.proofs.LinearRefusals.{linear-refusals}
 use Rattle.wire.proofs.WholeTerms.{writes-whole}
 use Rattle.wire.proofs.Inputs.{TermIn, checked-in, in-checked}
 use Rattle.wire.proofs.Entries.{entries-are-good}
@@ -122,17 +124,19 @@ record Answer (out : List ℕ) (n : ℕ) (b : List ℕ) (n′ m : ℕ) (after : 
 not-accepted : (n i q : ℕ) (l : List ℕ) → refused n i q ≡ accepted l → ⊥
 not-accepted n i q l e = let z : _≡_ {A = ℕ} 0 1 = cc in omega arith
 
+-- The lent slice and the reply by the test for room.
+abbrev intoIf : Bool → List ℕ → ℕ → List ℕ → Listed
+intoIf c out n b =
+    cond c
+    (record { reply = accepted (n ∷ length b ∷ []); out = b ++ drop (length b) out })
+    (record { reply = refused 20 3 (length b); out = out })
+
 answer-of : (out : List ℕ) (n : ℕ) (b : List ℕ) (n′ m : ℕ) → listedInto out n b .reply ≡ accepted (n′ ∷ m ∷ []) →
     Answer out n b n′ m (listedInto out n b .out)
 answer-of out n b n′ m e = go (leb (length b) (length out)) refl e
   where
-    into : Bool → Listed
-    into c =
-        cond c
-        (record { reply = accepted (n ∷ length b ∷ []); out = b ++ drop (length b) out })
-        (record { reply = refused 20 3 (length b); out = out })
-
-    go : (c : Bool) → leb (length b) (length out) ≡ c → into c .reply ≡ accepted (n′ ∷ m ∷ []) → Answer out n b n′ m (into c .out)
+    go : (c : Bool) → leb (length b) (length out) ≡ c → intoIf c out n b .reply ≡ accepted (n′ ∷ m ∷ []) →
+        Answer out n b n′ m (intoIf c out n b .out)
     go true h e = record { fits = leb-true (length b) (length out) h; count = cc; size = cc; written = refl }
     go false h e = absurd (not-accepted 20 3 (length b) (n′ ∷ m ∷ []) e)
 
@@ -216,10 +220,55 @@ module _ (v p : List ℕ) (W : Vocabulary) (s : ℕ) (t : Term) (h : Pattern v p
     represents = listing-represents (signature W) t s (h .pattern .sorted .sorted) (h .linear);
   }
 
+-- ---- a refusal
+
+not-refused : (l : List ℕ) (n i q : ℕ) → accepted l ≡ refused n i q → ⊥
+not-refused l n i q e = let z : _≡_ {A = ℕ} 0 1 = cc in omega arith
+
+module _ (v p out : List ℕ) (bv : IsBytes v) (bp : IsBytes p) where
+  -- What the refusal list is to decide on, where the reply is a refusal.
+  abbrev Decided : Reply → Type 0
+  Decided (accepted l) = Unit {0}
+  Decided (refused n i q) = ListRefusal v p out n i q
+
+  decided : Decided (listed v p out .reply)
+  decided = vocabulary (readVocabulary v) refl
+    where
+      room : (W : Vocabulary) (x : Kinded) → Pattern v p W (x .kind) (x .term) →
+          (c : Bool) → leb (length (entriesBytes W (entriesOf W (x .kind) (x .term)))) (length out) ≡ c →
+          Decided (intoIf c out (length (entriesOf W (x .kind) (x .term))) (entriesBytes W (entriesOf W (x .kind) (x .term))) .reply)
+      room W x h true e = tt
+      room W x h false e = noRoom W (x .kind) (x .term) h (leb-false (length (entriesBytes W (entriesOf W (x .kind) (x .term)))) (length out) e)
+
+      pattern : (W : Vocabulary) → readVocabulary v ≡ accept W → (r : Reading Kinded) → checkedLinear W p ≡ r →
+          Decided (listedPattern W out r .reply)
+      pattern W e (refuse n q) f =
+          let good = vocabularies-inverse v W bv .0 e in
+          ofPattern W n q (good .0) (good .1) (linear-refusals W p (good .0 .inOrder) bp .given n q .0 f)
+      pattern W e (accept x) f = room W x (pattern-read v p W x bv bp e f) (leb _ (length out)) refl
+
+      vocabulary : (r : Reading Vocabulary) → readVocabulary v ≡ r → Decided (listedVocabulary p out r .reply)
+      vocabulary (refuse n q) e = ofVocabulary n q (vocabulary-refusals v bv .given n q .0 e)
+      vocabulary (accept W) e = pattern W e (checkedLinear W p) refl
+
+  refuses : (n i q : ℕ) → listed v p out .reply ≡ refused n i q → ListRefusal v p out n i q
+  refuses n i q e = subst Decided e decided
+
+  refused-by : {n i q : ℕ} → ListRefusal v p out n i q → listed v p out .reply ≡ refused n i q
+  refused-by (ofVocabulary n q d) = ap (λ r. listedVocabulary p out r .reply) (vocabulary-refusals v bv .given n q .1 d)
+  refused-by (ofPattern W n q good written d) =
+      ap (λ r. listedVocabulary p out r .reply) (vocabularies-inverse v W bv .1 (good, written))
+      ∙ ap (λ r. listedPattern W out r .reply) (linear-refusals W p (good .inOrder) bp .given n q .1 d)
+  refused-by (noRoom W s t h short) =
+      let b : List ℕ = entriesBytes W (entriesOf W s t) in
+      ap (λ (r : Listed). r .reply) (pattern-listed v p out W s t bv bp h)
+      ∙ ap (λ (r : Listed). r .reply) (cond-false (leb (length b) (length out)) _ _ (lt-leb (length b) (length out) short))
+
 pub list-keeps : ListKeeps
 list-keeps v p out bv bp = record {
   reply = refl;
   out = refl;
+  refuses = λ n i q. (refuses v p out bv bp n i q, refused-by v p out bv bp);
   answered = (
     (λ a. answered-pattern v p out (a .0) (a .1) bv bp (a .2)),
     (λ a.

@@ -20,6 +20,7 @@ use Rattle.wire.specs.Vocabulary.{signature}
 use Rattle.wire.specs.Written.{nameCount, encodeAt, asTerm}
 use Rattle.wire.specs.Matching.{Inputs, Judged, clear, refusal, judged, tableLength, orNoSpan, span, spanTable, Matched, yes, no, verdict, matchedWith, matched, cutOut, partFound, partWith, Reads, SpansOf, MatchKeeps, PartKeeps}
 use Rattle.wire.proofs.Cond.{cond-true}
+use Rattle.wire.proofs.MatchRefusals.{match-refuses, match-refused}
 use Rattle.wire.proofs.Inputs.{clear-is-reads}
 use Rattle.wire.proofs.GroundBytes.{size-least, root-ground}
 use Rattle.wire.proofs.Spans.{covers-cut, span-value, span-absent}
@@ -119,6 +120,7 @@ pub match-keeps : MatchKeeps
 match-keeps v p s table bv bp bs = record {
   reply = refl;
   table = refl;
+  refuses = λ n i q. (match-refuses v p s table bv bp bs n i q, match-refused v p s table bv bp bs);
   answered = (
     (λ h. let a = answered-clear table (judged v p s) h in (a .0, clear-is-reads v p s (a .0) bv bp bs .0 (a .1), a .2)),
     (λ h.

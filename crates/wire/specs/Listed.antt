@@ -18,6 +18,7 @@
 --   readEntry, readEntries   whole patterns read off the front of some bytes
 --   Pattern v p W s t        the bytes v and p write the vocabulary W and its linear pattern t
 --   Entries                  demand 3 of the entries that stand in the lent slice
+--   ListRefusal v p out      the number, input and place that the refusal list decides on: lines 1 to 15, 18 and 20
 --   ListPromise              what list promises of its reply and the lent slice
 --   PatternIsOne             the bytes write one vocabulary and one pattern only
 --   LinearRefusals           checkedLinear refuses by these lines
@@ -42,7 +43,8 @@ use Rattle.wire.specs.Vocabulary.{Vocabulary, signature, InOrder, encode
 use Rattle.wire.specs.Written.{encodeAt, encodeTerm, GoodTerm}
 use Rattle.wire.specs.Reading.{Got, got, stop, andThen, readTerm, readVocabulary, Kinded}
 use Rattle.wire.specs.Checks.{checkedTerm, GoodVocabulary}
-use Rattle.wire.specs.Refusals.{RefusesBy}
+use Rattle.wire.specs.Refusals.{Decides, RefusesBy}
+use Rattle.wire.specs.VocabularyLines.{VocabularyLine}
 use Rattle.wire.specs.TermLines.{TermLine}
 use Rattle.wire.specs.Matching.{Limits}
 
@@ -113,7 +115,6 @@ pub record Listed : Type 0 where
   pub out : List ℕ
 
 -- "the answer is the number of entries and of bytes"; "Bytes behind the last entry stay unchanged."
--- "20. The listing .. is longer than the lent slice (input 3, place: that output's length in bytes)."
 abbrev pub listedInto : List ℕ → ℕ → List ℕ → Listed
 listedInto out n b =
     cond (leb (length b) (length out))
@@ -177,10 +178,22 @@ pub record Entries (W : Vocabulary) (s : ℕ) (t : Term) (p : List ℕ) (n m : �
   -- Demand 2: "The listing represents the non-instances of a pattern in Gerlach's sense".
   pub represents : Represents (signature W) s (withVariables (signature W) t s) (map (λ e. withVariables (signature W) e s) entries)
 
+-- What the refusal list decides on: "The vocabulary is checked first, then the pattern, .. then the rest."
+pub data ListRefusal (v p out : List ℕ) : ℕ → ℕ → ℕ → Type 0 where
+  ofVocabulary : (n q : ℕ) → Decides (VocabularyLine v) n q → ListRefusal v p out n 0 q
+  ofPattern : (W : Vocabulary) (n q : ℕ) → GoodVocabulary W → v ≡ encodeVocabulary W → Decides (PatternLine W p) n q →
+      ListRefusal v p out n 1 q
+  -- 20. "The listing .. is longer than the lent slice (input 3, place: that output's length in bytes)."
+  noRoom : (W : Vocabulary) (s : ℕ) (t : Term) → Pattern v p W s t →
+      length out < length (entriesBytes W (entriesOf W s t)) →
+      ListRefusal v p out 20 3 (length (entriesBytes W (entriesOf W s t)))
+
 pub record ListPromise (v p before after : List ℕ) (r : Reply) : Type 0 where
   -- Reply and lent slice, for every input.
   pub reply : r ≡ listed v p before .reply
   pub out : after ≡ listed v p before .out
+  -- Demand 1: "a faulty one gets the number that its refusal list decides, with the input and place".
+  pub refuses : (n i q : ℕ) → (r ≡ refused n i q) ↔ ListRefusal v p before n i q
   -- It is accepted exactly where vocabulary and pattern are, no name stands twice, and the listing fits.
   pub answered : ((n : ℕ) × (m : ℕ) × (r ≡ accepted (n ∷ m ∷ []))) ↔
       ((W : Vocabulary) × (s : ℕ) × (t : Term) × Pattern v p W s t × (length (entriesBytes W (entriesOf W s t)) ≤ length before))

@@ -16,6 +16,7 @@
 --   Limits, Reads            what it means that bytes write given inputs within the limits
 --   yes, no                  the replies
 --   SpansOf                  the table gives the parts that a filling gives the names
+--   MatchRefusal v p s table   the number, input and place that the refusal list decides on: lines 1 to 17 and 19
 --   MatchPromise             what match promises of its reply and table
 --   PartPromise              what part promises of its reply
 --   MatchKeeps, PartKeeps    the definitions keep these promises
@@ -39,7 +40,10 @@ use Rattle.wire.specs.Vocabulary.{Vocabulary, signature, encodeVocabular
 use Rattle.wire.specs.Written.{nameCount, encodeAt, encodeTerm, GoodTerm, asTerm, deepest}
 use Rattle.wire.specs.Reading.{readVocabulary, Kinded}
 use Rattle.wire.specs.Checks.{leastBytes, mostBytes, mostLevels, checkedTerm, GoodVocabulary}
-use Rattle.wire.specs.Situation.{checkedSituation}
+use Rattle.wire.specs.Refusals.{Decides}
+use Rattle.wire.specs.VocabularyLines.{VocabularyLine}
+use Rattle.wire.specs.TermLines.{TermLine}
+use Rattle.wire.specs.Situation.{checkedSituation, SituationLine}
 
 pub record Inputs : Type 0 where
   pub vocabulary : Vocabulary
@@ -135,7 +139,7 @@ abbrev pub verdict : List ℕ → Inputs → Option Filling → Matched
 verdict table x (some f) = record { reply = yes; table = spanTable (x .vocabulary) (x .pattern) (x .situation) }
 verdict table x none = record { reply = no; table = table }
 
--- "19. The table's length is not 128 numbers (input 3, place 0)." A refusal changes nothing.
+-- A refusal changes nothing.
 abbrev pub matchedWith : List ℕ → Judged → Matched
 matchedWith table (refusal n i q) = record { reply = refused n i q; table = table }
 matchedWith table (clear x) =
@@ -192,10 +196,23 @@ pub record SpansOf (x : Inputs) (s : List ℕ) (f : Filling) (table : List ℕ) 
       cutOut s (spanIn table n) ≡ encodeAt (x .vocabulary) (asTerm (valueOf (f .named) n))
   pub absent : (n : ℕ) → n < nameCount → occurs n (names (x .pattern)) ≡ false → spanIn table n ≡ noSpan
 
+-- What the refusal list decides on: "The vocabulary is checked first, then the pattern, then the situation, then the rest."
+pub data MatchRefusal (v p s table : List ℕ) : ℕ → ℕ → ℕ → Type 0 where
+  ofVocabulary : (n q : ℕ) → Decides (VocabularyLine v) n q → MatchRefusal v p s table n 0 q
+  ofPattern : (W : Vocabulary) (n q : ℕ) → GoodVocabulary W → v ≡ encodeVocabulary W → Decides (TermLine W p) n q →
+      MatchRefusal v p s table n 1 q
+  ofSituation : (W : Vocabulary) (k : ℕ) (t : Term) (n q : ℕ) → GoodVocabulary W → v ≡ encodeVocabulary W →
+      GoodTerm W k t → p ≡ encodeTerm W k t → Limits p t → Decides (SituationLine W k s) n q →
+      MatchRefusal v p s table n 2 q
+  -- 19. "The table's length is not 128 numbers (input 3, place 0)."
+  ofTable : (x : Inputs) → Reads v p s x → (length table ≡ tableLength → ⊥) → MatchRefusal v p s table 19 3 0
+
 pub record MatchPromise (v p s before after : List ℕ) (r : Reply) : Type 0 where
   -- Reply and table, for every input.
   pub reply : r ≡ matched v p s before .reply
   pub table : after ≡ matched v p s before .table
+  -- Demand 1: "a faulty one gets the number that its refusal list decides, with the input and place".
+  pub refuses : (n i q : ℕ) → (r ≡ refused n i q) ↔ MatchRefusal v p s before n i q
   -- Yes or no is answered exactly where the inputs are in order and the table has 128 numbers.
   pub answered : ((r ≡ yes) ⊎ (r ≡ no)) ↔ ((x : Inputs) × Reads v p s x × (length before ≡ tableLength))
   -- Demand 2: yes "when some filling turns the pattern into the situation, and no when there is none".
