@@ -15,7 +15,7 @@ use Rattle.terms.specs.Matcher.{matcher}
 use Rattle.wire.specs.Reply.{Reply, accepted, refused, IsBytes}
 use Rattle.wire.specs.Written.{nameCount, encodeAt, asTerm}
 use Rattle.wire.specs.Vocabulary.{Vocabulary}
-use Rattle.wire.specs.Matching.{Inputs, Judged, clear, refusal, judged, clearReply, tableLength, Span, orNoSpan, noSpan, span, spanFrom, spanTable, spanIn, yes, no, verdict, matchedWith, matched, cutOut, partFound, partWith, partOf, Reads, MatchPromise, PartPromise}
+use Rattle.wire.specs.Matching.{Inputs, Judged, clear, refusal, judged, clearReply, tableLength, Span, orNoSpan, noSpan, span, spanFrom, spanTable, spanIn, yes, no, verdict, matchedWith, matched, cutOut, spanFound, spanWith, partSpan, Reads, MatchPromise, PartPromise}
 use Rattle.wire.proofs.Inputs.{clear-is-reads}
 use Rattle.wire.proofs.Matching.{match-keeps, part-keeps}
 use Rattle.wire.proofs.GroundBytes.{size-least, root-ground}
@@ -129,35 +129,42 @@ module _ {v p s : List ℕ} (lent : Lent v p s) where
   -- ---- part
 
   module _ (n : ℕ) where
-    part-promised : (r : List ℕ) → r ≡ partOf v p s n → PartPromise v p s n r
-    part-promised r e = subst (PartPromise v p s n) (sym e) (part-keeps v p s n (lent .vocabulary) (lent .pattern) (lent .situation))
+    -- The part has these bytes, and stands at this offset of the situation.
+    abbrev Stands : ℕ → List ℕ → Type 0
+    Stands from r = PartPromise v p s n r × (from ≡ partSpan v p s n .offset)
 
-    pub part-refused : (why : InputsRefusal) → inputsRefused why ≡ clearReply (judged v p s) → PartPromise v p s n []
-    part-refused why e = part-promised [] (reply (judged v p s) e)
+    stands : (y : Span) → partSpan v p s n ≡ y → Stands (y .offset) (cutOut s y)
+    stands y e = (
+      subst (PartPromise v p s n) (ap (cutOut s) e) (part-keeps v p s n (lent .vocabulary) (lent .pattern) (lent .situation)),
+      ap (λ (z : Span). z .offset) (sym e),
+    )
+
+    pub part-refused : (why : InputsRefusal) → inputsRefused why ≡ clearReply (judged v p s) → Stands 0 []
+    part-refused why e = stands noSpan (reply (judged v p s) e)
       where
-        reply : (j : Judged) → inputsRefused why ≡ clearReply j → [] ≡ partWith s n j
+        reply : (j : Judged) → inputsRefused why ≡ clearReply j → spanWith n j ≡ noSpan
         reply (clear x) e = absurd (not-clear why e)
         reply (refusal n i q) e = refl
 
     module _ (clears : accepted [] ≡ clearReply (judged v p s)) where
-      part-here : partOf v p s n ≡ partWith s n (clear (inputs-read clears .inputs))
+      found-here : partSpan v p s n ≡ spanFound (inputs-read clears .inputs) n (matcher (inputs-read clears .inputs .pattern) (inputs-read clears .inputs .situation))
       unfolding inputs-read
-      part-here = ap (partWith s n) (judged-clear (judged v p s) clears .1)
+      found-here = ap (spanWith n) (judged-clear (judged v p s) clears .1)
 
-      pub part-above : 63 < n → PartPromise v p s n []
-      part-above l = part-promised [] (sym (part-here ∙ reply (matcher (inputs-read clears .inputs .pattern) (inputs-read clears .inputs .situation))))
+      pub part-above : 63 < n → Stands 0 []
+      part-above l = stands noSpan (found-here ∙ reply (matcher (inputs-read clears .inputs .pattern) (inputs-read clears .inputs .situation)))
         where
-          reply : (o : Option Filling) → partFound s (inputs-read clears .inputs) n o ≡ []
+          reply : (o : Option Filling) → spanFound (inputs-read clears .inputs) n o ≡ noSpan
           reply none = refl
           reply (some f) =
               let x = inputs-read clears .inputs in
-              ap (λ b. cond (b && occurs n (names (x .pattern))) (cutOut s (span (x .vocabulary) (x .pattern) (x .situation) n)) [])
+              ap (λ b. cond (b && occurs n (names (x .pattern))) (span (x .vocabulary) (x .pattern) (x .situation) n) noSpan)
               (le-ltb n nameCount (omega arith))
 
-      pub part-none : {spans : List ℕ} → Walked p s spans false → PartPromise v p s n []
-      part-none walked = part-promised [] (sym (part-here ∙ reply (matcher (inputs-read clears .inputs .pattern) (inputs-read clears .inputs .situation)) (walked (inputs-read clears) .answer)))
+      pub part-none : {spans : List ℕ} → Walked p s spans false → Stands 0 []
+      part-none walked = stands noSpan (found-here ∙ reply (matcher (inputs-read clears .inputs .pattern) (inputs-read clears .inputs .situation)) (walked (inputs-read clears) .answer))
         where
-          reply : (o : Option Filling) → false ≡ found o → partFound s (inputs-read clears .inputs) n o ≡ []
+          reply : (o : Option Filling) → false ≡ found o → spanFound (inputs-read clears .inputs) n o ≡ noSpan
           reply (some f) e = absurd (false≢true e)
           reply none e = refl
 
@@ -186,25 +193,26 @@ module _ {v p s : List ℕ} (lent : Lent v p s) where
                 omega (arith, size-least W g, length-drop (y .offset) s, ap length (h .stands), length-append (encodeAt W (asTerm g)) (h .behind))
 
         pub part-found : (from long : ℕ) → from ≡ getD spans (2 * n) 0 → long ≡ getD spans (2 * n + 1) 0 →
-            PartPromise v p s n (take (from + long - from) (drop from s))
+            Stands from (take (from + long - from) (drop from s))
         part-found from long e l =
-            part-promised (take (from + long - from) (drop from s)) (part-cut s spans n from long e l ∙ ap (cutOut s) span-here ∙ sym (part-here ∙ reply (matcher (inputs-read clears .inputs .pattern) (inputs-read clears .inputs .situation)) (walked (inputs-read clears) .answer)))
+            let h = stands (spanIn spans n) (found-here ∙ reply (matcher (inputs-read clears .inputs .pattern) (inputs-read clears .inputs .situation)) (walked (inputs-read clears) .answer) ∙ sym span-here) in
+            (subst (PartPromise v p s n) (sym (part-cut s spans n from long e l)) (h .0), e ∙ h .1)
           where
             go : (b : Bool) → occurs n (names (inputs-read clears .inputs .pattern)) ≡ b →
-                cond b (cutOut s (span (inputs-read clears .inputs .vocabulary) (inputs-read clears .inputs .pattern) (inputs-read clears .inputs .situation) n)) []
-                ≡ cutOut s (span (inputs-read clears .inputs .vocabulary) (inputs-read clears .inputs .pattern) (inputs-read clears .inputs .situation) n)
+                cond b (span (inputs-read clears .inputs .vocabulary) (inputs-read clears .inputs .pattern) (inputs-read clears .inputs .situation) n) noSpan
+                ≡ span (inputs-read clears .inputs .vocabulary) (inputs-read clears .inputs .pattern) (inputs-read clears .inputs .situation) n
             go true q = refl
             go false q =
                 let y = inputs-read clears .inputs in
-                ap (λ o. cutOut s (orNoSpan o)) (sym (span-absent (y .vocabulary) (y .pattern) (y .situation) n 1 q))
+                ap orNoSpan (sym (span-absent (y .vocabulary) (y .pattern) (y .situation) n 1 q))
 
             reply : (o : Option Filling) → true ≡ found o →
-                partFound s (inputs-read clears .inputs) n o
-                ≡ cutOut s (span (inputs-read clears .inputs .vocabulary) (inputs-read clears .inputs .pattern) (inputs-read clears .inputs .situation) n)
+                spanFound (inputs-read clears .inputs) n o
+                ≡ span (inputs-read clears .inputs .vocabulary) (inputs-read clears .inputs .pattern) (inputs-read clears .inputs .situation) n
             reply none e = absurd (true≢false e)
             reply (some f) e =
                 let y = inputs-read clears .inputs in
-                ap (λ b. cond (b && occurs n (names (y .pattern))) (cutOut s (span (y .vocabulary) (y .pattern) (y .situation) n)) []) (lt-ltb n nameCount low)
+                ap (λ b. cond (b && occurs n (names (y .pattern))) (span (y .vocabulary) (y .pattern) (y .situation) n) noSpan) (lt-ltb n nameCount low)
                 ∙ go (occurs n (names (y .pattern))) refl
 
 -- ---- what a walk says, by its answer

@@ -4,7 +4,7 @@ ghost use Prim.Native.Nat.{_+_, _*_, _/_, _<_, _≤_};
 ghost use lib.Count.{ones};
 ghost use lib.ListN.{length, getD, replicate};
 ghost use Rattle.matcher.specs.Walking.{placesIn, writtenIn, Framed, Standing, ends, Same, Covered, InputsRead, Walked};
-ghost use Rattle.wire.specs.Matching.{MatchPromise, PartPromise};
+ghost use Rattle.wire.specs.Matching.{partSpan, MatchPromise, PartPromise};
 ghost use Rattle.matcher.specs.Answers.{matchNumbers};
 use reader::InputsAnswer;
 use reader::InputsRefusal;
@@ -210,6 +210,8 @@ pub fn match_pattern(
 // empty where match would not say yes or the name does not stand in the pattern.
 pub fn part<'a>(vocabulary: &[u8], pattern: &[u8], situation: &'a [u8], name: usize) -> &'a [u8]
     ensures { λ r. ⌜ PartPromise (now (vocabulary .entry)) (now (pattern .entry)) (now (situation .entry)) name (now r) ⌝ }
+    ensures { λ r. ⌜ r .ptr .0 ≡ situation .entry .ptr .0 ⌝ }
+    ensures { λ r. ⌜ r .ptr .1 ≡ situation .entry .ptr .1 + partSpan (now (vocabulary .entry)) (now (pattern .entry)) (now (situation .entry)) name .offset ⌝ }
 {
     match reader::judge(vocabulary, pattern, situation) {
         InputsAnswer::Refused(_) => {

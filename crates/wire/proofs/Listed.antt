@@ -6,7 +6,7 @@ use mathlib.Core.Option.{Option, some, none}
 use Prim.Native.Nat.{ℕ, _≤_}
 use native.Mathlib.Omega.{arith}
 use lib.Dec.{leb}
-use lib.ListN.{length, take, drop}
+use lib.ListN.{length, take, drop, length-append}
 use lib.Seq.{take-at}
 use borrow.Author.Tests.{leb-true, leb-false, le-leb, lt-leb}
 use Rattle.terms.specs.Lists.{All}
@@ -204,9 +204,11 @@ module _ (v p : List ℕ) (W : Vocabulary) (s : ℕ) (t : Term) (h : Pattern v p
           let low = limits .levels in
           (written-checked W s e inOrder good (omega arith) (omega arith), alone, omega arith)
 
-  entries-kept : (n m : ℕ) (after : List ℕ) → length (entriesOf W s t) ≡ n → take m after ≡ bytes → Entries W s t p n m after
-  entries-kept n m after count written = record {
+  entries-kept : (n m : ℕ) (after : List ℕ) → length (entriesOf W s t) ≡ n → m ≤ length after → take m after ≡ bytes →
+      Entries W s t p n m after
+  entries-kept n m after count inside written = record {
     entries = entries;
+    inside = inside;
     read =
         ap (readEntries W n) written
         ∙ ap (λ n. readEntries W n bytes) (sym count)
@@ -295,6 +297,8 @@ list-keeps v p out bv bp = record {
         t,
         x .3,
         entries-kept v p W s t (x .3) n m (listed v p out .out) (a .count)
+            (let long = ap length (ap (λ (r : Listed). r .out) known ∙ a .written) ∙ length-append b (drop (length b) out) in
+            let size = a .size in omega arith)
             (ap (take m) (ap (λ (r : Listed). r .out) known ∙ a .written) ∙ take-at b (drop (length b) out) m (a .size)),
       );
 }

@@ -18,7 +18,7 @@ use Rattle.terms.proofs.Theorems.{matcher-is-exact, matching-is-fitting}
 use Rattle.wire.specs.Reply.{accepted, refused}
 use Rattle.wire.specs.Vocabulary.{signature}
 use Rattle.wire.specs.Written.{nameCount, encodeAt, asTerm}
-use Rattle.wire.specs.Matching.{Inputs, Judged, clear, refusal, judged, tableLength, orNoSpan, span, spanTable, Matched, yes, no, verdict, matchedWith, matched, cutOut, partFound, partWith, Reads, SpansOf, MatchKeeps, PartKeeps}
+use Rattle.wire.specs.Matching.{Inputs, Judged, clear, refusal, judged, tableLength, orNoSpan, span, spanTable, Matched, yes, no, verdict, matchedWith, matched, cutOut, noSpan, spanFound, spanWith, Reads, SpansOf, MatchKeeps, PartKeeps}
 use Rattle.wire.proofs.Cond.{cond-true}
 use Rattle.wire.proofs.MatchRefusals.{match-refuses, match-refused}
 use Rattle.wire.proofs.Inputs.{clear-is-reads}
@@ -107,11 +107,12 @@ module _ (v p s : List ℕ) (x : Inputs) (reads : Reads v p s x) where
     }
 
     part-value : (n : ℕ) → n < nameCount → occurs n (names (x .pattern)) ≡ true →
-        partFound s x n (matcher (x .pattern) (x .situation)) ≡ encodeAt (x .vocabulary) (asTerm (valueOf (f .named) n))
+        cutOut s (spanFound x n (matcher (x .pattern) (x .situation))) ≡ encodeAt (x .vocabulary) (asTerm (valueOf (f .named) n))
     part-value n l o =
-        ap (partFound s x n) (fills-found f filling fills)
-        ∙ cond-true (ltb n nameCount && occurs n (names (x .pattern))) _ _
-        (and-both (ltb n nameCount) (occurs n (names (x .pattern))) (lt-ltb n nameCount l) o)
+        ap (λ o. cutOut s (spanFound x n o)) (fills-found f filling fills)
+        ∙ ap (cutOut s)
+        (cond-true (ltb n nameCount && occurs n (names (x .pattern))) _ _
+        (and-both (ltb n nameCount) (occurs n (names (x .pattern))) (lt-ltb n nameCount l) o))
         ∙ part-bytes n o
 
 -- ---- match
@@ -159,12 +160,12 @@ PartKept v p s n r =
     Fits (signature (x .vocabulary)) (x .pattern) (x .kind) (x .situation)))
 
 found-kept : (v p s : List ℕ) (n : ℕ) (x : Inputs) → Reads v p s x → (o : Option Filling) → matcher (x .pattern) (x .situation) ≡ o →
-    PartKept v p s n (partFound s x n o)
+    PartKept v p s n (cutOut s (spanFound x n o))
 found-kept v p s n x reads none e = inl refl
 found-kept v p s n x reads (some f) e = go (ltb n nameCount && occurs n (names (x .pattern))) refl
   where
     go : (c : Bool) → (ltb n nameCount && occurs n (names (x .pattern))) ≡ c →
-        PartKept v p s n (cond c (cutOut s (span (x .vocabulary) (x .pattern) (x .situation) n)) [])
+        PartKept v p s n (cutOut s (cond c (span (x .vocabulary) (x .pattern) (x .situation) n) noSpan))
     go false q = inl refl
     go true q =
         let o = and-parts (ltb n nameCount) (occurs n (names (x .pattern))) q .1 in
@@ -179,10 +180,10 @@ pub part-keeps : PartKeeps
 part-keeps v p s n bv bp bs = record {
   reply = refl;
   value = λ x reads l o f filling fills.
-      ap (partWith s n) (clear-is-reads v p s x bv bp bs .1 reads) ∙ part-value v p s x reads f filling fills n l o;
+      ap (λ j. cutOut s (spanWith n j)) (clear-is-reads v p s x bv bp bs .1 reads) ∙ part-value v p s x reads f filling fills n l o;
   empty = kept (judged v p s) refl;
 }
   where
-    kept : (j : Judged) → judged v p s ≡ j → PartKept v p s n (partWith s n j)
+    kept : (j : Judged) → judged v p s ≡ j → PartKept v p s n (cutOut s (spanWith n j))
     kept (refusal m i q) e = inl refl
     kept (clear x) e = found-kept v p s n x (clear-is-reads v p s x bv bp bs .0 e) (matcher (x .pattern) (x .situation)) refl

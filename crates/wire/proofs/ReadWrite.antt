@@ -89,7 +89,7 @@ module _ (W : Vocabulary) (left : ℕ) (k : Slot) (ks : List Slot) (seen : List 
   }
 
 -- Bytes that are left behind some bytes.
-rest-bytes : (l a r : List ℕ) → l ≡ a ++ r → IsBytes l → IsBytes r
+pub rest-bytes : (l a r : List ℕ) → l ≡ a ++ r → IsBytes l → IsBytes r
 rest-bytes l a r e h = all-right (λ b. b < 256) a r (subst IsBytes e h)
 
 module _ (W : Vocabulary) (left : ℕ) (reader : ℕ → List Occurrence → List ℕ → Got Read)

@@ -26,7 +26,7 @@ use Rattle.wire.specs.VocabularyLines.{VocabularyRefusals}
 use Rattle.wire.specs.TermLines.{TermRefusals}
 use Rattle.wire.specs.Situation.{FirstGapIsExact, SituationRefusals}
 use Rattle.wire.specs.Matching.{MatchKeeps, PartKeeps}
-use Rattle.wire.specs.Listed.{PatternIsOne, LinearRefusals, ListKeeps}
+use Rattle.wire.specs.Listed.{EntriesInverse, PatternIsOne, LinearRefusals, ListKeeps}
 use Rattle.wire.specs.Starred.{StarredHold}
 
 pub in-order-is-well-formed : InOrderIsWellFormed
@@ -73,6 +73,9 @@ part-keeps = Rattle.wire.proofs.Matching.part-keeps
 
 pub linear-refusals : LinearRefusals
 linear-refusals = Rattle.wire.proofs.LinearRefusals.linear-refusals
+
+pub entries-inverse : EntriesInverse
+entries-inverse = Rattle.wire.proofs.EntriesRead.entries-inverse
 
 pub pattern-is-one : PatternIsOne
 pattern-is-one = Rattle.wire.proofs.Listed.pattern-is-one

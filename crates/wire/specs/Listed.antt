@@ -16,6 +16,7 @@
 --   listedInto, listedPattern, listedVocabulary    the parts of the next, in the order in which they are judged
 --   listed v p out           the reply of list, and the lent slice after it
 --   readEntry, readEntries   whole patterns read off the front of some bytes
+--   EntriesInverse           so many are read off bytes exactly where the bytes are their writings
 --   Pattern v p W s t        the bytes v and p write the vocabulary W and its linear pattern t
 --   Entries                  demand 3 of the entries that stand in the lent slice
 --   ListRefusal v p out      the number, input and place that the refusal list decides on: lines 1 to 15, 18 and 20
@@ -30,7 +31,7 @@ use mathlib.Core.List.{List, [], _∷_, _++_, map}
 use mathlib.Core.Logic.{_↔_}
 use mathlib.Core.Option.{Option, some, none}
 use Prim.Native.Nat.{ℕ, zero, suc, _+_, _<_, _≤_}
-use lib.Dec.{leb}
+use lib.Dec.{leb, ltb}
 use lib.ListN.{length, getD, take, drop}
 use Rattle.terms.specs.Lists.{All, occurs}
 use Rattle.terms.specs.Term.{Term, any, var, app, Terms, nil, cons, Ground, SortedG, Linear}
@@ -137,13 +138,21 @@ listed v p out = listedVocabulary p out (readVocabulary v)
 -- One whole pattern off the front of some bytes; a term has no more levels than bytes.
 abbrev pub readEntry : Vocabulary → List ℕ → Got Kinded
 readEntry W [] = stop 7 []
-readEntry W (s ∷ l) = andThen (readTerm W (length l) true s [] l) (λ a r. got (kinded s (a .term)) r)
+readEntry W (s ∷ l) =
+    cond (ltb s (W .kinds)) (andThen (readTerm W (length l) true s [] l) (λ a r. got (kinded s (a .term)) r)) (stop 8 (s ∷ l))
 
 -- n whole patterns, one behind the other.
 abbrev pub readEntries : Vocabulary → ℕ → List ℕ → Got (List Kinded)
 readEntries W zero b = got [] b
 readEntries W (suc n) b =
     andThen (readEntry W b) (λ k r. andThen (readEntries W n r) (λ ks r′. got (k ∷ ks) r′))
+
+-- They are read off exactly the bytes that are their writings: these can be split in one way only.
+abbrev pub EntriesInverse : Type 0
+EntriesInverse =
+    (W : Vocabulary) (n : ℕ) (b : List ℕ) (l : List Kinded) → InOrder W → IsBytes b →
+    (readEntries W n b ≡ got l []) ↔
+    ((length l ≡ n) × All (λ k. GoodTerm W (k .kind) (k .term)) l × (b ≡ entriesBytes W l))
 
 -- The bytes v and p are accepted, and no name stands twice in the pattern.
 pub record Pattern (v p : List ℕ) (W : Vocabulary) (s : ℕ) (t : Term) : Type 0 where
@@ -158,6 +167,7 @@ pub record Pattern (v p : List ℕ) (W : Vocabulary) (s : ℕ) (t : Term) : Type
 pub record Entries (W : Vocabulary) (s : ℕ) (t : Term) (p : List ℕ) (n m : ℕ) (after : List ℕ) : Type 0 where
   -- "its first bytes, as many as answered, are the answered number of whole patterns".
   pub entries : List Term
+  pub inside : m ≤ length after
   pub read : readEntries W n (take m after) ≡ got (map (kinded s) entries) []
   pub one : (l : List Kinded) → length l ≡ n → All (λ k. GoodTerm W (k .kind) (k .term)) l →
       take m after ≡ entriesBytes W l → l ≡ map (kinded s) entries

@@ -2,21 +2,28 @@
 --
 --   Inputs                   a vocabulary, a pattern and a situation that are in order
 --   Judged                   inputs in order, or a refusal's number, input and place
+--   judgedSituation, judgedPattern, judgedVocabulary    the parts of the next
 --   judged v p s             the inputs of match, in the order in which they are judged
 --   clearReply j             the reply that says whether the inputs are in order, with no values
 --   tableLength              the table has this many numbers (128)
 --   size W g                 how many bytes the ground term g takes
---   Span                     an offset and a length
+--   Span, noSpan             an offset and a length; 0 and 0
+--   spanElse, orNoSpan       the first of two spans that may be missing; a span, or 0 and 0
 --   spanFrom, spanAll        where the term at a name's first occurrence stands
 --   span W t g n             the same from the kind byte on
---   spanTable W t g          document 01's table
+--   spansOf, spanTable W t g    document 01's table
 --   Matched                  a reply, and the table after the call
---   matched v p s table      the reply and the table of match
---   partOf v p s n           the reply of part
---   Limits, Reads            what it means that bytes write given inputs within the limits
 --   yes, no                  the replies
+--   verdict, matchedWith     the parts of the next
+--   matched v p s table      the reply and the table of match
+--   cutOut s x               the bytes of s at a span
+--   spanFound, spanWith      the parts of the next
+--   partSpan v p s n         where the part of the name n stands in the situation; 0 and 0 where there is none
+--   partOf v p s n           the bytes of that part
+--   Limits, Reads            what it means that bytes write given inputs within the limits
+--   spanIn table n           the span that a table gives a name
 --   SpansOf                  the table gives the parts that a filling gives the names
---   MatchRefusal v p s table   the number, input and place that the refusal list decides on: lines 1 to 17 and 19
+--   MatchRefusal v p s table    the number, input and place that the refusal list decides on: lines 1 to 17 and 19
 --   MatchPromise             what match promises of its reply and table
 --   PartPromise              what part promises of its reply
 --   MatchKeeps, PartKeeps    the definitions keep these promises
@@ -153,19 +160,22 @@ matched v p s table = matchedWith table (judged v p s)
 abbrev pub cutOut : List ℕ → Span → List ℕ
 cutOut s x = take (x .length) (drop (x .offset) s)
 
-abbrev pub partFound : List ℕ → Inputs → ℕ → Option Filling → List ℕ
-partFound s x n none = []
-partFound s x n (some f) =
-    cond (ltb n nameCount && occurs n (names (x .pattern))) (cutOut s (span (x .vocabulary) (x .pattern) (x .situation) n)) []
+abbrev pub spanFound : Inputs → ℕ → Option Filling → Span
+spanFound x n none = noSpan
+spanFound x n (some f) =
+    cond (ltb n nameCount && occurs n (names (x .pattern))) (span (x .vocabulary) (x .pattern) (x .situation) n) noSpan
 
 -- "It is empty if match, given a table of the right length, would not say yes, or the name does not
 -- stand in the pattern, or its number is above 63."
-abbrev pub partWith : List ℕ → ℕ → Judged → List ℕ
-partWith s n (refusal m i q) = []
-partWith s n (clear x) = partFound s x n (matcher (x .pattern) (x .situation))
+abbrev pub spanWith : ℕ → Judged → Span
+spanWith n (refusal m i q) = noSpan
+spanWith n (clear x) = spanFound x n (matcher (x .pattern) (x .situation))
+
+abbrev pub partSpan : List ℕ → List ℕ → List ℕ → ℕ → Span
+partSpan v p s n = spanWith n (judged v p s)
 
 abbrev pub partOf : List ℕ → List ℕ → List ℕ → ℕ → List ℕ
-partOf v p s n = partWith s n (judged v p s)
+partOf v p s n = cutOut s (partSpan v p s n)
 
 -- "A pattern or situation is 2 to 4,096 bytes"; "The deepest level is 32."
 pub record Limits (b : List ℕ) (t : Term) : Type 0 where

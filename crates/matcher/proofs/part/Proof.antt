@@ -2,6 +2,7 @@
 use mathlib.Core.Path.{_≡_, refl, sym, ap, _∙_}
 use mathlib.Core.Bool.{true, false}
 use mathlib.Core.List.{[]}
+use Prim.Native.Nat.{_+_}
 use native.Mathlib.Omega.{arith}
 use denote.Ref.{now}
 use borrow.Author.Needs.{needs}
@@ -40,7 +41,10 @@ part-result-end : tie.Need-part-result-end
 part-result-end c = search needs
 
 returns : tie.Need-returns
-returns c = part-refused (lent (c .before .before .before)) _ (c .before .enum-told .given .0 .0) (sym (ap inputsNumbers (c .before .enum-told .given .1)) ∙ c .before .before .before .judge .ensures)
+returns c =
+    let h = part-refused (lent (c .before .before .before)) _ (c .before .enum-told .given .0 .0) (sym (ap inputsNumbers (c .before .enum-told .given .1)) ∙ c .before .before .before .judge .ensures) in
+    let place = h .1 in
+    (h .0, (refl, omega arith))
 
 enum-told-2 : tie.Need-enum-told-2
 enum-told-2 c = search needs
@@ -55,7 +59,10 @@ part-result-end-2 : tie.Need-part-result-end-2
 part-result-end-2 c = search needs
 
 returns-2 : tie.Need-returns-2
-returns-2 c = part-above (lent (c .before .before .before .before)) _ (clears (c .before .before .before .before) (c .before .before .enum-told2 .given .1)) (c .before .if1 .taken)
+returns-2 c =
+    let h = part-above (lent (c .before .before .before .before)) _ (clears (c .before .before .before .before) (c .before .before .enum-told2 .given .1)) (c .before .if1 .taken) in
+    let place = h .1 in
+    (h .0, (refl, omega arith))
 
 walk-requires : tie.Need-walk-requires
 walk-requires c κs = (inputs-read (lent (c .before .before .before .before)) (clears (c .before .before .before .before) (c .before .before .enum-told2 .given .1)), refl)
@@ -106,9 +113,11 @@ part-result-end-3 c =
 
 returns-3 : tie.Need-returns-3
 returns-3 c =
-    part-found (lent (c .before .before .before .before .before .before .before .before .before)) (c .before .before .before .before .before .before .before .before .before .before .before .before .before .args .name) (clears (c .before .before .before .before .before .before .before .before .before) (c .before .before .before .before .before .before .before .enum-told2 .given .1)) (let low = c .before .before .before .before .before .before .if1 .left in omega arith)
+    let h = part-found (lent (c .before .before .before .before .before .before .before .before .before)) (c .before .before .before .before .before .before .before .before .before .before .before .before .before .args .name) (clears (c .before .before .before .before .before .before .before .before .before) (c .before .before .before .before .before .before .before .enum-told2 .given .1)) (let low = c .before .before .before .before .before .before .if1 .left in omega arith)
     (walked-as true (c .before .before .before .if2 .taken) (c .before .before .before .before .walk .ensures))
-    (c .before .before .wide16 .result) (c .before .wide162 .result) (c .before .before .wide16 .ensures .0) (c .before .wide162 .ensures .0)
+    (c .before .before .wide16 .result) (c .before .wide162 .result) (c .before .before .wide16 .ensures .0) (c .before .wide162 .ensures .0) in
+    let place = h .1 in
+    (h .0, (refl, omega arith))
 
 sub-result-4 : tie.Need-sub-result-4
 sub-result-4 c = search needs
@@ -120,7 +129,10 @@ part-result-end-4 : tie.Need-part-result-end-4
 part-result-end-4 c = search needs
 
 returns-4 : tie.Need-returns-4
-returns-4 c = part-none (lent (c .before .before .before .before .before .before .before)) _ (clears (c .before .before .before .before .before .before .before) (c .before .before .before .before .before .enum-told2 .given .1)) (walked-as false (c .before .if2 .left) (c .before .before .walk .ensures))
+returns-4 c =
+    let h = part-none (lent (c .before .before .before .before .before .before .before)) _ (clears (c .before .before .before .before .before .before .before) (c .before .before .before .before .before .enum-told2 .given .1)) (walked-as false (c .before .if2 .left) (c .before .before .walk .ensures)) in
+    let place = h .1 in
+    (h .0, (refl, omega arith))
 
 pub part-spec : {M : Type 1} → statement M
 part-spec =
