@@ -56,6 +56,8 @@ pub mod EntryBytes
 pub mod EntrySizes
 pub mod EntryMaps
 pub mod EntryWalk
+-- On the text that the program prints.
+pub mod Text
 -- All of it.
 pub mod Starred
 pub mod Theorems

@@ -15,7 +15,10 @@
 --   match-keeps              the definitions of match's reply and table keep what match promises
 --   part-keeps               the definition of part's reply keeps what part promises
 --   linear-refusals          a pattern to be listed is refused exactly by lines 7 to 15 and 18 of the refusal list
+--   entries-inverse          whole patterns are read off bytes exactly where the bytes are their writings
+--   pattern-is-one           the bytes of list's inputs write one vocabulary and one pattern only
 --   list-keeps               the definition of list's reply and lent slice keeps what list promises
+--   decimal-is-exact         a number in decimal is of digits that stand for it, and no zero stands in front
 --   starred-hold             every starred case has the reply that document 01 gives
 --
 use Rattle.wire.specs.Vocabulary.{InOrderIsWellFormed}
@@ -27,6 +30,7 @@ use Rattle.wire.specs.TermLines.{TermRefusals}
 use Rattle.wire.specs.Situation.{FirstGapIsExact, SituationRefusals}
 use Rattle.wire.specs.Matching.{MatchKeeps, PartKeeps}
 use Rattle.wire.specs.Listed.{EntriesInverse, PatternIsOne, LinearRefusals, ListKeeps}
+use Rattle.wire.specs.Text.{DecimalIsExact}
 use Rattle.wire.specs.Starred.{StarredHold}
 
 pub in-order-is-well-formed : InOrderIsWellFormed
@@ -82,6 +86,9 @@ pattern-is-one = Rattle.wire.proofs.Listed.pattern-is-one
 
 pub list-keeps : ListKeeps
 list-keeps = Rattle.wire.proofs.Listed.list-keeps
+
+pub decimal-is-exact : DecimalIsExact
+decimal-is-exact = Rattle.wire.proofs.Text.decimal-is-exact
 
 pub starred-hold : StarredHold
 starred-hold = Rattle.wire.proofs.Starred.starred-hold

@@ -5,7 +5,7 @@
 --   decimalIn, decimal   a number in decimal
 --   hexadecimal l        bytes in lowercase hexadecimal without gaps
 --   valueFrom, value     the number that decimal digits stand for
---   DecimalIsExact       the digits of a number stand for it, and no zero stands in front
+--   DecimalIsExact       a number in decimal is of digits that stand for it, and no zero stands in front
 --
 use mathlib.Core.Path.{_≡_}
 use mathlib.Core.Bool.{true, false, cond}
@@ -15,6 +15,7 @@ use Prim.Native.Char.{code}
 use Prim.Native.String.{String, [] as nothing, _∷_ as _then_}
 use lib.Dec.{ltb}
 use lib.ListN.{getD}
+use Rattle.terms.specs.Lists.{All}
 
 abbrev pub ascii : String → List ℕ
 ascii nothing = []
@@ -45,4 +46,6 @@ abbrev pub value : List ℕ → ℕ
 value l = valueFrom 0 l
 
 abbrev pub DecimalIsExact : Type 0
-DecimalIsExact = (n : ℕ) → (value (decimal n) ≡ n) × (10 ≤ n → code "0" + 1 ≤ getD (decimal n) 0 0)
+DecimalIsExact =
+    (n : ℕ) → (value (decimal n) ≡ n) × All (λ c. (code "0" ≤ c) × (c ≤ code "9")) (decimal n) ×
+    (1 ≤ n → code "1" ≤ getD (decimal n) 0 0)
