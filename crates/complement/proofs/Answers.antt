@@ -1,7 +1,6 @@
 -- Answers: different answers have different numbers or values. Each answer can be read off its reply.
 use mathlib.Core.Path.{_≡_, refl, sym, ap, _∙_}
 use mathlib.Core.Bool.{cond}
-use Prim.Native.Nat.{ℕ}
 use lib.Dec.{eqb, ltb}
 use lib.ListN.{getD}
 use Rattle.wire.specs.Reply.{Reply, accepted, refused}

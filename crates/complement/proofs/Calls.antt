@@ -1,29 +1,26 @@
 -- Calls: the whole call from its parts.
 use mathlib.Core.Path.{_≡_, refl, sym, ap, ap₂, _∙_, subst}
-use mathlib.Core.List.{List, [], _∷_}
-use mathlib.Core.Option.{Option, some, none}
-use Prim.Native.Nat.{ℕ, _<_, _≤_}
+use mathlib.Core.List.{List, []}
+use Prim.Native.Nat.{ℕ, _-_, _<_}
 use native.Mathlib.Omega.{arith}
-use lib.ListN.{length, getD}
+use lib.ListN.{length, getD, replicate, length-map, List·getD-append, List·getD-map}
 use Rattle.terms.proofs.All.{at-all}
 use Rattle.wire.specs.Reply.{Reply, accepted, refused, Reading, accept, refuse, replyOf, IsBytes}
-use Rattle.wire.specs.Vocabulary.{Vocabulary}
-use Rattle.wire.specs.Written.{encodeTerm}
+use Rattle.wire.specs.Vocabulary.{Word, Vocabulary, word, noWord}
 use Rattle.wire.specs.Reading.{readVocabulary, Kinded}
-use Rattle.wire.specs.Checks.{checkedTerm, termValues, termReplyUnder, termReply, vocabularyReply}
+use Rattle.wire.specs.Checks.{checkedTerm, termValues, termReplyUnder, termReply}
 use Rattle.wire.specs.Listed.{Listed, placed, repeatedIn, linearOf, linearIn, kinded, entriesBytes, entriesOf, listedInto, listedPattern, listedVocabulary, listed, ListPromise}
 use Rattle.wire.proofs.Inputs.{checked-in}
 use Rattle.wire.proofs.Listed.{list-keeps}
 use Rattle.wire.proofs.VocabulariesInverse.{vocabularies-inverse}
-use Rattle.signature.specs.Answers.{vocabularyRefused, vocabularyNumbers}
-use Rattle.signature.specs.Tables.{Tables, vocabularyIn}
+use Rattle.signature.specs.Answers.{vocabularyRefused}
+use Rattle.signature.specs.Tables.{acceptedIn, vocabularyIn, resultsIn, padded}
 use Rattle.signature.specs.declared.VocabularyRefusal.{VocabularyRefusal}
 use Rattle.signature.specs.declared.VocabularyRefusal.the-variants.{Head, WordCount, Ends, NoSuchKind, Continues, EmptyKind}
 use Rattle.reader.specs.Answers.{termRefused}
 use Rattle.reader.specs.declared.TermRefusal.{TermRefusal}
 use Rattle.reader.specs.declared.TermRefusal.the-variants as T
-use Rattle.reader.proofs.Calls.{reply-refused}
-use Rattle.complement.specs.Listing.{Tabled, placedIn, repeatOf}
+use Rattle.complement.specs.Listing.{placedIn, repeatOf}
 use Rattle.complement.specs.Calls.{Patterned, Shows}
 use Rattle.complement.specs.declared.Repeat.{Repeat}
 use Rattle.complement.specs.declared.Repeat.the-variants.{At, Nothing}
@@ -109,9 +106,6 @@ module _ (v p before : List ℕ) (vocabularyBytes : (i : ℕ) → getD v i 0 < 2
       subst (λ r. ListPromise v p before after r) (sym (s .reply))
       (subst (λ a. ListPromise v p before a (listed v p before .reply)) (sym (s .out)) (list-keeps v p before bv bp))
 
-  pub list-no-vocabulary : (why : VocabularyRefusal) → vocabularyRefused why ≡ vocabularyReply v → ListPromise v p before before (vocabularyRefused why)
-  list-no-vocabulary why e = promised (refused-listed v p before (vocabularyRefused why) (vocabulary-refuses why) (reply-refused v p why e))
-
   pub list-vocabulary : (why : VocabularyRefusal) → vocabularyRefused why ≡ termReply v p → ListPromise v p before before (vocabularyRefused why)
   list-vocabulary why e = promised (refused-listed v p before (vocabularyRefused why) (vocabulary-refuses why) e)
 
@@ -119,31 +113,50 @@ module _ (v p before : List ℕ) (vocabularyBytes : (i : ℕ) → getD v i 0 < 2
   list-term why e = promised (refused-listed v p before (termRefused 1 why) (term-refuses why) e)
 
   -- Both are accepted.
-  module _ {words : ℕ} {offsets results maps : List ℕ} (t : Tables v words offsets results maps) (l : List ℕ) (e : accepted l ≡ termReply v p) where
+  module _ {words : ℕ} {results : List ℕ} (counted : words ≡ length (vocabularyIn v .words)) (table : results ≡ padded (resultsIn v))
+      (l : List ℕ) (e : accepted l ≡ termReply v p) where
     abbrev W : Vocabulary
     W = vocabularyIn v
 
     abbrev Found : Reading Kinded → Type 0
     Found r = (x : Kinded) × (r ≡ accept x)
 
+    -- A reply that refuses is none that accepts.
+    never : (n i q : ℕ) → accepted l ≡ refused n i q → ⊥
+    never n i q e = subst Refuses (sym e) tt
+
+    read : readVocabulary v ≡ accept W
+    read = go (readVocabulary v) e
+      where
+        go : (r : Reading Vocabulary) → accepted l ≡ termReplyUnder p r → r ≡ accept (acceptedIn r)
+        go (accept W) e = refl
+        go (refuse n q) e = absurd (never n 0 q e)
+
     found : Found (checkedTerm W p)
-    found = go (checkedTerm W p) (e ∙ ap (termReplyUnder p) (t .accepted))
+    found = go (checkedTerm W p) (e ∙ ap (termReplyUnder p) read)
       where
         go : (r : Reading Kinded) → accepted l ≡ replyOf 1 termValues r → Found r
         go (accept x) e = (x, refl)
-        go (refuse n q) e = absurd (subst Refuses (sym e) tt)
+        go (refuse n q) e = absurd (never n 1 q e)
+
+    result-is : (f : ℕ) → f < words → getD results f 0 ≡ word W f .result
+    result-is f h =
+        let long : length (resultsIn v) ≡ length (W .words) = length-map (W .words) (λ (w : Word). w .result) in
+        ap (λ r. getD r f 0) table
+        ∙ List·getD-append (resultsIn v) (replicate (96 - length (resultsIn v)) 0) 0 f (omega arith)
+        ∙ List·getD-map (λ (w : Word). w .result) (W .words) f noWord
 
     pub patterned : Patterned p words results
     patterned =
-        let read = vocabularies-inverse v W bv .0 (t .accepted) in
+        let inOrder = vocabularies-inverse v W bv .0 read .0 .inOrder in
         let x : Kinded = found .0 in
-        let h = checked-in W p x (read .0 .inOrder) bp (found .1) in
+        let h = checked-in W p x inOrder bp (found .1) in
         record {
           vocabulary = W;
           kind = x .kind;
           term = x .term;
-          inOrder = read .0 .inOrder;
-          tabled = record { words = t .words; result = t .result };
+          inOrder = inOrder;
+          tabled = record { words = counted; result = result-is };
           good = h .good;
           written = h .written;
           limits = h .limits;
@@ -157,4 +170,4 @@ module _ (v p before : List ℕ) (vocabularyBytes : (i : ℕ) → getD v i 0 < 2
     list-pattern {r} {after} s =
         promised
         (subst (λ l. Shows l r after)
-        (sym (ap (listedVocabulary p before) (t .accepted) ∙ ap (λ x. listedPattern W before (linearIn W x)) (found .1))) s)
+        (sym (ap (listedVocabulary p before) read ∙ ap (λ x. listedPattern W before (linearIn W x)) (found .1))) s)

@@ -10,6 +10,7 @@ pub mod Siblings
 pub mod Places
 pub mod Terms
 -- The passes over the pattern's bytes that come first, and the whole call.
+pub mod Tallying
 pub mod Measuring
 pub mod Repeating
 pub mod Linear

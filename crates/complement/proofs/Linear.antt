@@ -1,23 +1,23 @@
 -- Linear: the listing of an accepted pattern is measured, refused where there is no room, and else written.
-use mathlib.Core.Path.{_≡_, refl, sym, ap, ap₂, _∙_, subst}
-use mathlib.Core.Bool.{Bool, true, false, cond}
-use mathlib.Core.List.{List, [], _∷_, _++_, append-assoc}
-use Prim.Native.Nat.{ℕ, zero, suc, _+_, _<_, _≤_}
+use mathlib.Core.Path.{_≡_, refl, sym, ap, ap₂, _∙_}
+use mathlib.Core.Bool.{Bool, true, false}
+use mathlib.Core.List.{List, [], _∷_, _++_}
+use Prim.Native.Nat.{ℕ, _+_, _<_, _≤_}
 use native.Mathlib.Nat.{le-max-right}
 use native.Mathlib.Omega.{arith}
 use lib.Dec.{leb}
-use lib.ListN.{length, take, drop, take-append-drop}
+use lib.ListN.{length, drop, take-append-drop}
 use borrow.Author.Tests.{le-leb, lt-leb}
 use Rattle.terms.specs.Term.{Term, any, var, app}
 use Rattle.wire.specs.Reply.{accepted, refused}
 use Rattle.wire.specs.Map.{isOpen}
 use Rattle.wire.specs.Vocabulary.{Vocabulary}
-use Rattle.wire.specs.Written.{encodeAt, encodeRoot, encodeTerm, levels}
+use Rattle.wire.specs.Written.{encodeAt, encodeRoot, levels}
 use Rattle.wire.specs.Listed.{Listed, entriesBytes, entriesOf, listedInto}
 use Rattle.wire.proofs.Cond.{cond-true, cond-false}
-use Rattle.wire.proofs.EntryBytes.{spots, spotsBytes, entries-bytes}
+use Rattle.wire.proofs.EntryBytes.{entries-bytes}
 use Rattle.wire.proofs.EntrySizes.{countAt, sizeAt, summedIn, pattern-count, pattern-length}
-use Rattle.complement.specs.Listing.{Measures, CopyOf, Written, TermAt, TermListed}
+use Rattle.complement.specs.Listing.{Measures, CopyOf, TermAt, TermListed}
 use Rattle.complement.specs.Calls.{Patterned, Shows}
 
 -- ---- what listedInto shows

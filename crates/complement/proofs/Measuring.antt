@@ -1,35 +1,21 @@
 -- Measuring: one pass over the pattern's bytes gives the number of entries and of bytes.
 use mathlib.Core.Path.{_≡_, refl, sym, ap, ap₂, _∙_, subst}
-use mathlib.Core.Bool.{Bool, true, false, cond}
-use mathlib.Core.List.{List, [], _∷_, _++_}
-use Prim.Native.Nat.{ℕ, zero, suc, _+_, _-_, _*_, _<_, _≤_}
+use mathlib.Core.List.{List, [], _∷_}
+use Prim.Native.Nat.{ℕ, zero, suc, _+_, _*_, _<_, _≤_}
 use native.Mathlib.Nat.{mul-le-mul}
 use native.Mathlib.Numerals.{add-one}
 use native.Mathlib.Omega.{arith}
-use lib.ListN.{length, getD, drop, length-drop}
-use lib.Seq.{drop-cons, drop-drop, drop-length}
+use lib.ListN.{length, getD, drop}
+use lib.Seq.{drop-cons, drop-drop}
 use borrow.Author.Tests.{lt-ltb, le-ltb}
-use Rattle.terms.specs.Lists.{range, keep}
-use Rattle.terms.specs.Listing.{others}
-use Rattle.terms.proofs.Count.{length-range}
 use Rattle.wire.specs.Map.{mapBytes}
-use Rattle.wire.specs.Vocabulary.{Vocabulary, signature}
+use Rattle.wire.specs.Vocabulary.{Vocabulary}
 use Rattle.wire.specs.Reading.{isWord}
 use Rattle.wire.proofs.Cond.{cond-true, cond-false}
 use Rattle.wire.proofs.EntrySizes.{countAt, sizeAt, summedIn}
-use Rattle.complement.specs.Listing.{Tabled, isOther, othersIn, Measures}
+use Rattle.complement.specs.Listing.{Tabled, othersIn, Measures}
 use Rattle.complement.proofs.Others.{others-tabled}
-
-keep-few : (t : ℕ → Bool) (l : List ℕ) → length (keep t l) ≤ length l
-keep-few t [] = omega arith
-keep-few t (x ∷ l) = go (t x) (keep-few t l)
-  where
-    go : (b : Bool) → length (keep t l) ≤ length l → length {A = ℕ} (cond b (x ∷ keep t l) (keep t l)) ≤ suc (length l)
-    go true h = omega arith
-    go false h = omega arith
-
-others-few : (n : ℕ) (results : List ℕ) (f : ℕ) → length (othersIn n results f) ≤ n
-others-few n results f = omega (arith, keep-few (isOther results f) (range 0 n), length-range 0 n)
+use Rattle.complement.proofs.Tallying.{others-few}
 
 -- ---- the steps of the pass
 
@@ -44,23 +30,25 @@ module _ (W : Vocabulary) (g : ℕ → ℕ → ℕ) where
   skip-one [] at = refl
   skip-one (b ∷ l) at = refl
 
-  pass-word : (p : List ℕ) (at : ℕ) → at < length p → getD p at 0 < length (W .words) →
-      summedIn W g 0 (drop at p) at ≡ g (getD p at 0) at + summedIn W g 0 (drop (at + 2) p) (at + 2)
-  pass-word p at h k =
-      ap (λ l. summedIn W g 0 l at) (drop-cons p at 0 h)
-      ∙ cond-true (isWord W (getD p at 0)) _ _ (lt-ltb (getD p at 0) (length (W .words)) k)
-      ∙ ap (λ n. g (getD p at 0) at + n)
-      (skip-one (drop (suc at) p) (at + 1)
-      ∙ ap₂ (λ l q. summedIn W g 0 l q)
-      (drop-drop 1 (suc at) p ∙ ap (λ i. drop i p) (let e : suc at + 1 ≡ at + 2 = omega arith in e))
-      (let e : at + 1 + 1 ≡ at + 2 = omega arith in e))
+  module _ (p : List ℕ) (at : ℕ) (inside : at < length p) (f : ℕ) (here : f ≡ getD p at 0) where
+    begun : summedIn W g 0 (drop at p) at ≡ summedIn W g 0 (f ∷ drop (suc at) p) at
+    begun = ap (λ l. summedIn W g 0 l at) (drop-cons p at 0 inside ∙ ap (λ b. b ∷ drop (suc at) p) (sym here))
 
-  pass-other : (p : List ℕ) (at : ℕ) → at < length p → length (W .words) ≤ getD p at 0 →
-      summedIn W g 0 (drop at p) at ≡ summedIn W g 0 (drop (at + 1) p) (at + 1)
-  pass-other p at h k =
-      ap (λ l. summedIn W g 0 l at) (drop-cons p at 0 h)
-      ∙ cond-false (isWord W (getD p at 0)) _ _ (le-ltb (getD p at 0) (length (W .words)) k)
-      ∙ ap (λ i. summedIn W g 0 (drop i p) (at + 1)) (sym (add-one at))
+    pass-word : f < length (W .words) → summedIn W g 0 (drop at p) at ≡ g f at + summedIn W g 0 (drop (at + 2) p) (at + 2)
+    pass-word k =
+        begun
+        ∙ cond-true (isWord W f) _ _ (lt-ltb f (length (W .words)) k)
+        ∙ ap (λ n. g f at + n)
+        (skip-one (drop (suc at) p) (at + 1)
+        ∙ ap₂ (λ l q. summedIn W g 0 l q)
+        (drop-drop 1 (suc at) p ∙ ap (λ i. drop i p) (let e : suc at + 1 ≡ at + 2 = omega arith in e))
+        (let e : at + 1 + 1 ≡ at + 2 = omega arith in e))
+
+    pass-other : length (W .words) ≤ f → summedIn W g 0 (drop at p) at ≡ summedIn W g 0 (drop (at + 1) p) (at + 1)
+    pass-other k =
+        begun
+        ∙ cond-false (isWord W f) _ _ (le-ltb f (length (W .words)) k)
+        ∙ ap (λ i. summedIn W g 0 (drop i p) (at + 1)) (sym (add-one at))
 
 -- ---- the loop
 
@@ -86,37 +74,36 @@ module _ {p : List ℕ} {words : ℕ} {results : List ℕ} (few : words ≤ 96) 
   }
 
   module _ {entries bytes at : ℕ} (s : Summed p words results entries bytes at) (inside : at < length p) where
-    -- The next counts fit.
-    pub summed-room : (n : ℕ) → n ≡ length (othersIn words results (getD p at 0)) →
-        (n ≤ 96) × (n * (at + 2) ≤ 393408) × (entries + n ≤ 96 * (at + 2)) × (bytes + n * (at + 2) ≤ 393408 * (at + 2))
-    summed-room n e =
-        let small : n ≤ 96 = omega (arith, others-few words results (getD p at 0)) in
-        let product : n * (at + 2) ≤ 393408 = product-small n at small (omega arith) in
-        let a = s .few in
-        let b = s .small in
-        (small, product, omega arith, omega arith)
+    -- A word f with n siblings.
+    module _ {f n : ℕ} (here : f ≡ getD p at 0) (counted : n ≡ length (othersIn words results f)) where
+      -- The next counts fit.
+      pub summed-room : (n * (at + 2) ≤ 393408) × (entries + n ≤ 96 * (at + 2)) × (bytes + n * (at + 2) ≤ 393408 * (at + 2))
+      summed-room =
+          let product : n * (at + 2) ≤ 393408 = product-small n at (omega (arith, others-few words results f)) (omega arith) in
+          let a = s .few in
+          let b = s .small in
+          (product, omega (arith, others-few words results f), omega arith)
 
-    pub summed-word : (n : ℕ) → getD p at 0 < words → n ≡ length (othersIn words results (getD p at 0)) →
-        Summed p words results (entries + n) (bytes + n * (at + 2)) (at + 2)
-    summed-word n k e =
-        let r = summed-room n e in
-        record {
-          low = omega arith;
-          few = r .2;
-          small = r .3;
-          counts = λ W t.
-              let here : countAt W (getD p at 0) at ≡ n = ap length (others-tabled W words results t (getD p at 0) k) ∙ sym e in
-              let step = pass-word W (countAt W) p at inside (subst (λ m. getD p at 0 < m) (t .words) k) in
-              omega (arith, s .counts W t);
-          sizes = λ W t.
-              let here : sizeAt W (getD p at 0) at ≡ n * (at + 2) =
-              ap₂ _*_ (ap length (others-tabled W words results t (getD p at 0) k) ∙ sym e) (let z : at + 1 + mapBytes ≡ at + 2 = omega arith in z) in
-              let step = pass-word W (sizeAt W) p at inside (subst (λ m. getD p at 0 < m) (t .words) k) in
-              omega (arith, s .sizes W t);
-        }
+      pub summed-word : f < words → Summed p words results (entries + n) (bytes + n * (at + 2)) (at + 2)
+      summed-word k =
+          let r = summed-room in
+          record {
+            low = omega arith;
+            few = r .1;
+            small = r .2;
+            counts = λ W t.
+                let own : countAt W f at ≡ n = ap length (others-tabled W words results t f k) ∙ sym counted in
+                let step = pass-word W (countAt W) p at inside f here (subst (λ m. f < m) (t .words) k) in
+                omega (arith, s .counts W t);
+            sizes = λ W t.
+                let own : sizeAt W f at ≡ n * (at + 2) =
+                ap₂ _*_ (ap length (others-tabled W words results t f k) ∙ sym counted) (let z : at + 1 + mapBytes ≡ at + 2 = omega arith in z) in
+                let step = pass-word W (sizeAt W) p at inside f here (subst (λ m. f < m) (t .words) k) in
+                omega (arith, s .sizes W t);
+          }
 
-    pub summed-other : words ≤ getD p at 0 → Summed p words results entries bytes (at + 1)
-    summed-other k =
+    pub summed-other : {f : ℕ} → f ≡ getD p at 0 → words ≤ f → Summed p words results entries bytes (at + 1)
+    summed-other {f} here k =
         let a = s .few in
         let b = s .small in
         record {
@@ -124,9 +111,9 @@ module _ {p : List ℕ} {words : ℕ} {results : List ℕ} (few : words ≤ 96) 
           few = omega arith;
           small = omega arith;
           counts = λ W t.
-              s .counts W t ∙ ap (λ n. entries + n) (pass-other W (countAt W) p at inside (subst (λ m. m ≤ getD p at 0) (t .words) k));
+              s .counts W t ∙ ap (λ n. entries + n) (pass-other W (countAt W) p at inside f here (subst (λ m. m ≤ f) (t .words) k));
           sizes = λ W t.
-              s .sizes W t ∙ ap (λ n. bytes + n) (pass-other W (sizeAt W) p at inside (subst (λ m. m ≤ getD p at 0) (t .words) k));
+              s .sizes W t ∙ ap (λ n. bytes + n) (pass-other W (sizeAt W) p at inside f here (subst (λ m. m ≤ f) (t .words) k));
         }
 
   pub summed-all : {entries bytes at : ℕ} → Summed p words results entries bytes at → length p ≤ at → Measures p words results entries bytes

@@ -1,18 +1,17 @@
 -- Others: the other words of a result kind, found one by one in the table.
-use mathlib.Core.Path.{_≡_, refl, sym, ap, ap₂, _∙_, subst}
+use mathlib.Core.Path.{_≡_, refl, sym, ap, ap₂, _∙_}
 use mathlib.Core.Bool.{Bool, true, false, not, _&&_, cond}
-use mathlib.Core.List.{List, [], _∷_, _++_, append-nil, append-assoc}
-use Prim.Native.Nat.{ℕ, zero, suc, _+_, _-_, _*_, _<_, _≤_}
-use native.Mathlib.Numerals.{add-one}
+use mathlib.Core.List.{List, [], _∷_, _++_, append-nil}
+use Prim.Native.Nat.{ℕ, zero, suc, _+_, _-_, _<_, _≤_}
 use native.Mathlib.Omega.{arith}
 use lib.Dec.{eqb}
 use borrow.Author.Tests.{eq-eqb, ne-eqb}
-use lib.ListN.{length, getD, take, drop, length-append, length-drop}
+use lib.ListN.{length, getD, length-append}
 use Rattle.terms.specs.Lists.{All, range, keep}
 use Rattle.terms.specs.Listing.{others}
 use Rattle.terms.specs.Signature.{result}
 use Rattle.terms.proofs.All.{all-range}
-use Rattle.wire.specs.Vocabulary.{Vocabulary, signature, word}
+use Rattle.wire.specs.Vocabulary.{Vocabulary, signature}
 use Rattle.wire.proofs.Cond.{cond-true, cond-false}
 use Rattle.wire.proofs.Words.{length-symbols, result-word}
 use Rattle.complement.specs.Listing.{Tabled, isOther, othersIn}
@@ -33,6 +32,9 @@ range-append from (suc n) m =
     ∙ ap (λ l. from ∷ l)
     (range-append (suc from) n m ∙ ap (λ k. range (suc from) n ++ range k m) (let e : suc from + n ≡ from + suc n = omega arith in e))
 
+pub range-next : (h : ℕ) → range 0 (h + 1) ≡ range 0 h ++ (h ∷ [])
+range-next h = range-append 0 h 1 ∙ ap (λ k. range 0 h ++ (k ∷ [])) (let e : 0 + h ≡ h = omega arith in e)
+
 keep-where : (t u : ℕ → Bool) (l : List ℕ) → All (λ x. t x ≡ u x) l → keep t l ≡ keep u l
 keep-where t u [] h = refl
 keep-where t u (x ∷ l) h = ap₂ (λ b z. cond b (x ∷ z) z) (h .0) (keep-where t u l (h .1))
@@ -41,16 +43,14 @@ module _ (results : List ℕ) (f : ℕ) where
   -- The word h is passed.
   pub others-taken : (h : ℕ) → isOther results f h ≡ true → othersIn (h + 1) results f ≡ othersIn h results f ++ (h ∷ [])
   others-taken h e =
-      ap (keep (isOther results f)) (range-append 0 h 1)
-      ∙ keep-append (isOther results f) (range 0 h) (range (0 + h) 1)
-      ∙ ap (λ k. othersIn h results f ++ keep (isOther results f) (k ∷ [])) (let z : 0 + h ≡ h = omega arith in z)
+      ap (keep (isOther results f)) (range-next h)
+      ∙ keep-append (isOther results f) (range 0 h) (h ∷ [])
       ∙ ap (λ l. othersIn h results f ++ l) (cond-true (isOther results f h) (h ∷ []) [] e)
 
   pub others-left : (h : ℕ) → isOther results f h ≡ false → othersIn (h + 1) results f ≡ othersIn h results f
   others-left h e =
-      ap (keep (isOther results f)) (range-append 0 h 1)
-      ∙ keep-append (isOther results f) (range 0 h) (range (0 + h) 1)
-      ∙ ap (λ k. othersIn h results f ++ keep (isOther results f) (k ∷ [])) (let z : 0 + h ≡ h = omega arith in z)
+      ap (keep (isOther results f)) (range-next h)
+      ∙ keep-append (isOther results f) (range 0 h) (h ∷ [])
       ∙ ap (λ l. othersIn h results f ++ l) (cond-false (isOther results f h) (h ∷ []) [] e)
       ∙ append-nil (othersIn h results f)
 
@@ -60,30 +60,6 @@ module _ (results : List ℕ) (f : ℕ) where
 
   pub other-of-kind : (h : ℕ) → (h ≡ f → ⊥) → eqb (getD results h 0) (getD results f 0) ≡ isOther results f h
   other-of-kind h e = sym (ap (λ b. not b && eqb (getD results h 0) (getD results f 0)) (ne-eqb h f e))
-
-  -- The others below h are counted.
-  pub record Counted (n h : ℕ) : Type 0 where
-    pub count : n ≡ length (othersIn h results f)
-    pub small : n ≤ h
-
-  pub counted-none : Counted 0 0
-  counted-none = record { count = refl; small = omega arith }
-
-  pub counted-taken : {n h : ℕ} → Counted n h → isOther results f h ≡ true → Counted (n + 1) (h + 1)
-  counted-taken {n} {h} c e =
-      let s = c .small in
-      record {
-        count = omega (arith, c .count, ap length (others-taken h e), length-append (othersIn h results f) (h ∷ []));
-        small = omega arith;
-      }
-
-  pub counted-left : {n h : ℕ} → Counted n h → isOther results f h ≡ false → Counted n (h + 1)
-  counted-left {n} {h} c e =
-      let s = c .small in
-      record { count = omega (arith, c .count, ap length (others-left h e)); small = omega arith }
-
-  pub counted-all : {n h : ℕ} → Counted n h → (words : ℕ) → h ≡ words → n ≡ length (othersIn words results f)
-  counted-all c words e = c .count ∙ ap (λ k. length (othersIn k results f)) e
 
   -- There are as many others among more words or more.
   pub others-grow : (h n : ℕ) → h ≤ n → length (othersIn h results f) ≤ length (othersIn n results f)

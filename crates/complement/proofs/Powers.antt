@@ -1,6 +1,6 @@
 -- Powers: the lower bits of a map, as a remainder by a power of two that is shifted into place.
-use mathlib.Core.Path.{_≡_, refl, sym, ap, ap₂, _∙_, subst}
-use Prim.Native.Nat.{ℕ, zero, suc, _+_, _*_, _/_, _%_, _^_, _<_, _≤_}
+use mathlib.Core.Path.{_≡_, sym, ap₂, _∙_, subst}
+use Prim.Native.Nat.{ℕ, suc, _*_, _%_, _^_, _<_, _≤_}
 use native.Mathlib.Nat.{pow-succ', pow-le-pow-right, mod-le, mod-eq-of-lt}
 use native.Mathlib.Omega.{arith}
 use lib.Pow.{pow-pos}

@@ -2,8 +2,8 @@
 use mathlib.Core.Path.{_≡_, refl, sym, ap, ap₂, _∙_, subst}
 use mathlib.Core.Bool.{Bool, true, false, not, cond, _||_}
 use mathlib.Core.List.{List, [], _∷_, _++_, append-assoc, append-nil}
-use mathlib.Core.Option.{Option, some, none}
-use Prim.Native.Nat.{ℕ, zero, suc, _+_, _-_, _<_, _≤_}
+use mathlib.Core.Option.{some, none}
+use Prim.Native.Nat.{ℕ, suc, _+_, _-_, _<_, _≤_}
 use native.Mathlib.Numerals.{add-one}
 use native.Mathlib.Decide.{ℕ-discrete}
 use native.Mathlib.Omega.{arith}
@@ -20,7 +20,7 @@ use Rattle.wire.specs.Map.{mapBytes, writeMap}
 use Rattle.wire.specs.Vocabulary.{Vocabulary, InOrder, signature}
 use Rattle.wire.specs.Written.{nameCount, firstNameByte, nameByte, wholeByte, writtenMap, encodeAt, encodeAll, encodeTerm, GoodTerm}
 use Rattle.wire.specs.Reading.{isName}
-use Rattle.wire.specs.Listed.{Placed, placedFrom, placedAll, placed, repeatedIn}
+use Rattle.wire.specs.Listed.{placedFrom, placedAll, placed, repeatedIn}
 use Rattle.wire.proofs.Cond.{cond-true, cond-false}
 use Rattle.wire.proofs.Words.{length-symbols}
 use Rattle.complement.specs.Listing.{placedIn}

@@ -1,15 +1,15 @@
 -- Terms: what list_term does at a name and at a word.
 use mathlib.Core.Path.{_≡_, refl, sym, ap, ap₂, _∙_, subst}
-use mathlib.Core.Bool.{Bool, true, false, true≢false}
-use mathlib.Core.List.{List, [], _∷_, _++_, append-nil, append-assoc}
-use Prim.Native.Nat.{ℕ, zero, suc, _+_, _-_, _<_, _≤_, max}
+use mathlib.Core.Bool.{true, false, true≢false}
+use mathlib.Core.List.{List, [], _∷_, _++_, append-assoc}
+use Prim.Native.Nat.{ℕ, suc, _+_, _<_, _≤_, max}
 use native.Mathlib.Nat.{zero-max}
 use native.Mathlib.Omega.{arith}
-use lib.ListN.{length, getD, take, drop, length-append}
+use lib.ListN.{length, getD, take, length-append}
 use lib.Seq.{take-at, getD-at}
 use Rattle.terms.specs.Term.{Term, any, var, app, Terms, nil, cons, Sorted}
 use Rattle.terms.specs.Listing.{others}
-use Rattle.wire.specs.Map.{mapBytes, writeMap, flags, isOpen}
+use Rattle.wire.specs.Map.{writeMap, flags, isOpen}
 use Rattle.wire.specs.Vocabulary.{Vocabulary, signature}
 use Rattle.wire.specs.Written.{nameByte, writtenMap, encodeAt, encodeAll, levels, levelsAll}
 use Rattle.wire.proofs.Words.{length-symbols}
@@ -117,7 +117,7 @@ module _ {copy : List ℕ} {at words : ℕ} {results : List ℕ} {left room : �
 
 -- A word: its own entries, then those of its places.
 module _ {copy : List ℕ} {at words : ℕ} {results : List ℕ} {left : ℕ} (before : List ℕ)
-    (h : TermAt copy at words results left (length before)) (w : Word h) (g : ℕ) (same : g ≡ getD copy at 0) where
+    (h : TermAt copy at words results left (length before)) (w : Word h) {g : ℕ} (same : g ≡ getD copy at 0) where
   abbrev U : Vocabulary
   U = h .vocabulary
 

@@ -1,8 +1,11 @@
 -- Listing: what the functions that list promise each other; no public contract cites it.
 --
+--   Byte b n                   n is the byte b
 --   Tabled W n results         the first n entries of the table are the result kinds of W's words, which are n
 --   isOther results f h        the word h is another than f and has its result kind, by the table
 --   othersIn n results f       the other words of f's result kind, by the table
+--   hasKind results k h        the word h has the result kind k, by the table
+--   Tallied n results counts   counts says how many of the first n words have each result kind, by the table
 --   Measures p n results e m   the listing of the pattern p has e entries and m bytes, where the table is a vocabulary's
 --   placedIn n skip l at       the names of the bytes l at an offset with theirs, where n numbers are words' and the first
 --                              `skip` bytes are not looked at
@@ -23,6 +26,7 @@ use lib.Dec.{eqb, ltb}
 use lib.ListN.{length, getD, take, drop}
 use Rattle.terms.specs.Lists.{range, keep}
 use Rattle.terms.specs.Term.{Term, Terms, Sorted}
+use Rattle.terms.proofs.Count.{count}
 use Rattle.wire.specs.Map.{mapBits, mapBytes, writeMap, flags, isOpen}
 use Rattle.wire.specs.Vocabulary.{Vocabulary, InOrder, signature, word}
 use Rattle.wire.specs.Written.{firstNameByte, encodeAt, encodeAll, levels, levelsAll}
@@ -36,6 +40,10 @@ use Rattle.wire.proofs.EntryWalk.{Stands}
 use Rattle.complement.specs.declared.Repeat.{Repeat}
 use Rattle.complement.specs.declared.Repeat.the-variants.{At, Nothing}
 
+pub record Byte (b n : ℕ) : Type 0 where
+  pub same : n ≡ b
+  pub small : n < 256
+
 pub record Tabled (W : Vocabulary) (n : ℕ) (results : List ℕ) : Type 0 where
   pub words : n ≡ length (W .words)
   pub result : (f : ℕ) → f < n → getD results f 0 ≡ word W f .result
@@ -45,6 +53,13 @@ isOther results f h = not (eqb h f) && eqb (getD results h 0) (getD results f 0)
 
 abbrev pub othersIn : ℕ → List ℕ → ℕ → List ℕ
 othersIn n results f = keep (isOther results f) (range 0 n)
+
+abbrev pub hasKind : List ℕ → ℕ → ℕ → Bool
+hasKind results k h = eqb (getD results h 0) k
+
+pub record Tallied (n : ℕ) (results counts : List ℕ) : Type 0 where
+  pub size : length counts ≡ 256
+  pub each : (k : ℕ) → k < 256 → getD counts k 0 ≡ count (hasKind results k) (range 0 n)
 
 abbrev pub Measures : List ℕ → ℕ → List ℕ → ℕ → ℕ → Type 0
 Measures p n results entries bytes =

@@ -8,10 +8,9 @@ ghost use Rattle.wire.specs.Listed.{repeatedIn, ListPromise};
 ghost use Rattle.wire.proofs.EntryBytes.{othersBytes};
 ghost use Rattle.complement.specs.Answers.{listNumbers};
 ghost use Rattle.complement.specs.Calls.{Patterned, ListsLinear, ListsPattern};
-ghost use Rattle.complement.specs.Listing.{CopyOf, Measures, placedIn, repeatOf, isOther, othersIn, Written, TermAt, ListsTerm, PlacesAt, ListsPlaces};
+ghost use Rattle.complement.specs.Listing.{Byte, CopyOf, Tallied, Measures, placedIn, repeatOf, isOther, othersIn, Written, TermAt, ListsTerm, PlacesAt, ListsPlaces};
 use reader::TermAnswer;
 use reader::TermRefusal;
-use signature::VocabularyAnswer;
 use signature::VocabularyRefusal;
 
 // The number of entries and of bytes, or why there is no listing: document 01, lines 1 to 15, 18 and 20.
@@ -24,7 +23,7 @@ pub enum ListAnswer {
 }
 
 fn wide(b: u8) -> usize
-    ensures { λ r. ⌜ r ≡ b ⌝ }
+    ensures { λ r. ⌜ Byte b r ⌝ }
 {
     b as usize
 }
@@ -37,12 +36,12 @@ fn kept(map: u8, b: usize) -> u8
     (wide(map) % (2usize << b)) as u8
 }
 
-// Bit b of a map.
-fn bit_at(map: u8, b: usize) -> usize
-    requires { ⌜ b < 8 ⌝ }
-    ensures { λ r. ⌜ r ≡ map / 2 ^ b % 2 ⌝ }
+// The bits of a map from bit b on.
+fn bits_from(map: u8, b: usize) -> usize
+    requires { ⌜ b ≤ 8 ⌝ }
+    ensures { λ r. ⌜ r ≡ map / 2 ^ b ⌝ }
 {
-    (wide(map) >> b) % 2
+    wide(map) >> b
 }
 
 // Writes the first n bytes of the copy, a word's number and an empty map.
@@ -72,24 +71,6 @@ fn other(h: usize, f: usize, words: usize, results: &[u8; 96]) -> bool
         return false;
     }
     results[h] == results[f]
-}
-
-// How many other words have the result kind of f.
-fn count_others(f: usize, words: usize, results: &[u8; 96]) -> usize
-    requires { ⌜ words ≤ 96 ⌝ }
-    requires { ⌜ f < words ⌝ }
-    ensures { λ r. ⌜ r ≡ length (othersIn words (now (results .entry)) f) ⌝ }
-{
-    let mut n = 0;
-    let mut h = 0;
-    while h < words {
-        let g = h;
-        h += 1;
-        if other(g, f, words, results) {
-            n += 1;
-        }
-    }
-    n
 }
 
 // An entry for every other word of the result kind of f, each into the rest of the lent slice behind the one before it.
@@ -168,8 +149,8 @@ fn list_term(
     }
 }
 
-// The listing of the terms of a word's written bits from bit b on, the lowest first. At the end the word's map in
-// the copy is the pattern's again.
+// The listing of the terms of a word's written bits from bit b on, the lowest first. Where none is left the word's
+// map in the copy becomes the pattern's again.
 fn list_places(
     copy: &mut [u8; 4096],
     at: usize,
@@ -184,21 +165,22 @@ fn list_places(
     requires { ⌜ PlacesAt (now copy) at map b next words (now results) left (length (now out)) ⌝ }
     ensures { λ r. ⌜ ListsPlaces (now (copy .entry)) at map b next words (now (results .entry)) left (now (out .entry)) (now (copy .exit)) (now (out .exit)) (r .at) (r .written) ⌝ }
 {
-    if 8 <= b {
+    let bits = bits_from(map, b);
+    if bits == 0 {
         copy[at + 1] = map;
         return Progress {
             at: next,
             written: 0,
         };
     }
-    if bit_at(map, b) == 0 {
+    if bits % 2 == 0 {
         return list_places(copy, at, map, b + 1, next, words, results, left, out);
     }
     copy[at + 1] = kept(map, b);
     let here = list_term(copy, next, words, results, left - 1, out);
     let behind = here.at;
     let n = here.written;
-    let rest = list_places(
+    let above = list_places(
         copy,
         at,
         map,
@@ -209,12 +191,39 @@ fn list_places(
         left,
         &mut out[n..],
     );
-    let end = rest.at;
-    let more = rest.written;
+    let end = above.at;
+    let more = above.written;
     Progress {
         at: end,
         written: n + more,
     }
+}
+
+// How many words have each result kind.
+fn tally(words: usize, results: &[u8; 96]) -> [u8; 256]
+    requires { ⌜ words ≤ 96 ⌝ }
+    ensures { λ r. ⌜ Tallied words (now (results .entry)) r ⌝ }
+{
+    let mut counts = [0u8; 256];
+    let mut h = 0;
+    while h < words {
+        let kind = wide(results[h]);
+        let n = counts[kind];
+        counts[kind] = n + 1;
+        h += 1;
+    }
+    counts
+}
+
+// How many other words have the result kind of f: all that the tally has of this kind but f.
+fn sibling_count(f: usize, words: usize, results: &[u8; 96], counts: &[u8; 256]) -> usize
+    requires { ⌜ words ≤ 96 ⌝ }
+    requires { ⌜ f < words ⌝ }
+    requires { ⌜ Tallied words (now results) (now counts) ⌝ }
+    ensures { λ r. ⌜ r ≡ length (othersIn words (now (results .entry)) f) ⌝ }
+{
+    let kind = wide(results[f]);
+    wide(counts[kind]) - 1
 }
 
 // The number of a listing's entries and of its bytes.
@@ -230,13 +239,14 @@ fn measure(p: &[u8], words: usize, results: &[u8; 96]) -> Size
     requires { ⌜ length (now p) ≤ 4096 ⌝ }
     ensures { λ r. ⌜ Measures (now (p .entry)) words (now (results .entry)) (r .entries) (r .bytes) ⌝ }
 {
+    let counts = tally(words, results);
     let mut entries = 0;
     let mut bytes = 0;
     let mut at = 1;
     while at < p.len() {
         let f = wide(p[at]);
         if f < words {
-            let n = count_others(f, words, results);
+            let n = sibling_count(f, words, results, &counts);
             entries += n;
             bytes += n * (at + 2);
             at += 2;
@@ -330,18 +340,15 @@ fn list_pattern(pattern: &[u8], words: usize, results: &[u8; 96], out: &mut [u8]
 pub fn list(vocabulary: &[u8], pattern: &[u8], out: &mut [u8]) -> ListAnswer
     ensures { λ r. ⌜ ListPromise (now (vocabulary .entry)) (now (pattern .entry)) (now (out .entry)) (now (out .exit)) (listNumbers r) ⌝ }
 {
-    let loaded = signature::load(vocabulary);
-    let answer = loaded.answer;
+    let checked = reader::load_term(vocabulary, pattern);
+    let answer = checked.answer;
     match answer {
-        VocabularyAnswer::Refused(why) => ListAnswer::Vocabulary(why),
-        VocabularyAnswer::Accepted => match reader::check_term(vocabulary, pattern) {
-            TermAnswer::Vocabulary(why) => ListAnswer::Vocabulary(why),
-            TermAnswer::Term(why) => ListAnswer::Pattern(why),
-            TermAnswer::Accepted(_, _) => {
-                let words = loaded.words;
-                let results = loaded.results;
-                list_pattern(pattern, words, &results, out)
-            }
-        },
+        TermAnswer::Vocabulary(why) => ListAnswer::Vocabulary(why),
+        TermAnswer::Term(why) => ListAnswer::Pattern(why),
+        TermAnswer::Accepted(_, _) => {
+            let words = checked.words;
+            let results = checked.results;
+            list_pattern(pattern, words, &results, out)
+        }
     }
 }

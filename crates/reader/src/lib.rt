@@ -3,6 +3,7 @@ ghost use mathlib.Core.Path.{_≡_};
 ghost use Rattle.wire.specs.Checks.{termReply};
 ghost use Rattle.wire.specs.Matching.{judged, clearReply};
 ghost use Rattle.reader.specs.Answers.{termNumbers, inputsNumbers};
+ghost use Rattle.reader.specs.Checked.{CheckedFrom};
 use signature::VocabularyAnswer;
 use signature::VocabularyRefusal;
 
@@ -27,6 +28,13 @@ pub enum TermAnswer {
     Accepted(usize, usize),
     Vocabulary(VocabularyRefusal),
     Term(TermRefusal),
+}
+
+// The answer of check_term, with the number of the vocabulary's words and their result kinds.
+pub struct CheckedTerm {
+    pub answer: TermAnswer,
+    pub words: usize,
+    pub results: [u8; 96],
 }
 
 // Why the inputs of match are refused: document 01, lines 1 to 17.
@@ -57,6 +65,34 @@ pub fn check_term(vocabulary: &[u8], term: &[u8]) -> TermAnswer
             let results = loaded.results;
             let maps = loaded.maps;
             term::read(vocabulary, term, words, &offsets, &results, &maps)
+        }
+    }
+}
+
+// Checks a term under a vocabulary, and hands on the words' result kinds, which are loaded for it. Where the
+// vocabulary is refused there are no words.
+pub fn load_term(vocabulary: &[u8], term: &[u8]) -> CheckedTerm
+    ensures { λ r. ⌜ CheckedFrom (now (vocabulary .entry)) (now (term .entry)) r ⌝ }
+{
+    let loaded = signature::load(vocabulary);
+    let answer = loaded.answer;
+    let count = loaded.words;
+    let kinds = loaded.results;
+    match answer {
+        VocabularyAnswer::Refused(why) => CheckedTerm {
+            answer: TermAnswer::Vocabulary(why),
+            words: count,
+            results: kinds,
+        },
+        VocabularyAnswer::Accepted => {
+            let offsets = loaded.offsets;
+            let maps = loaded.maps;
+            let found = term::read(vocabulary, term, count, &offsets, &kinds, &maps);
+            CheckedTerm {
+                answer: found,
+                words: count,
+                results: kinds,
+            }
         }
     }
 }

@@ -33,7 +33,7 @@ loop-again c =
     let at-loop-test = at-wide .before .before in
     let at-loop = at-loop-test .before in
     let start = at-loop .before .before in
-    searched-word (start .pre) (at-loop .loop .inv) (at-loop-test .loop-test .taken) _ (at-wide .wide .ensures) (c .if1 .taken)
+    searched-word (start .pre) (at-loop .loop .inv) (at-loop-test .loop-test .taken) _ (at-wide .wide .ensures .same) (c .if1 .taken)
 
 add-at-2 : tie.Need-add-at-2 Inv-loop μ-loop
 add-at-2 c = search needs
@@ -50,7 +50,7 @@ returns c =
     let at-loop-test = at-wide .before .before in
     let at-loop = at-loop-test .before in
     let start = at-loop .before .before in
-    searched-found (start .pre) (at-loop .loop .inv) (at-loop-test .loop-test .taken) _ (at-wide .wide .ensures) (at-if1 .if1 .left) (at-if2 .if2 .taken) (at-if3 .if3 .taken) (c .if4 .taken)
+    searched-found (start .pre) (at-loop .loop .inv) (at-loop-test .loop-test .taken) _ (at-wide .wide .ensures .same) (at-if1 .if1 .left) (at-if2 .if2 .taken) (at-if3 .if3 .taken) (c .if4 .taken)
 
 array-write-seen : tie.Need-array-write-seen Inv-loop μ-loop
 array-write-seen c = search needs
@@ -67,7 +67,7 @@ loop-again-2 c =
     let at-loop-test = at-wide .before .before in
     let at-loop = at-loop-test .before in
     let start = at-loop .before .before in
-    searched-name (start .pre) (at-loop .loop .inv) (at-loop-test .loop-test .taken) _ (at-wide .wide .ensures) (at-if1 .if1 .left) (at-if2 .if2 .taken) (at-if3 .if3 .taken) (c .if4 .left)
+    searched-name (start .pre) (at-loop .loop .inv) (at-loop-test .loop-test .taken) _ (at-wide .wide .ensures .same) (at-if1 .if1 .left) (at-if2 .if2 .taken) (at-if3 .if3 .taken) (c .if4 .left)
 
 loop-less-3 : tie.Need-loop-less-3 Inv-loop μ-loop
 loop-less-3 c = search needs
@@ -79,7 +79,7 @@ loop-again-3 c =
     let at-loop-test = at-wide .before .before in
     let at-loop = at-loop-test .before in
     let start = at-loop .before .before in
-    searched-high (start .pre) (at-loop .loop .inv) (at-loop-test .loop-test .taken) _ (at-wide .wide .ensures) (at-if1 .if1 .left) (c .if3 .left)
+    searched-high (start .pre) (at-loop .loop .inv) (at-loop-test .loop-test .taken) _ (at-wide .wide .ensures .same) (at-if1 .if1 .left) (c .if3 .left)
 
 loop-less-4 : tie.Need-loop-less-4 Inv-loop μ-loop
 loop-less-4 c = search needs
@@ -91,7 +91,7 @@ loop-again-4 c =
     let at-loop-test = at-wide .before .before in
     let at-loop = at-loop-test .before in
     let start = at-loop .before .before in
-    searched-low (start .pre) (at-loop .loop .inv) (at-loop-test .loop-test .taken) _ (at-wide .wide .ensures) (at-if1 .if1 .left) (c .if2 .left)
+    searched-low (start .pre) (at-loop .loop .inv) (at-loop-test .loop-test .taken) _ (at-wide .wide .ensures .same) (at-if1 .if1 .left) (c .if2 .left)
 
 returns-2 : tie.Need-returns-2 Inv-loop μ-loop
 returns-2 c = searched-all (c .before .before .before .pre) (c .before .loop .inv) (c .loop-test .left)

@@ -15,10 +15,10 @@ rem-result : tie.Need-rem-result
 rem-result c = power-positive (c .before .args .b) (c .before .pre)
 
 cast-result : tie.Need-cast-result
-cast-result c = record { fits = kept-byte (c .wide .result) (c .before .args .map) (c .before .args .b) (c .wide .ensures) (omega arith) }
+cast-result c = record { fits = kept-byte (c .wide .result) (c .before .args .map) (c .before .args .b) (c .wide .ensures .same) (omega arith) }
 
 returns : tie.Need-returns
-returns c = kept-is (c .wide .result) (c .before .args .map) (c .before .args .b) (c .wide .ensures) (c .before .pre)
+returns c = kept-is (c .wide .result) (c .before .args .map) (c .before .args .b) (c .wide .ensures .same) (c .before .pre)
 
 pub kept-spec : {M : Type 1} → statement M
 kept-spec = tie.close (tie.spec wide-requires shl-result rem-result cast-result returns)

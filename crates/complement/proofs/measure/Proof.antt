@@ -1,23 +1,25 @@
 -- `complement::measure` meets its contract. The loop's invariant: what is summed, and what is left to sum. The measure is the number of bytes left.
 use borrow.Author.Needs.{needs}
-use mathlib.Core.Path.{ap, _∙_, subst}
-use Prim.Native.Nat.{_-_, _≤_, _<_}
+use Prim.Native.Nat.{_-_}
 use native.Mathlib.Omega.{arith}
-use denote.Ref.{now}
 use lib.ListN.{length}
-use Rattle.complement.specs.Listing.{othersIn}
 use Rattle.complement.proofs.Measuring.{Summed, summed-none, summed-room, summed-word, summed-other, summed-all}
 use Rattle.complement.proofs.measure.Statement.{statement}
 use Rattle.complement.proofs.measure.Tie as tie
 
 abbrev Inv-loop : tie.InvT-loop
-Inv-loop p words results entries₀ bytes₀ at₀ entries bytes at = Summed p words results entries bytes at
+Inv-loop p words results counts entries₀ bytes₀ at₀ entries bytes at = Summed p words results entries bytes at
 
 abbrev μ-loop : tie.MeasureT-loop
-μ-loop p words results entries₀ bytes₀ at₀ entries bytes at = length p - at
+μ-loop p words results counts entries₀ bytes₀ at₀ entries bytes at = length p - at
+
+tally-requires : tie.Need-tally-requires Inv-loop μ-loop
+tally-requires c κs = search needs
 
 loop-holds : tie.Need-loop-holds Inv-loop μ-loop
-loop-holds c = summed-none (c .before .pre .0) (c .before .pre .1)
+loop-holds c =
+    let start = c .before .before in
+    summed-none (start .pre .0) (start .pre .1)
 
 shared-slice-read-wide : tie.Need-shared-slice-read-wide Inv-loop μ-loop
 shared-slice-read-wide c = search needs
@@ -25,38 +27,39 @@ shared-slice-read-wide c = search needs
 wide-requires : tie.Need-wide-requires Inv-loop μ-loop
 wide-requires c κs = search needs
 
-count-others-requires : tie.Need-count-others-requires Inv-loop μ-loop
-count-others-requires c κs = search needs
+sibling-count-requires : tie.Need-sibling-count-requires Inv-loop μ-loop
+sibling-count-requires c κs =
+    let at-if1 = c .before in
+    let at-tally = at-if1 .before .before .before .before .before in
+    let start = at-tally .before .before in
+    (start .pre .0, (at-if1 .if1 .taken, at-tally .tally .ensures))
 
 add-entries : tie.Need-add-entries Inv-loop μ-loop
 add-entries c =
-    let at-wide = c .before .before in
+    let at-wide = c .before .before .before in
     let at-loop-test = at-wide .before .before in
     let at-loop = at-loop-test .before in
-    let start = at-loop .before .before in
-    let r = (summed-room (start .pre .0) (start .pre .1) (at-loop .loop .inv) (at-loop-test .loop-test .taken) (c .count-others .result) (c .count-others .ensures ∙ ap (λ f. length (othersIn (start .args .words) (now (start .args .results)) f)) (at-wide .wide .ensures))) in
-    record { fits = omega (arith, r .2, at-loop .loop .inv .low) }
+    let start = at-loop .before .before .before in
+    record { fits = omega (arith, summed-room (start .pre .0) (start .pre .1) (at-loop .loop .inv) (at-loop-test .loop-test .taken) (at-wide .wide .ensures .same) (c .sibling-count .ensures) .1, at-loop .loop .inv .low) }
 
 add-bytes : tie.Need-add-bytes Inv-loop μ-loop
 add-bytes c = search needs
 
 mul-bytes : tie.Need-mul-bytes Inv-loop μ-loop
 mul-bytes c =
-    let at-wide = c .before .before in
+    let at-wide = c .before .before .before in
     let at-loop-test = at-wide .before .before in
     let at-loop = at-loop-test .before in
-    let start = at-loop .before .before in
-    let r = (summed-room (start .pre .0) (start .pre .1) (at-loop .loop .inv) (at-loop-test .loop-test .taken) (c .count-others .result) (c .count-others .ensures ∙ ap (λ f. length (othersIn (start .args .words) (now (start .args .results)) f)) (at-wide .wide .ensures))) in
-    record { fits = omega (arith, r .1) }
+    let start = at-loop .before .before .before in
+    record { fits = omega (arith, summed-room (start .pre .0) (start .pre .1) (at-loop .loop .inv) (at-loop-test .loop-test .taken) (at-wide .wide .ensures .same) (c .sibling-count .ensures) .0) }
 
 add-bytes-2 : tie.Need-add-bytes-2 Inv-loop μ-loop
 add-bytes-2 c =
-    let at-wide = c .before .before in
+    let at-wide = c .before .before .before in
     let at-loop-test = at-wide .before .before in
     let at-loop = at-loop-test .before in
-    let start = at-loop .before .before in
-    let r = (summed-room (start .pre .0) (start .pre .1) (at-loop .loop .inv) (at-loop-test .loop-test .taken) (c .count-others .result) (c .count-others .ensures ∙ ap (λ f. length (othersIn (start .args .words) (now (start .args .results)) f)) (at-wide .wide .ensures))) in
-    record { fits = omega (arith, r .3, at-loop .loop .inv .low) }
+    let start = at-loop .before .before .before in
+    record { fits = omega (arith, summed-room (start .pre .0) (start .pre .1) (at-loop .loop .inv) (at-loop-test .loop-test .taken) (at-wide .wide .ensures .same) (c .sibling-count .ensures) .2, at-loop .loop .inv .low) }
 
 add-at : tie.Need-add-at Inv-loop μ-loop
 add-at c = search needs
@@ -66,12 +69,12 @@ loop-less c = search needs
 
 loop-again : tie.Need-loop-again Inv-loop μ-loop
 loop-again c =
-    let at-if1 = c .before in
+    let at-if1 = c .before .before in
     let at-wide = at-if1 .before in
     let at-loop-test = at-wide .before .before in
     let at-loop = at-loop-test .before in
-    let start = at-loop .before .before in
-    summed-word (start .pre .0) (start .pre .1) (at-loop .loop .inv) (at-loop-test .loop-test .taken) (c .count-others .result) (subst (λ f. f < start .args .words) (at-wide .wide .ensures) (at-if1 .if1 .taken)) (c .count-others .ensures ∙ ap (λ f. length (othersIn (start .args .words) (now (start .args .results)) f)) (at-wide .wide .ensures))
+    let start = at-loop .before .before .before in
+    summed-word (start .pre .0) (start .pre .1) (at-loop .loop .inv) (at-loop-test .loop-test .taken) (at-wide .wide .ensures .same) (c .sibling-count .ensures) (at-if1 .if1 .taken)
 
 add-at-2 : tie.Need-add-at-2 Inv-loop μ-loop
 add-at-2 c = search needs
@@ -84,11 +87,14 @@ loop-again-2 c =
     let at-wide = c .before in
     let at-loop-test = at-wide .before .before in
     let at-loop = at-loop-test .before in
-    let start = at-loop .before .before in
-    summed-other (start .pre .0) (start .pre .1) (at-loop .loop .inv) (at-loop-test .loop-test .taken) (subst (λ f. start .args .words ≤ f) (at-wide .wide .ensures) (c .if1 .left))
+    let start = at-loop .before .before .before in
+    summed-other (start .pre .0) (start .pre .1) (at-loop .loop .inv) (at-loop-test .loop-test .taken) (at-wide .wide .ensures .same) (c .if1 .left)
 
 returns : tie.Need-returns Inv-loop μ-loop
-returns c = summed-all (c .before .before .before .pre .0) (c .before .before .before .pre .1) (c .before .loop .inv) (c .loop-test .left)
+returns c =
+    let at-loop = c .before in
+    let start = at-loop .before .before .before in
+    summed-all (start .pre .0) (start .pre .1) (at-loop .loop .inv) (c .loop-test .left)
 
 pub measure-spec : {M : Type 1} → statement M
 measure-spec =
@@ -96,10 +102,11 @@ measure-spec =
     (tie.spec
     Inv-loop
     μ-loop
+    tally-requires
     loop-holds
     shared-slice-read-wide
     wide-requires
-    count-others-requires
+    sibling-count-requires
     add-entries
     add-bytes
     mul-bytes

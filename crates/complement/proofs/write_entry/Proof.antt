@@ -41,7 +41,7 @@ slice-write-out-3 : tie.Need-slice-write-out-3 Inv-loop μ-loop
 slice-write-out-3 c = let i = c .before .loop .inv .size in simp length-set (omega arith)
 
 same-length : tie.Need-same-length Inv-loop μ-loop
-same-length c = simp length-set (c .before .loop .inv .size)
+same-length c = let i = c .before .loop .inv .size in search needs
 
 returns : tie.Need-returns Inv-loop μ-loop
 returns c = copied-done (omega arith) (omega arith) (c .before .loop .inv) (c .loop-test .left) (c .before .before .pre .1 .1) _

@@ -1,0 +1,115 @@
+/*
+ * The bench example of document 01: what does wait(up, free) leave over?
+ *
+ *   rt staticlib pheasantry
+ *   cc -std=c99 -Iinclude bindings/c/example.c target/staticlib/libpheasantry.a -o target/example
+ *   target/example
+ *
+ * prints
+ *
+ *   vocabulary: accepted
+ *   wait(up, free): 3 words, deepest level 2
+ *   no room in 14 bytes: refused 20 3 15
+ *   leftovers 3
+ *   1 000500
+ *   2 0000010200
+ *   3 00000301000400
+ *   wait(n0, full) with wait(up, full): yes, name 0 at 3, length 2
+ *   part of name 0: 0100
+ *   wait(n0, full) with wait(up, free): no
+ */
+#include <inttypes.h>
+#include <stdio.h>
+#include <stdlib.h>
+
+#include "pheasantry.h"
+
+/* Kinds step 0, button 1, queue 2; words wait(button, queue) 0, up 1, down 2, free 3, full 4, done 5. */
+static const uint8_t vocabulary[] = {3, 6, 0, 3, 1, 2, 1, 0, 1, 0, 2, 0, 2, 0, 0, 0};
+static const uint8_t wait_up_free[] = {0, 0, 3, 1, 0, 3, 0};
+static const uint8_t wait_up_full[] = {0, 0, 3, 1, 0, 4, 0};
+static const uint8_t wait_name_full[] = {0, 0, 3, 0x80, 4, 0};
+
+static void print_bytes(const uint8_t *bytes, size_t length)
+{
+    for (size_t i = 0; i < length; i++)
+        printf("%02x", bytes[i]);
+    printf("\n");
+}
+
+/* Where the whole pattern at the front of some bytes ends: its kind byte, then one term in prefix
+ * order, in which a word is followed by its written map and as many terms as that has ones. */
+static size_t entry_length(const uint8_t *bytes)
+{
+    size_t at = 1;
+    for (size_t due = 1; due > 0; due--) {
+        if (bytes[at] < 128) {
+            for (uint8_t map = bytes[at + 1]; map > 0; map /= 2)
+                due += map % 2;
+            at++;
+        }
+        at++;
+    }
+    return at;
+}
+
+static void list(void)
+{
+    uint64_t reply[3];
+    uint8_t small[14];
+    pheasantry_list(vocabulary, sizeof vocabulary, wait_up_free, sizeof wait_up_free, small,
+                    sizeof small, reply);
+    printf("no room in 14 bytes: refused %" PRIu64 " %" PRIu64 " %" PRIu64 "\n", reply[0], reply[1],
+           reply[2]);
+
+    /* The place of refusal 20 is the length that is needed. */
+    size_t needed = reply[2];
+    uint8_t *out = malloc(needed);
+    if (out == NULL)
+        exit(1);
+    pheasantry_list(vocabulary, sizeof vocabulary, wait_up_free, sizeof wait_up_free, out, needed,
+                    reply);
+    printf("leftovers %" PRIu64 "\n", reply[1]);
+    size_t at = 0;
+    for (uint64_t i = 1; i <= reply[1]; i++) {
+        size_t length = entry_length(out + at);
+        printf("%" PRIu64 " ", i);
+        print_bytes(out + at, length);
+        at += length;
+    }
+    free(out);
+}
+
+static void match(void)
+{
+    uint64_t reply[3];
+    uint16_t table[PHEASANTRY_TABLE_LENGTH];
+    pheasantry_match(vocabulary, sizeof vocabulary, wait_name_full, sizeof wait_name_full,
+                     wait_up_full, sizeof wait_up_full, table, PHEASANTRY_TABLE_LENGTH, reply);
+    if (reply[0] == 0 && reply[1] == 1)
+        printf("wait(n0, full) with wait(up, full): yes, name 0 at %d, length %d\n", table[0], table[1]);
+
+    pheasantry_part(vocabulary, sizeof vocabulary, wait_name_full, sizeof wait_name_full, wait_up_full,
+                    sizeof wait_up_full, 0, reply);
+    printf("part of name 0: ");
+    print_bytes(wait_up_full + reply[1], reply[2]);
+
+    pheasantry_match(vocabulary, sizeof vocabulary, wait_name_full, sizeof wait_name_full,
+                     wait_up_free, sizeof wait_up_free, table, PHEASANTRY_TABLE_LENGTH, reply);
+    if (reply[0] == 0 && reply[1] == 0)
+        printf("wait(n0, full) with wait(up, free): no\n");
+}
+
+int main(void)
+{
+    uint64_t reply[3];
+    pheasantry_check_vocabulary(vocabulary, sizeof vocabulary, reply);
+    if (reply[0] == 0)
+        printf("vocabulary: accepted\n");
+    pheasantry_check_term(vocabulary, sizeof vocabulary, wait_up_free, sizeof wait_up_free, reply);
+    if (reply[0] == 0)
+        printf("wait(up, free): %" PRIu64 " words, deepest level %" PRIu64 "\n", reply[1], reply[2]);
+    list();
+    match();
+    return 0;
+}

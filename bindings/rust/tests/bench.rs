@@ -1,0 +1,206 @@
+//! Document 01's bench examples and each line of its refusal list, through the archive.
+use pheasantry::{
+    check_term, check_vocabulary, entries, leftovers, list, match_into, match_pattern, part,
+    Checked, Listed, Refusal,
+};
+
+const A: [u8; 16] = [3, 6, 0, 3, 1, 2, 1, 0, 1, 0, 2, 0, 2, 0, 0, 0];
+const B: [u8; 7] = [1, 2, 0, 0, 0, 1, 0];
+const C: [u8; 10] = [1, 3, 0, 0, 0, 0, 0, 3, 0, 0];
+const WAIT_UP_FREE: [u8; 7] = [0, 0, 3, 1, 0, 3, 0];
+const PAIR_A_A: [u8; 7] = [0, 2, 3, 0, 0, 0, 0];
+const PAIR_A_B: [u8; 7] = [0, 2, 3, 0, 0, 1, 0];
+const PAIR_N0_N0: [u8; 5] = [0, 2, 3, 0x80, 0x80];
+
+fn numbers<T: std::fmt::Debug>(answer: Result<T, Refusal>) -> (u8, u8, usize) {
+    let refusal = answer.unwrap_err();
+    (refusal.number(), refusal.input() as u8, refusal.place())
+}
+
+// The term of B with so many levels: more(.. more(none)).
+fn levels(n: usize) -> Vec<u8> {
+    let mut term = vec![0];
+    term.extend([1, 1].repeat(n - 1));
+    term.extend([0, 0]);
+    term
+}
+
+#[test]
+fn wait_up_free_leaves_three_over() {
+    let expected = [
+        vec![0, 5, 0],
+        vec![0, 0, 1, 2, 0],
+        vec![0, 0, 3, 1, 0, 4, 0],
+    ];
+    assert_eq!(leftovers(&A, &WAIT_UP_FREE).unwrap(), expected);
+
+    let mut out = [9; 20];
+    assert_eq!(
+        list(&A, &WAIT_UP_FREE, &mut out),
+        Ok(Listed {
+            entries: 3,
+            bytes: 15
+        })
+    );
+    assert_eq!(out[..15], expected.concat());
+    assert_eq!(out[15..], [9; 5]);
+    assert!(entries(&out[..15]).eq(expected.iter().map(Vec::as_slice)));
+}
+
+#[test]
+fn room_is_measured() {
+    let mut out = [9; 14];
+    assert_eq!(numbers(list(&A, &WAIT_UP_FREE, &mut out)), (20, 3, 15));
+    assert_eq!(out, [9; 14]);
+    assert!(list(&A, &WAIT_UP_FREE, &mut [0; 15]).is_ok());
+}
+
+#[test]
+fn other_listings() {
+    assert_eq!(
+        leftovers(&B, &[0, 1, 1, 1, 1, 0, 0]).unwrap(),
+        [
+            vec![0, 0, 0],
+            vec![0, 1, 1, 0, 0],
+            vec![0, 1, 1, 1, 1, 1, 0]
+        ]
+    );
+    assert_eq!(leftovers(&C, &[0, 255]).unwrap(), Vec::<Vec<u8>>::new());
+    // A name stays in the entries.
+    assert_eq!(
+        leftovers(&C, &[0, 2, 3, 0x80, 0, 0]).unwrap(),
+        [
+            vec![0, 0, 0],
+            vec![0, 1, 0],
+            vec![0, 2, 3, 0x80, 1, 0],
+            vec![0, 2, 3, 0x80, 2, 0]
+        ]
+    );
+    assert_eq!(numbers(leftovers(&C, &PAIR_N0_N0)), (18, 1, 4));
+}
+
+#[test]
+fn matches() {
+    let spans = match_pattern(&C, &PAIR_N0_N0, &PAIR_A_A).unwrap().unwrap();
+    assert_eq!(spans.iter().collect::<Vec<_>>(), [(0, 3..5)]);
+    assert_eq!(spans.table()[..4], [3, 2, 0, 0]);
+    assert_eq!(match_pattern(&C, &PAIR_N0_N0, &PAIR_A_B), Ok(None));
+    let spans = match_pattern(&C, &[0, 0x80], &PAIR_A_A).unwrap().unwrap();
+    assert_eq!(spans.get(0), Some(1..7));
+    assert_eq!(
+        [spans.get(63), spans.get(64), spans.get(usize::MAX)],
+        [None, None, None]
+    );
+
+    let mut table = [9; 128];
+    assert_eq!(
+        match_into(&C, &PAIR_N0_N0, &PAIR_A_B, &mut table),
+        Ok(false)
+    );
+    assert_eq!(table, [9; 128]);
+}
+
+#[test]
+fn part_is_the_very_part() {
+    let covered = part(&C, &PAIR_N0_N0, &PAIR_A_A, 0);
+    assert_eq!(covered, [0, 0]);
+    assert_eq!(covered.as_ptr(), PAIR_A_A[3..].as_ptr());
+    assert_eq!(part(&C, &[0, 0x80], &PAIR_A_A, 0), &PAIR_A_A[1..]);
+    assert_eq!(part(&C, &[0, 0xbf], &PAIR_A_A, 63), &PAIR_A_A[1..]);
+    for (pattern, situation, name) in [
+        (&PAIR_N0_N0[..], &PAIR_A_B[..], 0),
+        (&PAIR_N0_N0, &PAIR_A_A, 1),
+        (&PAIR_N0_N0, &PAIR_A_A, 64),
+        (&PAIR_N0_N0, &PAIR_A_A, u64::MAX),
+        (&PAIR_N0_N0, &[], 0),
+        (&[], &PAIR_A_A, 0),
+    ] {
+        assert!(part(&C, pattern, situation, name).is_empty());
+    }
+}
+
+#[test]
+fn terms_are_counted() {
+    assert_eq!(
+        check_term(&A, &WAIT_UP_FREE),
+        Ok(Checked {
+            words: 3,
+            deepest: 2
+        })
+    );
+    assert_eq!(
+        check_term(&C, &[0, 255]),
+        Ok(Checked {
+            words: 0,
+            deepest: 1
+        })
+    );
+    assert_eq!(
+        check_term(&B, &levels(32)),
+        Ok(Checked {
+            words: 32,
+            deepest: 32
+        })
+    );
+}
+
+#[test]
+fn every_line_of_the_refusal_list() {
+    assert_eq!(numbers(check_vocabulary(&[])), (1, 0, 0));
+    assert_eq!(numbers(check_vocabulary(&[1, 97])), (2, 0, 1));
+    assert_eq!(numbers(check_vocabulary(&[1, 1, 0])), (3, 0, 3));
+    assert_eq!(numbers(check_vocabulary(&[1, 1, 1, 0])), (4, 0, 2));
+    assert_eq!(numbers(check_vocabulary(&[1, 1, 0, 0, 0])), (5, 0, 4));
+    assert_eq!(numbers(check_vocabulary(&[2, 1, 0, 0])), (6, 0, 1));
+    assert_eq!(numbers(check_term(&C, &[0])), (7, 1, 0));
+    assert_eq!(numbers(check_term(&C, &[0; 4097])), (7, 1, 0));
+    assert_eq!(numbers(check_term(&C, &[1, 0, 0])), (8, 1, 0));
+    assert_eq!(numbers(check_term(&C, &[0, 2, 3])), (9, 1, 3));
+    assert_eq!(numbers(check_term(&B, &levels(33))), (10, 1, 65));
+    assert_eq!(numbers(check_term(&C, &[0, 3])), (11, 1, 1));
+    assert_eq!(numbers(check_term(&A, &[1, 0, 0])), (12, 1, 1));
+    assert_eq!(numbers(check_term(&A, &[0, 0, 3, 0x80, 0x80])), (13, 1, 4));
+    assert_eq!(numbers(check_term(&C, &[0, 2, 4])), (14, 1, 2));
+    assert_eq!(numbers(check_term(&C, &[0, 0, 0, 0])), (15, 1, 3));
+    assert_eq!(
+        numbers(match_pattern(&C, &[0, 255], &[0, 2, 1, 0, 0])),
+        (16, 2, 2)
+    );
+    assert_eq!(
+        numbers(match_pattern(&A, &[0, 255], &[1, 1, 0])),
+        (17, 2, 0)
+    );
+    assert_eq!(numbers(list(&C, &PAIR_N0_N0, &mut [])), (18, 1, 4));
+    assert_eq!(
+        numbers(match_into(&C, &[0, 255], &PAIR_A_A, &mut [])),
+        (19, 3, 0)
+    );
+    assert_eq!(numbers(list(&A, &WAIT_UP_FREE, &mut [])), (20, 3, 15));
+}
+
+#[test]
+fn refusals_are_told() {
+    let said = |answer: Result<Listed, Refusal>| answer.unwrap_err().to_string();
+    assert_eq!(
+        said(list(&A, &WAIT_UP_FREE, &mut [])),
+        "refused 20 3 15: the listing is longer than the lent bytes (it takes 15 bytes)"
+    );
+    assert_eq!(
+        said(list(&C, &PAIR_N0_N0, &mut [])),
+        "refused 18 1 4: the name stands twice in a pattern to be listed (pattern, byte 4)"
+    );
+}
+
+#[test]
+fn calls_run_at_the_same_time() {
+    std::thread::scope(|scope| {
+        for _ in 0..8 {
+            scope.spawn(|| {
+                for _ in 0..1000 {
+                    assert_eq!(leftovers(&A, &WAIT_UP_FREE).unwrap().len(), 3);
+                    assert_eq!(part(&C, &PAIR_N0_N0, &PAIR_A_A, 0), [0, 0]);
+                }
+            });
+        }
+    });
+}

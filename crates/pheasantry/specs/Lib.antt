@@ -1,0 +1,2 @@
+-- What the contracts of pheasantry cite.
+pub mod Replies
