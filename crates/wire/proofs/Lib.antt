@@ -56,6 +56,7 @@ pub mod EntryBytes
 pub mod EntrySizes
 pub mod EntryMaps
 pub mod EntryWalk
+pub mod EntryCut
 -- On the text that the program prints.
 pub mod Text
 -- All of it.

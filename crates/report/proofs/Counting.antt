@@ -1,0 +1,79 @@
+-- Counting: where an entry ends is found in one pass, by the number of terms that are due.
+use mathlib.Core.Path.{_≡_, refl, sym, ap, ap₂, _∙_}
+use mathlib.Core.List.{List, [], _∷_, _++_}
+use Prim.Native.Nat.{ℕ, zero, suc, _+_, _*_, _-_, _<_, _≤_}
+use native.Mathlib.Omega.{arith}
+use lib.Count
+use lib.ListN.{length, getD, drop, length-drop, drop-of-length-le}
+use lib.Seq.{drop-cons}
+use Rattle.wire.specs.Map.{flags, ones}
+use Rattle.wire.proofs.Map.{ones-count}
+use Rattle.wire.proofs.EntryCut.{span, span-none, span-name, span-word, entrySize}
+
+-- So far `at` bytes are passed, and `due` terms are due from there on.
+pub record Counting (l : List ℕ) (at due : ℕ) : Type 0 where
+  pub inside : at ≤ length l
+  pub few : due ≤ 1 + 8 * at
+  pub left : at + span (drop at l) due ≡ entrySize l
+
+pub counting-begins : (l : List ℕ) → 0 < length l → Counting l 1 1
+counting-begins [] h = absurd (omega arith)
+counting-begins (s ∷ l) h = record { inside = omega arith; few = omega arith; left = omega arith }
+
+pub counting-empty : (l : List ℕ) → length l ≡ 0 → 0 ≡ entrySize l
+counting-empty [] h = refl
+counting-empty (s ∷ l) h = absurd (omega arith)
+
+pub counting-none : {l : List ℕ} {at due : ℕ} → Counting l at due → due ≡ 0 → at ≡ entrySize l
+counting-none {l} {at} h e = omega (arith, h .left, ap (span (drop at l)) e, span-none (drop at l))
+
+pub counting-ends : {l : List ℕ} {at due : ℕ} → Counting l at due → length l ≤ at → at ≡ entrySize l
+counting-ends {l} {at} {due} h e = omega (arith, h .left, ap (λ (r : List ℕ). span r due) (drop-of-length-le l e))
+
+module _ {l : List ℕ} {at due : ℕ} (h : Counting l at due) (more : at < length l) (some : 0 < due) where
+  abbrev b : ℕ
+  b = getD l at 0
+
+  here : drop at l ≡ b ∷ drop (at + 1) l
+  here = drop-cons l at 0 more ∙ ap (λ (n : ℕ). b ∷ drop n l) (let e : suc at ≡ at + 1 = omega arith in e)
+
+  begun : span (drop at l) due ≡ span (b ∷ drop (at + 1) l) (suc (due - 1))
+  begun = ap₂ span here (let s = some in let e : due ≡ suc (due - 1) = omega arith in e)
+
+  pub counting-name : 128 ≤ b → Counting l (at + 1) (due - 1)
+  counting-name low = record {
+    inside = let m = more in omega arith;
+    few = let f = h .few in omega arith;
+    left = omega (arith, h .left, begun, span-name b (drop (at + 1) l) (due - 1) low);
+  }
+
+  -- The listing ends where the map is due.
+  pub counting-last : length l ≤ at + 1 → Counting l (at + 1) (due - 1)
+  counting-last end = record {
+    inside = let m = more in omega arith;
+    few = let f = h .few in omega arith;
+    left = omega (arith, h .left, begun, last, ap (λ (r : List ℕ). span r (due - 1)) (drop-of-length-le l end));
+  }
+    where
+      last : span (b ∷ drop (at + 1) l) (suc (due - 1)) ≡ 1
+      last = ap (λ (r : List ℕ). span (b ∷ r) (suc (due - 1))) (drop-of-length-le l end)
+
+  pub counting-word : b < 128 → at + 1 < length l → getD l (at + 1) 0 < 256 →
+      Counting l (at + 1 + 1) (due - 1 + Count.ones (getD l (at + 1) 0))
+  counting-word low inner byte = record {
+    inside = omega arith;
+    few = let f = h .few in let s = some in omega (arith, Count.ones-le 8 (getD l (at + 1) 0) byte);
+    left = omega (arith, h .left, begun, word, ap (span (drop (at + 1 + 1) l)) due-then);
+  }
+    where
+      m : ℕ
+      m = getD l (at + 1) 0
+
+      due-then : due - 1 + Count.ones m ≡ ones (flags m) + (due - 1)
+      due-then = omega (arith, ones-count m byte)
+
+      word : span (b ∷ drop (at + 1) l) (suc (due - 1)) ≡ 2 + span (drop (at + 1 + 1) l) (ones (flags m) + (due - 1))
+      word =
+          ap (λ (r : List ℕ). span (b ∷ r) (suc (due - 1)))
+          (drop-cons l (at + 1) 0 inner ∙ ap (λ (n : ℕ). m ∷ drop n l) (let e : suc (at + 1) ≡ at + 1 + 1 = omega arith in e))
+          ∙ span-word b m (drop (at + 1 + 1) l) (due - 1) low ∙ omega arith

@@ -1,0 +1,10 @@
+-- The laws behind the proofs of report. Bytes put into a text, and numbers as text.
+pub mod Putting
+pub mod Digits
+-- The parts of the input, and where an entry of the listing ends.
+pub mod Parts
+pub mod Counting
+-- The lines, and the whole text: it is the one that is printed, and it has room.
+pub mod Lines
+pub mod Answers
+pub mod Reported

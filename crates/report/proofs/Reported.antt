@@ -1,0 +1,177 @@
+-- Reported: the text of list's answer, put together from the bytes in the lent slice, is the text that is printed, and it is
+-- never longer than what is lent for it.
+use mathlib.Core.Path.{_≡_, refl, sym, ap, ap₂, subst, subst₂, _∙_}
+use mathlib.Core.Bool.{Bool, true, false, cond}
+use mathlib.Core.List.{List, [], _∷_, _++_, map}
+use Prim.Native.Nat.{ℕ, zero, suc, _+_, _*_, _-_, _<_, _≤_, min}
+use native.Mathlib.Omega.{arith}
+use lib.Dec.{leb, lit<}
+use lib.ListN.{length, getD, take, drop, replicate, length-append, length-drop, length-map, length-replicate}
+use borrow.Author.Tests.{leb-true}
+use Rattle.terms.specs.Lists.{All}
+use Rattle.terms.specs.Term.{Term}
+use Rattle.terms.specs.Listing.{listing}
+use Rattle.terms.proofs.All.{all-implies, all-map, at-all}
+use Rattle.wire.specs.Reply.{Reply, accepted, refused, Reading, accept, refuse, IsBytes}
+use Rattle.wire.specs.Vocabulary.{Vocabulary, InOrder, signature}
+use Rattle.wire.specs.Written.{encodeTerm, GoodTerm}
+use Rattle.wire.specs.Reading.{readVocabulary, Kinded}
+use Rattle.wire.specs.Listed.{Listed, checkedLinear, kinded, entriesBytes, entriesOf, listedInto, listedPattern, listedVocabulary, listed, ListPromise}
+use Rattle.wire.specs.Text.{ascii, decimal, hexadecimal}
+use Rattle.wire.specs.Printed.{mostInput, listingSpace, vocabularyLength, vocabularyPart, patternPart, entriesUnder, entriesWith, entryLines, reported, printedFrom, printed}
+use Rattle.wire.proofs.Text.{decimal-short, hexadecimal-length}
+use Rattle.wire.proofs.Levels.{deepest-bytes}
+use Rattle.wire.proofs.Entries.{entries-are-good}
+use Rattle.wire.proofs.EntriesRead.{GoodKinded}
+use Rattle.wire.proofs.EntryCut.{cut, cut-entries}
+use Rattle.wire.proofs.Listed.{linear-in}
+use Rattle.wire.proofs.VocabulariesInverse.{vocabularies-inverse}
+use Rattle.report.specs.Prints.{Prints}
+use Rattle.report.specs.Putting.{Put, entryLine, listingText, answerText, HasRoom}
+use Rattle.report.proofs.Parts.{vocabulary-is, pattern-is, input-taken}
+
+-- ---- how long the lines are
+
+total : List (List ℕ) → ℕ
+total [] = 0
+total (e ∷ es) = length e + total es
+
+-- A number below 100,000 has at most 5 digits.
+lines-length : (i : ℕ) (es : List (List ℕ)) → i + length es ≤ 100000 → length (entryLines i es) ≤ 7 * length es + 2 * total es
+unfolding total
+lines-length i [] h = omega arith
+lines-length i (e ∷ es) h =
+    let rest = lines-length (suc i) es (omega arith) in
+    omega (
+      arith,
+      length-append (entryLine i e) (entryLines (suc i) es),
+      length-append (decimal i) (ascii " " ++ (hexadecimal e ++ ascii "\n")),
+      length-append (hexadecimal e) (ascii "\n"),
+      hexadecimal-length e,
+      decimal-short 4 i (omega arith),
+    )
+
+abbrev written : Vocabulary → Kinded → List ℕ
+written W e = encodeTerm W (e .kind) (e .term)
+
+total-entries : (W : Vocabulary) (l : List Kinded) → total (map (written W) l) ≡ length (entriesBytes W l)
+unfolding total
+total-entries W [] = refl
+total-entries W (e ∷ l) = let r = total-entries W l in omega (arith, length-append (written W e) (entriesBytes W l))
+
+entries-long : (W : Vocabulary) (l : List Kinded) → 2 * length l ≤ length (entriesBytes W l)
+entries-long W [] = omega arith
+entries-long W (e ∷ l) =
+    let r = entries-long W l in
+    let d = deepest-bytes W (e .term) in
+    omega (arith, length-append (written W e) (entriesBytes W l))
+
+-- ---- the text
+
+record Shown (r : Reply) (out text : List ℕ) : Type 0 where
+  same : answerText r out ≡ text
+  room : HasRoom r out 524288
+
+module _ (before : List ℕ) (long : length before ≡ 65536) where
+  listing-shown : (W : Vocabulary) → InOrder W → (l : List Kinded) → All (GoodKinded W) l →
+      Shown (listedInto before (length l) (entriesBytes W l) .reply) (listedInto before (length l) (entriesBytes W l) .out)
+      (reported (listedInto before (length l) (entriesBytes W l) .reply) (map (written W) l))
+  listing-shown W inOrder l good = go (leb (length b) (length before)) refl
+    where
+      b : List ℕ
+      b = entriesBytes W l
+
+      into : Bool → Listed
+      into t =
+          cond t
+          (record { reply = accepted (length l ∷ length b ∷ []); out = b ++ drop (length b) before })
+          (record { reply = refused 20 3 (length b); out = before })
+
+      go : (t : Bool) → leb (length b) (length before) ≡ t → Shown (into t .reply) (into t .out) (reported (into t .reply) (map (written W) l))
+      go false e = record { same = refl; room = tt }
+      go true e = record { same = same; room = subst (λ (t : List ℕ). length t ≤ 524288) (sym same) fits }
+        where
+          es : List (List ℕ)
+          es = map (written W) l
+
+          same : listingText (length l) (b ++ drop (length b) before) ≡ reported (accepted []) es
+          same =
+              ap₂ (λ (n : ℕ) (es : List (List ℕ)). ascii "leftovers " ++ (decimal n ++ (ascii "\n" ++ entryLines 1 es)))
+              (sym (length-map l (written W))) (cut-entries W inOrder l (drop (length b) before) good)
+
+          fits : length (reported (accepted []) es) ≤ 524288
+          fits =
+              let count : length es ≡ length l = length-map l (written W) in
+              let few = entries-long W l in
+              let most = leb-true (length b) (length before) e in
+              let whole = long in
+              let digits = decimal-short 4 (length es) (omega arith) in
+              let lines = lines-length 1 es (omega arith) in
+              omega (arith, length-append (decimal (length es)) (ascii "\n" ++ entryLines 1 es), total-entries W l)
+
+  module _ (p : List ℕ) (bp : IsBytes p) where
+    pattern-shown : (W : Vocabulary) → InOrder W → (r : Reading Kinded) → checkedLinear W p ≡ r →
+        Shown (listedPattern W before r .reply) (listedPattern W before r .out) (reported (listedPattern W before r .reply) (entriesUnder W r))
+    pattern-shown W inOrder (refuse n q) e = record { same = refl; room = tt }
+    pattern-shown W inOrder (accept k) e =
+        let h = linear-in W p k inOrder bp e in
+        let s : ℕ = k .kind in
+        let entries : List Term = listing (signature W) (k .term) in
+        listing-shown W inOrder (entriesOf W s (k .term))
+        (all-map (GoodKinded W) (kinded s) entries
+        (all-implies _ (λ e. GoodTerm W s e) (λ e g. g .0) entries (entries-are-good W s (k .term) (h .term .good) (h .linear))))
+
+    vocabulary-shown : (v : List ℕ) → IsBytes v → (r : Reading Vocabulary) → readVocabulary v ≡ r →
+        Shown (listedVocabulary p before r .reply) (listedVocabulary p before r .out)
+        (reported (listedVocabulary p before r .reply) (entriesWith p r))
+    vocabulary-shown v bv (refuse n q) e = record { same = refl; room = tt }
+    vocabulary-shown v bv (accept W) e =
+        pattern-shown W (vocabularies-inverse v W bv .0 e .0 .inOrder) (checkedLinear W p) refl
+
+module _ (v p : List ℕ) (vocabularyBytes : (i : ℕ) → getD v i 0 < 256) (patternBytes : (i : ℕ) → getD p i 0 < 256)
+    {after : List ℕ} {r : Reply} (promise : ListPromise v p (replicate listingSpace 0) after r) where
+  shown : Shown r after (printedFrom v p)
+  shown =
+      subst (λ (r : Reply). Shown r after (printedFrom v p)) (sym (promise .reply))
+      (subst (λ (l : List ℕ). Shown (listed v p (replicate listingSpace 0) .reply) l (printedFrom v p)) (sym (promise .out))
+      (vocabulary-shown (replicate listingSpace 0) (length-replicate {A = ℕ} listingSpace 0) p (at-all (λ b. b < 256) 0 p (λ i h. patternBytes i)) v
+      (at-all (λ b. b < 256) 0 v (λ i h. vocabularyBytes i)) (readVocabulary v) refl))
+
+  pub answer-put : {text last : List ℕ} {next : ℕ} → Put (answerText r after) text 0 next last → Put (printedFrom v p) text 0 next last
+  answer-put {text} {last} {next} h = subst (λ (t : List ℕ). Put t text 0 next last) (shown .same) h
+
+  pub answer-room : (m : ℕ) → 524288 ≤ m → HasRoom r after m
+  answer-room m h = go r (shown .room)
+    where
+      go : (r : Reply) → HasRoom r after 524288 → HasRoom r after m
+      go (refused n i q) k = tt
+      go (accepted []) k = tt
+      go (accepted (n ∷ values)) k = omega arith
+
+-- ---- the parts of the input
+
+pub taken-put : (b : List ℕ) (from to n k : ℕ) → from ≡ min 2 (length b) → to ≡ from + n → k ≡ vocabularyLength b → n ≡ min k (length b - from) →
+    {text last : List ℕ} {next : ℕ} → Put (printedFrom (take (to - from) (drop from b)) (take (length b - to) (drop to b))) text 0 next last →
+    Put (printedFrom (vocabularyPart b) (patternPart b)) text 0 next last
+taken-put b from to n k begins ends given size {text} {last} {next} h =
+    let s : n ≡ min (vocabularyLength b) (length b - from) = size ∙ ap (λ (j : ℕ). min j (length b - from)) given in
+    subst₂ (λ (v p : List ℕ). Put (printedFrom v p) text 0 next last)
+    (vocabulary-is b from to n begins ends s) (pattern-is b from to n begins ends s) h
+
+pub prints : (b : List ℕ) (n : ℕ) → n ≡ min (length b) mostInput → {text last : List ℕ} {next : ℕ} →
+    Put (printedFrom (vocabularyPart (take (n - 0) b)) (patternPart (take (n - 0) b))) text 0 next last → Prints b text next last
+prints b n e {text} {last} {next} h = record {
+  count = count;
+  same = put .same ∙ ap (λ (k : ℕ). printed b ++ drop k text) count;
+  within =
+      let long : length last ≡ length (printed b ++ drop next text) = ap length (put .same) in
+      omega (arith, count, length-append (printed b) (drop next text));
+}
+  where
+    put : Put (printed b) text 0 next last
+    put =
+        subst (λ (t : List ℕ). Put (printedFrom (vocabularyPart t) (patternPart t)) text 0 next last)
+        (ap (λ (k : ℕ). take k b) (let z : n - 0 ≡ n = omega arith in z) ∙ input-taken b n e) h
+
+    count : next ≡ length (printed b)
+    count = omega (arith, put .behind)

@@ -1,0 +1,262 @@
+// The text that document 01's program `leftovers` prints for its standard input.
+ghost use mathlib.Core.Path.{_≡_};
+ghost use mathlib.Core.List.{_∷_, [], _++_};
+ghost use Prim.Native.Nat.{_+_, _≤_, _<_, min};
+ghost use lib.ListN.{length};
+ghost use Rattle.signature.specs.Answers.{vocabularyRefused};
+ghost use Rattle.reader.specs.Answers.{termRefused};
+ghost use Rattle.complement.specs.Answers.{listNumbers};
+ghost use Rattle.wire.specs.Reply.{refused};
+ghost use Rattle.wire.specs.Text.{decimal, hexadecimal};
+ghost use Rattle.wire.specs.Text.{digit as Text·digit};
+ghost use Rattle.wire.specs.Printed.{vocabularyLength, vocabularyPart, patternPart, entryLines, refusalLine, printedFrom};
+ghost use Rattle.wire.proofs.EntryCut.{cut, entrySize};
+ghost use Rattle.report.specs.Prints.{Prints};
+ghost use Rattle.report.specs.Putting.{Put, refusalReply, entryLine, listingText, answerText, HasRoom};
+use complement::ListAnswer;
+use reader::TermRefusal;
+use signature::VocabularyRefusal;
+
+// A refusal in document 01's numbers.
+struct Refusal {
+    line: usize,
+    input: usize,
+    place: usize,
+}
+
+fn wide(b: u8) -> usize
+    ensures { λ r. ⌜ r ≡ b ⌝ }
+{
+    b as usize
+}
+
+fn least(a: usize, b: usize) -> usize
+    ensures { λ r. ⌜ r ≡ min a b ⌝ }
+{
+    if a < b { a } else { b }
+}
+
+fn refuse(line: usize, input: usize, place: usize) -> Refusal
+    ensures { λ r. ⌜ refusalReply r ≡ refused line input place ⌝ }
+{
+    Refusal { line, input, place }
+}
+
+// Lines 1 to 6. The vocabulary is input 0.
+fn vocabulary_refusal(why: VocabularyRefusal) -> Refusal
+    ensures { λ r. ⌜ refusalReply r ≡ vocabularyRefused why ⌝ }
+{
+    match why {
+        VocabularyRefusal::Head => refuse(1, 0, 0),
+        VocabularyRefusal::WordCount => refuse(2, 0, 1),
+        VocabularyRefusal::Ends(q) => refuse(3, 0, q),
+        VocabularyRefusal::NoSuchKind(q) => refuse(4, 0, q),
+        VocabularyRefusal::Continues(q) => refuse(5, 0, q),
+        VocabularyRefusal::EmptyKind(k) => refuse(6, 0, k),
+    }
+}
+
+// Lines 7 to 15. The pattern is input 1.
+fn term_refusal(why: TermRefusal) -> Refusal
+    ensures { λ r. ⌜ refusalReply r ≡ termRefused 1 why ⌝ }
+{
+    match why {
+        TermRefusal::Size => refuse(7, 1, 0),
+        TermRefusal::NoSuchKind => refuse(8, 1, 0),
+        TermRefusal::Ends(q) => refuse(9, 1, q),
+        TermRefusal::TooDeep(q) => refuse(10, 1, q),
+        TermRefusal::NoWordOrName(q) => refuse(11, 1, q),
+        TermRefusal::WrongKind(q) => refuse(12, 1, q),
+        TermRefusal::Clashes(q) => refuse(13, 1, q),
+        TermRefusal::StrayBit(q) => refuse(14, 1, q),
+        TermRefusal::Continues(q) => refuse(15, 1, q),
+    }
+}
+
+// Puts bytes at an offset, and gives the offset behind them.
+fn put(bytes: &[u8], text: &mut [u8], at: usize) -> usize
+    requires { ⌜ at + length (now bytes) ≤ length (now text) ⌝ }
+    ensures { λ r. ⌜ Put (now (bytes .entry)) (now (text .entry)) at r (now (text .exit)) ⌝ }
+{
+    let mut i = 0;
+    let mut next = at;
+    while i < bytes.len() {
+        text[next] = bytes[i];
+        i += 1;
+        next += 1;
+    }
+    next
+}
+
+// Puts a number in decimal, and bytes behind it.
+fn put_number(n: usize, behind: &[u8], text: &mut [u8], at: usize) -> usize
+    requires { ⌜ at + length (decimal n ++ now behind) ≤ length (now text) ⌝ }
+    ensures { λ r. ⌜ Put (decimal n ++ now (behind .entry)) (now (text .entry)) at r (now (text .exit)) ⌝ }
+{
+    let mut digits = [0u8; 20];
+    let k = io::decimal(n as u64, &mut digits);
+    let next = put(&digits[0..k], text, at);
+    put(behind, text, next)
+}
+
+// A hexadecimal digit, in lower case.
+fn digit(d: u8) -> u8
+    requires { ⌜ d < 16 ⌝ }
+    ensures { λ r. ⌜ r ≡ Text·digit d ⌝ }
+{
+    if d < 10 { 48 + d } else { 87 + d }
+}
+
+// Puts bytes in hexadecimal.
+fn put_hexadecimal(bytes: &[u8], text: &mut [u8], at: usize) -> usize
+    requires { ⌜ at + length (hexadecimal (now bytes)) ≤ length (now text) ⌝ }
+    ensures { λ r. ⌜ Put (hexadecimal (now (bytes .entry))) (now (text .entry)) at r (now (text .exit)) ⌝ }
+{
+    let mut i = 0;
+    let mut next = at;
+    while i < bytes.len() {
+        let b = bytes[i];
+        text[next] = digit(b / 16);
+        text[next + 1] = digit(b % 16);
+        i += 1;
+        next += 2;
+    }
+    next
+}
+
+// Puts the line of an entry.
+fn put_line(number: usize, entry: &[u8], text: &mut [u8], at: usize) -> usize
+    requires { ⌜ at + length (entryLine number (now entry)) ≤ length (now text) ⌝ }
+    ensures { λ r. ⌜ Put (entryLine number (now (entry .entry))) (now (text .entry)) at r (now (text .exit)) ⌝ }
+{
+    let numbered = put_number(number, b" ", text, at);
+    let written = put_hexadecimal(entry, text, numbered);
+    put(b"\n", text, written)
+}
+
+// How many bytes the entry at the front of a listing has. Behind its kind, a byte of 128 or more ends a term; a word's
+// number is followed by its map, which makes as many terms due as it has ones.
+fn entry_size(listing: &[u8]) -> usize
+    requires { ⌜ length (now listing) ≤ 65536 ⌝ }
+    ensures { λ r. ⌜ r ≡ entrySize (now (listing .entry)) ⌝ }
+{
+    if listing.len() == 0 {
+        return 0;
+    }
+    let mut at = 1;
+    let mut due = 1;
+    while at < listing.len() {
+        if due == 0 {
+            return at;
+        }
+        let b = listing[at];
+        at += 1;
+        due -= 1;
+        if b < 128 {
+            if at < listing.len() {
+                let ones = u8::count_ones(listing[at]);
+                at += 1;
+                due += ones as usize;
+            }
+        }
+    }
+    at
+}
+
+// Puts a line for each of the n entries that stand at the front of a listing.
+fn put_lines(listing: &[u8], n: usize, text: &mut [u8], at: usize) -> usize
+    requires { ⌜ length (now listing) ≤ 65536 ⌝ }
+    requires { ⌜ at + length (entryLines 1 (cut n (now listing))) ≤ length (now text) ⌝ }
+    ensures { λ r. ⌜ Put (entryLines 1 (cut n (now (listing .entry)))) (now (text .entry)) at r (now (text .exit)) ⌝ }
+{
+    let mut i = 0;
+    let mut from = 0;
+    let mut next = at;
+    while i < n {
+        let to = from + entry_size(&listing[from..]);
+        i += 1;
+        next = put_line(i, &listing[from..to], text, next);
+        from = to;
+    }
+    next
+}
+
+// Puts the text for n entries.
+fn put_listing(listing: &[u8], n: usize, text: &mut [u8]) -> usize
+    requires { ⌜ length (now listing) ≤ 65536 ⌝ }
+    requires { ⌜ length (listingText n (now listing)) ≤ length (now text) ⌝ }
+    ensures { λ r. ⌜ Put (listingText n (now (listing .entry))) (now (text .entry)) 0 r (now (text .exit)) ⌝ }
+{
+    let named = put(b"leftovers ", text, 0);
+    let counted = put_number(n, b"\n", text, named);
+    put_lines(listing, n, text, counted)
+}
+
+// Puts the line of a refusal.
+fn put_refusal(why: Refusal, text: &mut [u8]) -> usize
+    requires { ⌜ 128 ≤ length (now text) ⌝ }
+    ensures { λ r. ⌜ Put (refusalLine (why .line) (why .input) (why .place)) (now (text .entry)) 0 r (now (text .exit)) ⌝ }
+{
+    let line = why.line;
+    let input = why.input;
+    let place = why.place;
+    let a = put(b"refused ", text, 0);
+    let b = put_number(line, b" ", text, a);
+    let c = put_number(input, b" ", text, b);
+    put_number(place, b"\n", text, c)
+}
+
+// Puts the text for an answer of list, with the entries in the lent slice.
+fn put_answer(answer: ListAnswer, listing: &[u8], text: &mut [u8]) -> usize
+    requires { ⌜ length (now listing) ≤ 65536 ⌝ }
+    requires { ⌜ 128 ≤ length (now text) ⌝ }
+    requires { ⌜ HasRoom (listNumbers answer) (now listing) (length (now text)) ⌝ }
+    ensures { λ r. ⌜ Put (answerText (listNumbers answer) (now (listing .entry))) (now (text .entry)) 0 r (now (text .exit)) ⌝ }
+{
+    match answer {
+        ListAnswer::Listed(entries, _) => put_listing(listing, entries, text),
+        ListAnswer::Vocabulary(why) => put_refusal(vocabulary_refusal(why), text),
+        ListAnswer::Pattern(why) => put_refusal(term_refusal(why), text),
+        ListAnswer::Repeated(q) => put_refusal(refuse(18, 1, q), text),
+        ListAnswer::NoRoom(bytes) => put_refusal(refuse(20, 3, bytes), text),
+    }
+}
+
+// Puts the text for a vocabulary and a pattern.
+fn print_from(vocabulary: &[u8], pattern: &[u8], text: &mut [u8]) -> usize
+    requires { ⌜ 524288 ≤ length (now text) ⌝ }
+    ensures { λ r. ⌜ Put (printedFrom (now (vocabulary .entry)) (now (pattern .entry))) (now (text .entry)) 0 r (now (text .exit)) ⌝ }
+{
+    let mut space = [0u8; 65536];
+    let answer = complement::list(vocabulary, pattern, &mut space);
+    put_answer(answer, &space, text)
+}
+
+// The length that the first two bytes give, the high byte first.
+fn vocabulary_length(input: &[u8]) -> usize
+    ensures { λ r. ⌜ r ≡ vocabularyLength (now (input .entry)) ⌝ }
+{
+    if input.len() < 2 {
+        return 0;
+    }
+    256 * wide(input[0]) + wide(input[1])
+}
+
+// Puts the text for the bytes that are taken.
+fn print_taken(input: &[u8], text: &mut [u8]) -> usize
+    requires { ⌜ 524288 ≤ length (now text) ⌝ }
+    ensures { λ r. ⌜ Put (printedFrom (vocabularyPart (now (input .entry))) (patternPart (now (input .entry)))) (now (text .entry)) 0 r (now (text .exit)) ⌝ }
+{
+    let from = least(2, input.len());
+    let to = from + least(vocabulary_length(input), input.len() - from);
+    print_from(&input[from..to], &input[to..], text)
+}
+
+// Puts what the program `leftovers` prints for its standard input at the front of the lent bytes, and says how many
+// bytes it is. Bytes behind the text stay as they were.
+pub fn print(input: &[u8], text: &mut [u8; 524288]) -> usize
+    ensures { λ r. ⌜ Prints (now (input .entry)) (now (text .entry)) r (now (text .exit)) ⌝ }
+{
+    let taken = least(input.len(), 65536);
+    print_taken(&input[0..taken], text)
+}
