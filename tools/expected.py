@@ -1,16 +1,18 @@
 #!/usr/bin/env python3
-"""Makes what the program `examples` must write, by a second implementation of document 01.
+"""Makes what the programs `examples` and `families` must write, by a second implementation of document 01.
 
-  python3 tools/expected.py > crates/examples/stdout
+  python3 tools/expected.py examples > crates/examples/stdout
+  python3 tools/expected.py families > crates/families/stdout
 
-The checks below are a second reading of document 01's sentences. They share no code with the crates,
-but they were written with the crates' code in view, so they are no blind second opinion. Each section
-of cases is a function that yields lines; a new call gets a section of its own, added to SECTIONS at
-the end. Values worked out by hand stand in `by_hand`, which runs first.
+The cases of `examples` stand in crates/examples/stdin; crates/examples/src/cases.rt says how a line is
+written. The calls below are a second reading of document 01's sentences. They share no code with the
+crates, but they were written with the crates' code in view, so they are no blind second opinion. Values
+worked out by hand stand in the functions whose names end in `by_hand`, which run first.
 """
 import sys
 from dataclasses import dataclass, field
 from itertools import combinations, product
+from pathlib import Path
 
 # ---------------------------------------------------------------- inputs and refusals
 
@@ -241,6 +243,45 @@ def carried_out(vocabulary, pattern, named, nameless):
     return fill(pattern)
 
 
+# ---------------------------------------------------------------- leftovers
+
+
+def writing(tree):
+    """A term's bytes."""
+    if isinstance(tree, Anything):
+        return bytes([255])
+    if isinstance(tree, Name):
+        return bytes([128 + tree.number])
+    return bytes([tree.word, map_of(tree.written)]) + b"".join(writing(tree.written[bit]) for bit in sorted(tree.written))
+
+
+def map_of(written):
+    return sum(1 << bit for bit in written)
+
+
+def listing(vocabulary, tree):
+    """The entries of a term's listing, each written out; none for 255, a name or an open place."""
+    if not isinstance(tree, Node):
+        return
+    for number, word in enumerate(vocabulary.words):
+        if number != tree.word and word.result == vocabulary.words[tree.word].result:
+            yield writing(Node(number))
+    for place in sorted(tree.written):
+        lower = sorted(bit for bit in tree.written if bit < place)
+        start = bytes([tree.word, map_of([*lower, place])]) + b"".join(writing(tree.written[bit]) for bit in lower)
+        for entry in listing(vocabulary, tree.written[place]):
+            yield start + entry
+
+
+def names_in(tree):
+    """A term's names, from the front."""
+    if isinstance(tree, Name):
+        yield tree
+    elif isinstance(tree, Node):
+        for bit in sorted(tree.written):
+            yield from names_in(tree.written[bit])
+
+
 # ---------------------------------------------------------------- the calls
 
 
@@ -306,12 +347,164 @@ def part(vocabulary, pattern, situation, name):
     return situation[named[name].start : named[name].end]
 
 
-# ---------------------------------------------------------------- inputs of the cases
+def list_leftovers(vocabulary, pattern, out):
+    """List's answer, the number of entries and of bytes; they stand at the front of out then."""
+    vocabulary = read_vocabulary(vocabulary)
+    kind, tree = read_term(vocabulary, pattern, PATTERN)
+    stood = set()
+    for name in names_in(tree):
+        if name.number in stood:
+            raise Refused(18, PATTERN, name.start)
+        stood.add(name.number)
+    entries = length = 0
+    for entry in listing(vocabulary, tree):
+        entries, length = entries + 1, length + 1 + len(entry)
+    if length > len(out):
+        raise Refused(20, LENT, length)
+    out[:length] = b"".join(bytes([kind]) + entry for entry in listing(vocabulary, tree))
+    return entries, length
+
+
+def printed(data):
+    """What the program `leftovers` prints for its standard input."""
+    data = data[:65536]
+    end = 2 + int.from_bytes(data[:2], "big") if len(data) >= 2 else 2
+    vocabulary, pattern = data[2:end], data[end:]
+    try:
+        entries, _ = list_leftovers(vocabulary, pattern, bytearray(65536))
+    except Refused as refusal:
+        return f"{refusal.reply}\n"
+    vocabulary = read_vocabulary(vocabulary)
+    kind, tree = read_term(vocabulary, pattern)
+    lines = [f"{number} {kind:02x}{entry.hex()}\n" for number, entry in enumerate(listing(vocabulary, tree), 1)]
+    return f"leftovers {entries}\n" + "".join(lines)
+
+
+# ---------------------------------------------------------------- the cases of `examples`
 
 
 def h(text):
     """Bytes from hexadecimal, with blanks anywhere."""
     return bytes.fromhex(text)
+
+
+def decoded(text):
+    """The bytes of a case: hexadecimal, and [FROM,COUNT] for COUNT bytes once more, from offset FROM on."""
+    data = bytearray()
+    for token in text.split():
+        if token.startswith("["):
+            start, count = map(int, token.strip("[]").split(","))
+            for at in range(start, start + count):
+                data.append(data[at])
+        else:
+            data += h(token)
+    return bytes(data)
+
+
+def reply_to_vocabulary(vocabulary, given):
+    return reply(check_vocabulary, given)
+
+
+def reply_to_term(vocabulary, term):
+    return reply(check_term, vocabulary, term)
+
+
+def reply_to_match(vocabulary, length, pattern, situation):
+    """Match into a table of so many numbers, which holds 60,000 + i at i before the call."""
+    lent = [60000 + i for i in range(length)]
+    table = list(lent)
+    try:
+        answer = match(vocabulary, pattern, situation, table)
+    except Refused as refusal:
+        answer = refusal.reply
+    as_lent = sum(1 for old, new in zip(lent, table) if old == new)
+    others = "".join(f" {i}={new}" for i, (old, new) in enumerate(zip(lent, table)) if new not in (0, old))
+    return f"{answer}, {as_lent} as lent, {table.count(0)} zero{others}"
+
+
+def reply_to_part(vocabulary, name, pattern, situation):
+    return part(vocabulary, pattern, situation, name).hex() or "empty"
+
+
+LENT_BYTE = 0xEE
+
+
+def listed(vocabulary, length, pattern):
+    """List into so many bytes: the answer, the bytes of the entries, and the bytes behind them."""
+    out = bytearray([LENT_BYTE]) * length
+    written = 0
+    try:
+        entries, written = list_leftovers(vocabulary, pattern, out)
+        answer = f"accepted {entries} {written}"
+    except Refused as refusal:
+        answer = refusal.reply
+    assert len(out) == length
+    return answer, bytes(out[:written]), bytes(out[written:])
+
+
+def reply_to_list(vocabulary, length, pattern):
+    answer, entries, behind = listed(vocabulary, length, pattern)
+    return f"{answer}, {(entries + behind).hex() or 'empty'}"
+
+
+def reply_to_sum(vocabulary, length, pattern):
+    """For long listings."""
+    answer, entries, behind = listed(vocabulary, length, pattern)
+    return f"{answer}, sum {sum_of(entries)}, {behind.count(LENT_BYTE)} of {len(behind)} behind as lent"
+
+
+def reply_to_find(vocabulary, length, pattern, sought):
+    """As which entry, from 1, the sought pattern stands in the slice."""
+    answer, entries, _ = listed(vocabulary, length, pattern)
+    vocabulary = read_vocabulary(vocabulary)
+    kind, tree = read_term(vocabulary, pattern)
+    single = [bytes([kind]) + entry for entry in listing(vocabulary, tree)] if entries else []
+    assert b"".join(single) == entries
+    place = f"entry {single.index(sought) + 1}" if sought in single else "no entry"
+    return f"{answer}, it is {place}"
+
+
+def sum_of(data):
+    """A sum of bytes: the last one's weight is 1, each other's 31 times that of the next, modulo 65,521."""
+    total = 0
+    for byte in data:
+        total = (31 * total + byte) % 65521
+    return total
+
+
+def reply_to_report(vocabulary, data):
+    return printed(data).removesuffix("\n")
+
+
+def reply_to_digest(vocabulary, data):
+    text = printed(data).encode("ascii")
+    return f"{len(text)} bytes, sum {sum_of(text)}"
+
+
+# What tells the reply to a line, by its first word; the later ones take the number before the label.
+PLAIN = {"vocabulary": reply_to_vocabulary, "term": reply_to_term, "report": reply_to_report, "digest": reply_to_digest}
+NUMBERED = {"match": reply_to_match, "part": reply_to_part, "list": reply_to_list, "sum": reply_to_sum, "find": reply_to_find}
+
+
+def examples(text):
+    """Each case of a text up to its colon, and then the reply."""
+    vocabulary = None
+    for line in text.split("\n"):
+        if not line or line.startswith("#"):
+            continue
+        label, inputs = line.split(":")
+        key, rest = label.split(" ", 1)
+        inputs = [decoded(written) for written in inputs.split("/")]
+        if key == "under":
+            (vocabulary,) = inputs
+            yield label
+        elif key in PLAIN:
+            yield f"{label}: {PLAIN[key](vocabulary, *inputs)}"
+        else:
+            yield f"{label}: {NUMBERED[key](vocabulary, int(rest.split(' ')[0]), *inputs)}"
+
+
+# ---------------------------------------------------------------- inputs by name
 
 
 # The bench vocabularies.
@@ -322,30 +515,9 @@ C = h("01 03  00 00  00 00  00 03 00 00")
 # Place maps with gaps: a of kind 0, b of kind 1, left with places 0 and 7, right with places 1 and 4.
 GAPS = h("02 04  00 00  01 00  00 81 00 01  01 12 01 00")
 
-# a of kind 0, b of kind 1, and a word with eight places of kinds 0 and 1 by turns.
-EIGHT = h("02 03  00 00  01 00  00 ff") + h("00 01") * 4
-
-# A deep vocabulary of two kinds: none, more(.), fork(kind 1, kind 0), and side of kind 1.
-TWO = h("02 04  00 00  00 01 00  00 03 01 00  01 00")
-
-
-# A constant for each of so many kinds.
-def constants(kinds):
-    return bytes([kinds, kinds]) + bytes(b for k in range(kinds) for b in (k, 0))
-
-
 # One kind and 96 words, of which the first so many have eight places and the others none.
 def words_96(eight):
     return h("01 60") + (h("00 ff") + h("00") * 8) * eight + h("00 00") * (96 - eight)
-
-
-# The longest with two kinds: word 93's place 7 and word 94's result are of kind 1.
-LATE = h("02") + words_96(95)[1:941] + h("01 01") + words_96(95)[943:]
-
-
-# Sixteen kinds: each but 15 by one word over the next, kind 15 by the given record.
-def links(order, last):
-    return h("10 10") + b"".join(last if k == 15 else bytes([k, 1, k + 1]) for k in order)
 
 
 # The bytes of C's full tree of pairs with so many levels.
@@ -364,511 +536,15 @@ def more(times, end):
     return h("00") + h("01 01") * times + h(end)
 
 
-# ---------------------------------------------------------------- the cases
-
-
-def vocabulary_cases():
-    for label, vocabulary in [
-        # the bench, and the vocabularies of the terms' cases
-        ("A", A),
-        ("B", B),
-        ("C", C),
-        ("maps with gaps", GAPS),
-        ("two kinds", TWO),
-        # 1
-        ("no byte", h("")),
-        ("one byte 00", h("00")),
-        ("one byte 01", h("01")),
-        ("one byte 11", h("11")),
-        ("two bytes 00", h("00 00")),
-        ("0 kinds", h("00 01 00 00")),
-        ("1 kind", h("01 01 00 00")),
-        ("16 kinds", constants(16)),
-        ("17 kinds", constants(17)),
-        ("255 kinds", h("ff 01 00 00")),
-        ("1 before 2", h("11 00")),
-        # 2
-        ("0 words", h("01 00")),
-        ("0 words and a record", h("01 00 00 00")),
-        ("97 words and no record", h("01 61")),
-        ("255 words", h("01 ff")),
-        ("2 before 3", h("02 61 00")),
-        ("2 before 4", h("01 00 01")),
-        # 3
-        ("no record", h("01 01")),
-        ("a record without map", h("01 01 00")),
-        ("a record without its kind", h("01 01 00 01")),
-        ("a record without its eighth kind", h("01 01 00 ff") + h("00") * 7),
-        ("a record with a gap without its second kind", h("01 01 00 81 00")),
-        ("no second record", h("01 02 00 00")),
-        ("16 kinds, a byte short", constants(16)[:-1]),
-        # 4
-        ("result kind 1 of 1", h("01 01 01 00")),
-        ("result kind 1 of 1 and the end", h("01 01 01")),
-        ("result kind 16 of 16", h("10 01 10 00")),
-        ("result kind 255", h("02 01 ff 00")),
-        ("second word's kind", h("02 02 00 00 02 00")),
-        ("place kind 1 of 1", h("01 01 00 01 01")),
-        ("place kind 1 of 1 and the end", h("01 01 00 03 01")),
-        ("kind of place 7", h("02 02 00 00 01 81 00 02")),
-        ("4 before 5", h("01 01 01 00 00")),
-        ("4 before 6", h("02 02 00 00 00 01 02")),
-        # 5
-        ("a byte behind", h("01 01 00 00 00")),
-        ("A and a byte", A + h("00")),
-        ("B and two bytes", B + h("ff ff")),
-        ("5 before 6, its own place", h("01 01 00 01 00 00")),
-        ("5 before 6, no word", h("02 01 00 00 00")),
-        # 6
-        ("no word yields kind 1", h("02 01 00 00")),
-        ("no word yields kind 0", h("02 01 01 00")),
-        ("kind 1 over itself", h("02 02 00 00 01 01 01")),
-        ("two kinds over each other", h("02 02 00 01 01 01 01 00")),
-        ("a cycle beside a constant", h("03 03 00 00 01 01 02 02 01 01")),
-        ("the lowest of two", h("03 02 01 00 00 01 02")),
-        ("one of two places", h("02 03 00 00 00 03 00 01 01 01 01")),
-        ("kind 1 over kinds 0 and 1", h("02 02 00 00 01 03 00 01")),
-        ("kind 1 over kinds 1 and 0", h("02 02 00 00 01 03 01 00")),
-        # as many rounds as there are kinds, and cycles that no round reaches
-        ("16 kinds, the last round", links(range(16), h("0f 00"))),
-        ("16 kinds, the first round", links(reversed(range(16)), h("0f 00"))),
-        ("15 kinds over a cycle", links(range(16), h("0f 01 0f"))),
-        ("16 kinds in a cycle", links(range(16), h("0f 01 00"))),
-        ("kinds above 7 over a cycle", h("10 10 00 00") + bytes(b for k in range(1, 16) for b in (k, 1, 8 if k == 8 else k - 1))),
-        # 96 words
-        ("96 words", words_96(0)),
-        ("96 words, a byte short", words_96(0)[:-1]),
-        ("96 words and a record", words_96(0) + h("00 00")),
-        ("97 words", h("01 61") + h("00 00") * 97),
-        ("the longest", words_96(95)),
-        ("the longest and a byte", words_96(95) + h("00")),
-        ("the longest, an empty kind", h("02") + LATE[1:942] + h("00") + LATE[943:]),
-        ("the longest, two kinds", LATE),
-        ("96 words of 8 places", words_96(96)),
-    ]:
-        yield f"vocabulary, {label}: {reply(check_vocabulary, vocabulary)}"
-
-
-def term_cases():
-    for name, vocabulary, label, term in [
-        # the bench: terms, situations and entries
-        ("A", A, "wait(up, free)", h("00 00 03 01 00 03 00")),
-        ("A", A, "done", h("00 05 00")),
-        ("A", A, "wait(down, .)", h("00 00 01 02 00")),
-        ("A", A, "wait(up, full)", h("00 00 03 01 00 04 00")),
-        ("A", A, "n0 of kind 1", h("01 80")),
-        ("B", B, "none", h("00 00 00")),
-        ("B", B, "more(none)", h("00 01 01 00 00")),
-        ("B", B, "more(more(none))", h("00 01 01 01 01 00 00")),
-        ("B", B, "more(more(more(.)))", h("00 01 01 01 01 01 00")),
-        ("C", C, "any", h("00 ff")),
-        ("C", C, "n0", h("00 80")),
-        ("C", C, "pair(n0, n0)", h("00 02 03 80 80")),
-        ("C", C, "pair(a, a)", h("00 02 03 00 00 00 00")),
-        ("C", C, "pair(a, b)", h("00 02 03 00 00 01 00")),
-        ("C", C, "pair(a, .)", h("00 02 01 00 00")),
-        ("C", C, "pair(n0, a)", h("00 02 03 80 00 00")),
-        ("C", C, "pair(n0, b)", h("00 02 03 80 01 00")),
-        ("C", C, "pair(n0, pair(., .))", h("00 02 03 80 02 00")),
-        ("C", C, "pair(pair(n0, n1), pair(n1, n0))", h("00 02 03 02 03 80 81 02 03 81 80")),
-        # the vocabulary first
-        ("no vocabulary", h(""), "no term", h("")),
-        ("17 kinds", h("11 01"), "no term", h("")),
-        ("97 words", h("01 61"), "no term", h("")),
-        ("no record", h("01 01"), "no term", h("")),
-        ("unknown place", h("01 01 00 01 01"), "no term", h("")),
-        ("a byte behind", h("01 01 00 00 00"), "no term", h("")),
-        ("an empty kind", h("02 01 00 00"), "no term", h("")),
-        ("one byte", h("01"), "any of kind 1", h("01 ff")),
-        ("0 kinds", h("00 01"), "any of kind 1", h("01 ff")),
-        ("0 words", h("01 00"), "any of kind 1", h("01 ff")),
-        ("no kind", h("01 01 00 01"), "any of kind 1", h("01 ff")),
-        ("unknown result", h("01 01 01 00"), "any of kind 1", h("01 ff")),
-        ("C and a byte", C + h("00"), "any of kind 1", h("01 ff")),
-        ("an empty kind", h("02 01 00 00"), "any of kind 1", h("01 ff")),
-        ("kind 1 is not empty", h("02 02 00 00 01 00"), "any of kind 1", h("01 ff")),
-        # 7 and 8
-        ("B", B, "one byte 00", h("00")),
-        ("C", C, "no byte", h("")),
-        ("C", C, "one byte 00", h("00")),
-        ("C", C, "one byte 07", h("07")),
-        ("C", C, "kind 1", h("01 ff")),
-        ("C", C, "8 before 9", h("01 02")),
-        ("C", C, "8 before 11", h("01 03")),
-        ("A", A, "any of kind 2", h("02 ff")),
-        ("A", A, "kind 3", h("03 ff")),
-        ("A", A, "kind 255", h("ff ff")),
-        ("16 kinds", constants(16), "any of kind 15", h("0f ff")),
-        ("16 kinds", constants(16), "kind 16", h("10 ff")),
-        ("C", C, "4,095 bytes", PAIRS_4095),
-        ("C", C, "4,095 bytes and a byte", PAIRS_4095 + h("00")),
-        ("C", C, "4,096 bytes", PAIRS_4096),
-        ("C", C, "4,097 bytes", PAIRS_4097),
-        ("C", C, "4,096 bytes, no word", h("00 03") + PAIRS_4097[2:-1]),
-        ("C", C, "4,097 bytes, no word", h("00 03") + PAIRS_4097[2:]),
-        # 9
-        ("C", C, "no map", h("00 02")),
-        ("C", C, "no first place", h("00 02 03")),
-        ("C", C, "no map in a place", h("00 02 03 00")),
-        ("C", C, "no second place", h("00 02 03 00 00")),
-        ("C", C, "no place behind a name", h("00 02 03 80")),
-        ("A", A, "no map in the second place", h("00 00 03 01 00 03")),
-        ("B", B, "no byte at level 32", more(31, "")),
-        ("B", B, "no map at level 32", more(31, "01")),
-        ("B", B, "no byte at level 33", more(32, "")),
-        # 10, and what is accepted at level 32
-        ("B", B, "level 32", more(31, "00 00")),
-        ("B", B, "level 32, a name", more(31, "80")),
-        ("B", B, "level 32, its place open", more(31, "01 00")),
-        ("B", B, "level 32, any", more(31, "ff")),
-        ("B", B, "level 32 and a byte", more(31, "00 00 00")),
-        ("B", B, "level 33", more(32, "00 00")),
-        ("B", B, "level 33, its place open", more(32, "01 00")),
-        ("B", B, "level 33, a name", more(32, "80")),
-        ("B", B, "level 33, any", more(32, "ff")),
-        ("B", B, "level 33, no word", more(32, "02")),
-        ("B", B, "level 33, no map", more(32, "01")),
-        ("two kinds", TWO, "level 33, 10 before 11", more(32, "04")),
-        ("two kinds", TWO, "level 33, 10 before 12", more(32, "03 00")),
-        ("two kinds", TWO, "level 32, 11", more(31, "04")),
-        ("two kinds", TWO, "level 32, 12", more(31, "03 00")),
-        ("two kinds", TWO, "level 33, 10 before 13", more(30, "02 03 80 01 01 80")),
-        ("two kinds", TWO, "level 32, 13", more(30, "02 03 80 80")),
-        # 11
-        ("C", C, "word 2", h("00 02 00")),
-        ("C", C, "word 3", h("00 03")),
-        ("C", C, "byte 7f", h("00 7f")),
-        ("C", C, "name 63", h("00 bf")),
-        ("C", C, "byte c0", h("00 c0")),
-        ("C", C, "byte fe", h("00 fe")),
-        ("C", C, "any in a place", h("00 02 03 ff")),
-        ("C", C, "word 3 in a place", h("00 02 03 00 00 03 00")),
-        ("A", A, "word 6", h("00 06 00")),
-        ("96 words", words_96(0), "word 95", h("00 5f 00")),
-        ("96 words", words_96(0), "word 96", h("00 60 00")),
-        # 12
-        ("A", A, "up for a step", h("00 01 00")),
-        ("A", A, "wait for a button", h("01 00 00")),
-        ("A", A, "free for a button", h("00 00 03 03 00 01 00")),
-        ("A", A, "up for a queue", h("00 00 03 01 00 01 00")),
-        ("A", A, "up for a queue alone", h("00 00 02 01 00")),
-        ("A", A, "free for a queue alone", h("00 00 02 03 00")),
-        ("A", A, "12 before 9", h("00 01")),
-        ("A", A, "12 before 14", h("00 03 01")),
-        # 13
-        ("A", A, "wait(n0, n0)", h("00 00 03 80 80")),
-        ("A", A, "wait(n0, n1)", h("00 00 03 80 81")),
-        ("A", A, "wait(n0, n63)", h("00 00 03 80 bf")),
-        ("A", A, "wait(n63, n63)", h("00 00 03 bf bf")),
-        ("A", A, "wait(n0, up)", h("00 00 03 80 01 00")),
-        ("two kinds", TWO, "fork(n0, more(n0))", h("00 02 03 80 01 01 80")),
-        ("two kinds", TWO, "fork(n0, fork(n0, n1))", h("00 02 03 80 02 03 80 81")),
-        ("two kinds", TWO, "fork(n0, fork(n0, n0))", h("00 02 03 80 02 03 80 80")),
-        # 14
-        ("C", C, "place 0 of a", h("00 00 01")),
-        ("C", C, "place 2 of a pair", h("00 02 04")),
-        ("C", C, "three places of a pair", h("00 02 07 00 00 00 00 00 00")),
-        ("B", B, "two places of more", h("00 01 03 00 00 00 00")),
-        ("B", B, "two places of more at level 32", more(31, "01 03")),
-        # 12 to 14 with gapped maps
-        ("gaps", GAPS, "left(., .)", h("00 02 00")),
-        ("gaps", GAPS, "left(a, .)", h("00 02 01 00 00")),
-        ("gaps", GAPS, "left(., b)", h("00 02 80 01 00")),
-        ("gaps", GAPS, "left(a, b)", h("00 02 81 00 00 01 00")),
-        ("gaps", GAPS, "left, place 1", h("00 02 02 00 00")),
-        ("gaps", GAPS, "left, place 6", h("00 02 40 00 00")),
-        ("gaps", GAPS, "left, places 0, 1 and 7", h("00 02 83 00 00 00 00 01 00")),
-        ("gaps", GAPS, "left, all but place 7", h("00 02 7f")),
-        ("gaps", GAPS, "left(b, .)", h("00 02 01 01 00")),
-        ("gaps", GAPS, "left(., a)", h("00 02 80 00 00")),
-        ("gaps", GAPS, "left(n0, n0)", h("00 02 81 80 80")),
-        ("gaps", GAPS, "left(n0, right(n0 and no more", h("00 02 81 80 03 12 80")),
-        ("gaps", GAPS, "right(b, a)", h("01 03 12 01 00 00 00")),
-        ("gaps", GAPS, "right(b, .)", h("01 03 02 01 00")),
-        ("gaps", GAPS, "right(., a)", h("01 03 10 00 00")),
-        ("gaps", GAPS, "right, place 0", h("01 03 01 01 00")),
-        ("gaps", GAPS, "right, places 0 and 1", h("01 03 03 01 00 00 00")),
-        ("gaps", GAPS, "right, all places", h("01 03 ff")),
-        ("gaps", GAPS, "right(., b)", h("01 03 10 01 00")),
-        ("gaps", GAPS, "left(a, right(b, a))", h("00 02 81 00 00 03 12 01 00 00 00")),
-        ("gaps", GAPS, "left(a, right, place 5", h("00 02 81 00 00 03 32")),
-        # every place of a map of eight
-        ("eight places", EIGHT, "all written", h("00 02 ff") + h("00 00 01 00") * 4),
-        ("eight places", EIGHT, "b in place 0", h("00 02 ff 01 00 01 00") + h("00 00 01 00") * 3),
-        ("eight places", EIGHT, "a in place 7", h("00 02 ff") + h("00 00 01 00") * 3 + h("00 00 00 00")),
-        ("eight places", EIGHT, "n0 in places 1 and 3", h("00 02 0a 80 80")),
-        ("eight places", EIGHT, "n0 in places 1 and 4", h("00 02 12 80 80")),
-        ("eight places", EIGHT, "no place 7", h("00 02 ff") + h("00 00 01 00") * 3 + h("00 00")),
-        # words late in a long vocabulary
-        ("the longest", LATE, "word 94 in place 7", h("00 5d 80 5e 00")),
-        ("the longest", LATE, "word 95 in place 7", h("00 5d 80 5f 00")),
-        ("the longest", LATE, "word 94 in place 6", h("00 5d 40 5e 00")),
-        ("the longest", LATE, "word 95 in place 6, word 94 in place 7", h("00 5d c0 5f 00 5e 00")),
-        ("the longest", LATE, "eight places", h("01 5e ff") + h("5f 00") * 8),
-        ("the longest", LATE, "eight places, word 94 in the last", h("01 5e ff") + h("5f 00") * 7 + h("5e 00")),
-        # 15
-        ("C", C, "any and a byte", h("00 ff 00")),
-        ("C", C, "n0 and n0", h("00 80 80")),
-        ("C", C, "a and a byte", h("00 00 00 00")),
-        ("C", C, "pair(a, .) and a byte", h("00 02 01 00 00 07")),
-        ("C", C, "pair(., .) and two bytes", h("00 02 00 ff ff")),
-    ]:
-        yield f"term, {name}, {label}: {reply(check_term, vocabulary, term)}"
-
-
 # Under C, the full tree of 11 levels with b for its last leaf, and with b for the last leaf of its first half.
 LAST_LEAF = PAIRS_4095[:-2] + h("01 00")
 MIDDLE_LEAF = PAIRS_4095[:2047] + h("01 00") + PAIRS_4095[2049:]
-
-# One kind, a constant 0 and a word 1 with eight places; its tree of 64 leaves, and that tree with a name for each leaf.
-WIDE = h("01 02  00 00  00 ff") + h("00") * 8
-LEAVES_64 = h("00 01 ff") + (h("01 ff") + h("00 00") * 8) * 8
-NAMES_64 = h("00 01 ff") + b"".join(h("01 ff") + bytes(range(n, n + 8)) for n in range(128, 192, 8))
 
 # Words of kind 0 with places 0 and 7 and of kind 1 with places 1 and 4, and two constants of each kind.
 GAPS_FAMILY = h("02 06  00 00  00 00  01 00  01 00  00 81 00 01  01 12 01 00")
 
 # One kind, a, b, and a word with places 0, 3 and 6.
 THREE = h("01 03  00 00  00 00  00 49 00 00 00")
-
-# Pairs of a pattern and a situation under a vocabulary, by groups.
-PATTERN_CASES = {
-    # document 01's own
-    "bench C": ("C", C, [
-        ("pair(n0, n0) with pair(a, a)", h("00 02 03 80 80"), h("00 02 03 00 00 00 00")),
-        ("pair(n0, n0) with pair(a, b)", h("00 02 03 80 80"), h("00 02 03 00 00 01 00")),
-        ("n0 with pair(a, a)", h("00 80"), h("00 02 03 00 00 00 00")),
-        ("any with pair(a, .)", h("00 ff"), h("00 02 01 00 00")),
-        ("any with pair(a, b)", h("00 ff"), h("00 02 03 00 00 01 00")),
-        ("a with a", h("00 00 00"), h("00 00 00")),
-        ("a with b", h("00 00 00"), h("00 01 00")),
-    ]),
-    "bench A": ("A", A, [
-        ("wait(up, free) with itself", h("00 00 03 01 00 03 00"), h("00 00 03 01 00 03 00")),
-        ("wait(up, free) with wait(up, full)", h("00 00 03 01 00 03 00"), h("00 00 03 01 00 04 00")),
-        ("wait(up, free) with wait(down, free)", h("00 00 03 01 00 03 00"), h("00 00 03 02 00 03 00")),
-        ("wait(up, free) with done", h("00 00 03 01 00 03 00"), h("00 05 00")),
-        ("done with done", h("00 05 00"), h("00 05 00")),
-        ("done with wait(up, full)", h("00 05 00"), h("00 00 03 01 00 04 00")),
-        ("wait(down, .) with wait(down, full)", h("00 00 01 02 00"), h("00 00 03 02 00 04 00")),
-        ("wait(down, .) with wait(up, full)", h("00 00 01 02 00"), h("00 00 03 01 00 04 00")),
-        ("wait(up, full) with itself", h("00 00 03 01 00 04 00"), h("00 00 03 01 00 04 00")),
-        ("wait(., full) with wait(down, full)", h("00 00 02 04 00"), h("00 00 03 02 00 04 00")),
-        ("wait(., full) with wait(down, free)", h("00 00 02 04 00"), h("00 00 03 02 00 03 00")),
-        ("wait(., .) with wait(up, full)", h("00 00 00"), h("00 00 03 01 00 04 00")),
-        ("wait(n0, n1) with wait(up, full)", h("00 00 03 80 81"), h("00 00 03 01 00 04 00")),
-        ("wait(., n0) with wait(up, full)", h("00 00 02 80"), h("00 00 03 01 00 04 00")),
-        ("n0 with up", h("01 80"), h("01 01 00")),
-    ]),
-    "bench B": ("B", B, [
-        ("more(more(none)) with itself", h("00 01 01 01 01 00 00"), h("00 01 01 01 01 00 00")),
-        ("more(more(none)) with none", h("00 01 01 01 01 00 00"), h("00 00 00")),
-        ("more(more(none)) with more(none)", h("00 01 01 01 01 00 00"), h("00 01 01 00 00")),
-        ("more(more(none)) with three", h("00 01 01 01 01 00 00"), h("00 01 01 01 01 01 01 00 00")),
-        ("more(more(more(.))) with three", h("00 01 01 01 01 01 00"), h("00 01 01 01 01 01 01 00 00")),
-        ("more(n0) with three", h("00 01 01 80"), h("00 01 01 01 01 01 01 00 00")),
-    ]),
-    # names
-    "names": ("C", C, [
-        ("n63 with pair(a, a)", h("00 bf"), h("00 02 03 00 00 00 00")),
-        ("pair(n63, n0) with pair(a, b)", h("00 02 03 bf 80"), h("00 02 03 00 00 01 00")),
-        ("pair(n0, n63) with pair(pair(a, b), b)", h("00 02 03 80 bf"), h("00 02 03 02 03 00 00 01 00 01 00")),
-        ("pair(n63, n63) with pair(a, b)", h("00 02 03 bf bf"), h("00 02 03 00 00 01 00")),
-        ("pair(n0, b) with pair(a, b)", h("00 02 03 80 01 00"), h("00 02 03 00 00 01 00")),
-        ("pair(n0, b) with pair(a, a)", h("00 02 03 80 01 00"), h("00 02 03 00 00 00 00")),
-        ("pair(a, n0) with pair(b, a)", h("00 02 03 00 00 80"), h("00 02 03 01 00 00 00")),
-        ("pair(., n0) with pair(pair(a, a), b)", h("00 02 02 80"), h("00 02 03 02 03 00 00 00 00 01 00")),
-        ("pair(n0, pair(., .)) with pair(a, b)", h("00 02 03 80 02 00"), h("00 02 03 00 00 01 00")),
-    ]),
-    "repeated names": ("C", C, [
-        ("pair(n0, n0) with pair(pair(a, b), pair(a, b))", h("00 02 03 80 80"), h("00 02 03 02 03 00 00 01 00 02 03 00 00 01 00")),
-        ("pair(n0, n0), the last word differs", h("00 02 03 80 80"), h("00 02 03 02 03 00 00 01 00 02 03 00 00 00 00")),
-        ("pair(n0, n0), the first word differs", h("00 02 03 80 80"), h("00 02 03 02 03 00 00 01 00 02 03 01 00 01 00")),
-        ("pair(n0, n0), the second is longer", h("00 02 03 80 80"), h("00 02 03 00 00 02 03 00 00 00 00")),
-        ("pair(n0, n0), the first is longer", h("00 02 03 80 80"), h("00 02 03 02 03 00 00 00 00 00 00")),
-        ("pair(n0, pair(n0, n1)) with pair(a, pair(a, b))", h("00 02 03 80 02 03 80 81"), h("00 02 03 00 00 02 03 00 00 01 00")),
-        ("pair(n0, pair(n0, n1)) with pair(b, pair(a, b))", h("00 02 03 80 02 03 80 81"), h("00 02 03 01 00 02 03 00 00 01 00")),
-        ("pair(n0, pair(., n0)) with pair(b, pair(a, b))", h("00 02 03 80 02 02 80"), h("00 02 03 01 00 02 03 00 00 01 00")),
-        ("pair(pair(n1, n0), n0) with pair(pair(b, a), a)", h("00 02 03 02 03 81 80 80"), h("00 02 03 02 03 01 00 00 00 00 00")),
-        ("pair(pair(n1, n0), n0) with pair(pair(b, a), b)", h("00 02 03 02 03 81 80 80"), h("00 02 03 02 03 01 00 00 00 01 00")),
-        ("pair(pair(., n0), n0) with pair(pair(pair(a, b), b), b)", h("00 02 03 02 02 80 80"), h("00 02 03 02 03 02 03 00 00 01 00 01 00 01 00")),
-        ("pair(n0, pair(n0, n0)), the third differs", h("00 02 03 80 02 03 80 80"), h("00 02 03 00 00 02 03 00 00 01 00")),
-        ("pair(n0, pair(n0, n0)), the second differs", h("00 02 03 80 02 03 80 80"), h("00 02 03 00 00 02 03 01 00 00 00")),
-        ("pair(n0, pair(n0, n0)), none differs", h("00 02 03 80 02 03 80 80"), h("00 02 03 01 00 02 03 01 00 01 00")),
-        ("pair(pair(n0, n1), pair(n1, n0)) with its names a, b", h("00 02 03 02 03 80 81 02 03 81 80"), h("00 02 03 02 03 00 00 01 00 02 03 01 00 00 00")),
-        ("pair(pair(n0, n1), pair(n1, n0)), not turned round", h("00 02 03 02 03 80 81 02 03 81 80"), h("00 02 03 02 03 00 00 01 00 02 03 00 00 01 00")),
-        ("pair(pair(n0, n0), n1) with pair(pair(a, a), b)", h("00 02 03 02 03 80 80 81"), h("00 02 03 02 03 00 00 00 00 01 00")),
-    ]),
-    "gaps": ("gaps", GAPS, [
-        ("left(n0, n1) with left(a, b)", h("00 02 81 80 81"), h("00 02 81 00 00 01 00")),
-        ("left(n0, .) with left(left(a, b), b)", h("00 02 01 80"), h("00 02 81 02 81 00 00 01 00 01 00")),
-        ("left(., n0) with left(left(a, b), b)", h("00 02 80 80"), h("00 02 81 02 81 00 00 01 00 01 00")),
-        ("left(., .) with left(a, b)", h("00 02 00"), h("00 02 81 00 00 01 00")),
-        ("left(a, .) with left(left(a, b), b)", h("00 02 01 00 00"), h("00 02 81 02 81 00 00 01 00 01 00")),
-        ("right(., n0) with right(b, a)", h("01 03 10 80"), h("01 03 12 01 00 00 00")),
-        ("right(n0, .) with right(right(b, a), a)", h("01 03 02 80"), h("01 03 12 03 12 01 00 00 00 00 00")),
-        ("left(n0, right(n1, n0)) with left(a, right(b, a))", h("00 02 81 80 03 12 81 80"), h("00 02 81 00 00 03 12 01 00 00 00")),
-        ("left(n0, right(., n0)) with left(left(a, b), right(b, a))", h("00 02 81 80 03 10 80"), h("00 02 81 02 81 00 00 01 00 03 12 01 00 00 00")),
-        ("any with left(., b)", h("00 ff"), h("00 02 80 01 00")),
-        ("any with left, place 1", h("00 ff"), h("00 02 83 00 00 00 00 01 00")),
-        ("any with left(a, right(., a))", h("00 ff"), h("00 02 81 00 00 03 10 00 00")),
-    ]),
-    "eight places": ("eight places", EIGHT, [
-        ("n0 in place 7", h("00 02 80 80"), h("00 02 ff") + h("00 00 01 00") * 4),
-        ("n0 in places 1 and 3, n1 in place 6", h("00 02 4a 80 80 81"), h("00 02 ff") + h("00 00 01 00") * 4),
-        ("the last place is missing", h("00 ff"), h("00 02 7f") + h("00 00 01 00") * 3 + h("00 00")),
-    ]),
-    "the longest": ("the longest", LATE, [
-        ("n0 for word 94", h("00 5d 80 80"), h("00 5d ff") + h("5f 00") * 7 + h("5e ff") + h("5f 00") * 8),
-    ]),
-    # 1 to 6, before all else
-    "no vocabulary": ("no vocabulary", h(""), [("no bytes", h(""), h(""))]),
-    "97 words": ("97 words", h("01 61"), [("no bytes", h(""), h(""))]),
-    "an empty kind": ("an empty kind", h("02 01 00 00"), [
-        ("no bytes", h(""), h("")),
-        ("any with a", h("00 ff"), h("00 00 00")),
-        ("n0 with a", h("00 80"), h("00 00 00")),
-    ]),
-    # 7 to 15, input 1
-    "pattern refused": ("C", C, [
-        ("no bytes", h(""), h("")),
-        ("pattern 7 before situation 8", h("00"), h("01 ff")),
-        ("pattern 8", h("01 80"), h("00 00 00")),
-        ("pattern 9", h("00 02 03 80"), h("00 00 00")),
-        ("pattern 9 before situation 7", h("00 02"), h("00")),
-        ("pattern 11", h("00 02 03 80 ff"), h("00 02 03 00 00 00 00")),
-        ("pattern 14", h("00 02 04"), h("00 00 00")),
-        ("pattern 15", h("00 80 80"), h("00 00 00")),
-        ("pattern 15 before situation 16", h("00 ff 00"), h("00 ff")),
-        ("pattern 15 before situation 17", h("00 80 00"), h("01 00 00")),
-    ]),
-    "pattern refused under A": ("A", A, [
-        ("pattern 12", h("00 00 03 03 00 01 00"), h("00 05 00")),
-        ("pattern 13", h("00 00 03 80 80"), h("00 00 03 01 00 03 00")),
-        ("pattern 13 before situation 13", h("00 00 03 bf bf"), h("00 00 03 80 80")),
-    ]),
-    # 7 to 15, input 2
-    "situation refused": ("C", C, [
-        ("situation 7", h("00 80"), h("00")),
-        ("situation 7, no byte", h("00 80"), h("")),
-        ("situation 8", h("00 80"), h("01 00 00")),
-        ("situation 9", h("00 80"), h("00 02 03 00 00")),
-        ("situation 9 before 16", h("00 80"), h("00 02 03 80")),
-        ("situation 11", h("00 80"), h("00 02 03 00 00 03 00")),
-        ("situation 11 behind a name", h("00 80"), h("00 02 03 80 ff")),
-        ("situation 14", h("00 80"), h("00 00 01")),
-        ("situation 15", h("00 80"), h("00 00 00 00")),
-        ("15 before 16", h("00 ff"), h("00 02 01 00 00 07")),
-        ("15 before 16, a name", h("00 80"), h("00 80 00")),
-        ("15 before a no", h("00 01 00"), h("00 00 00 00")),
-    ]),
-    "situation refused under A": ("A", A, [
-        ("situation 12", h("00 80"), h("00 00 03 03 00 01 00")),
-        ("situation 13", h("00 80"), h("00 00 03 80 80")),
-        ("15 before 17", h("00 ff"), h("01 01 00 00")),
-        ("12 before 17", h("00 ff"), h("01 03 00")),
-    ]),
-    # 16
-    "16": ("C", C, [
-        ("16, a name", h("00 ff"), h("00 80")),
-        ("16, any", h("00 80"), h("00 ff")),
-        ("16, the pattern itself", h("00 02 03 80 80"), h("00 02 03 80 80")),
-        ("16, a name behind a word", h("00 80"), h("00 02 03 00 00 bf")),
-        ("16, no place written", h("00 80"), h("00 02 00")),
-        ("16, a short map below", h("00 80"), h("00 02 03 00 00 02 02 00 00")),
-        ("16, a short map before a name", h("00 80"), h("00 02 01 80")),
-        ("16, a name before a short map", h("00 80"), h("00 02 03 80 02 00")),
-        ("16 before a no", h("00 00 00"), h("00 02 01 00 00")),
-        ("16, the same open place", h("00 02 01 00 00"), h("00 02 01 00 00")),
-    ]),
-    # 16 and 17
-    "17": ("A", A, [
-        ("16 before 17, a name", h("00 ff"), h("01 80")),
-        ("16 before 17, any", h("01 80"), h("02 ff")),
-        ("16 before 17, a short map", h("01 80"), h("00 00 01 01 00")),
-        ("16, the pattern's names do not bind", h("00 00 03 80 81"), h("00 00 03 01 00 80")),
-        ("17, any", h("00 ff"), h("01 01 00")),
-        ("17, a name", h("01 80"), h("02 03 00")),
-        ("17 before a no", h("00 05 00"), h("01 01 00")),
-        ("17 the other way", h("02 04 00"), h("00 05 00")),
-    ]),
-    # 19, and what comes before it
-    "19": ("C", C, [
-        ("19 before a yes", h("00 02 03 80 80"), h("00 02 03 00 00 00 00")),
-        ("19 before a no", h("00 02 03 80 80"), h("00 02 03 00 00 01 00")),
-        ("16 before 19", h("00 ff"), h("00 02 01 00 00")),
-        ("situation 15 before 19", h("00 ff"), h("00 00 00 00")),
-        ("pattern 7 before 19", h("00"), h("00 00 00")),
-    ]),
-    "17 before 19": ("A", A, [("17 before 19", h("00 ff"), h("01 01 00"))]),
-    "6 before 19": ("an empty kind", h("02 01 00 00"), [("6 before 19", h("00 ff"), h("00 00 00"))]),
-}
-
-# Longer ones: under B to level 32 and beyond, under C to 4,096 bytes, and 64 names.
-LONG_CASES = [
-    ("B", B, "n0 at level 32", more(31, "80"), more(31, "00 00")),
-    ("B", B, "more(n0) with level 32", h("00 01 01 80"), more(31, "00 00")),
-    ("B", B, "none at level 32 with a name there", more(31, "00 00"), more(31, "80")),
-    ("B", B, "pattern with level 33", more(32, "00 00"), more(31, "00 00")),
-    ("B", B, "situation with level 33", more(31, "80"), more(32, "00 00")),
-    ("C", C, "n0 with 4,095 bytes", h("00 80"), PAIRS_4095),
-    ("C", C, "pair(n0, n0) with 4,095 bytes", h("00 02 03 80 80"), PAIRS_4095),
-    ("C", C, "4,095 bytes with themselves", PAIRS_4095, PAIRS_4095),
-    ("C", C, "pair(n0, n0), its last word of 4,095 bytes differs", h("00 02 03 80 80"), LAST_LEAF),
-    ("C", C, "4,095 bytes, the last word differs", PAIRS_4095, LAST_LEAF),
-    ("C", C, "pair(n0, n0), the last word of its first half differs", h("00 02 03 80 80"), MIDDLE_LEAF),
-    ("C", C, "4,096 bytes with 4,095", PAIRS_4096, PAIRS_4095),
-    ("C", C, "situation of 4,096 bytes", h("00 80"), PAIRS_4096),
-    ("C", C, "situation of 4,097 bytes", h("00 80"), PAIRS_4097),
-    ("C", C, "pattern of 4,097 bytes", PAIRS_4097, PAIRS_4095),
-    ("wide", WIDE, "64 names", NAMES_64, LEAVES_64),
-]
-
-# The names that part is asked for, and the groups that it is asked for each. Twice 2^63 is 0 in 64 bits.
-PARTS = [
-    (0, ["bench C", "bench B", "repeated names", "gaps", "the longest", "no vocabulary", "an empty kind", "pattern refused", "situation refused", "16", "17"]),
-    (1, ["bench A", "gaps"]),
-    (63, ["names"]),
-    (64, ["names"]),
-    (128, ["bench C"]),
-    (2**63, ["bench C"]),
-    (2**64 - 1, ["bench C"]),
-]
-
-
-def line_of_match(length, name, vocabulary, label, pattern, situation):
-    """Match into a table of so many numbers, which holds 60,000 + i at i before the call."""
-    lent = [60000 + i for i in range(length)]
-    table = list(lent)
-    try:
-        answer = match(vocabulary, pattern, situation, table)
-    except Refused as refusal:
-        answer = refusal.reply
-    as_lent = sum(1 for old, new in zip(lent, table) if old == new)
-    others = "".join(f" {i}={new}" for i, (old, new) in enumerate(zip(lent, table)) if new not in (0, old))
-    return f"match into {length}, {name}, {label}: {answer}, {as_lent} as lent, {table.count(0)} zero{others}"
-
-
-def match_cases():
-    for group, (name, vocabulary, cases) in PATTERN_CASES.items():
-        for case in cases if not group.endswith("19") else []:
-            yield line_of_match(128, name, vocabulary, *case)
-    for length in (127, 129, 0, 130):
-        for group, (name, vocabulary, cases) in PATTERN_CASES.items():
-            for case in cases if group.endswith("19") else []:
-                yield line_of_match(length, name, vocabulary, *case)
-    for name, vocabulary, *case in LONG_CASES:
-        yield line_of_match(128, name, vocabulary, *case)
-
-
-def part_cases():
-    for number, groups in PARTS:
-        for group in groups:
-            name, vocabulary, cases = PATTERN_CASES[group]
-            for label, pattern, situation in cases:
-                found = part(vocabulary, pattern, situation, number)
-                yield f"part {number}, {name}, {label}: {found.hex() or 'empty'}"
-
 
 # ---------------------------------------------------------------- the families
 
@@ -905,9 +581,17 @@ def one_kind_a_name(vocabulary, pattern):
         return False
 
 
+def family(vocabulary, kind, most_in_pattern, most_in_situation):
+    """The accepted patterns and the situations of a kind, by the numbers of tokens; names are 0 and 63."""
+    start = bytes([kind])
+    patterns = [start + h("ff")] + [start + t for n in range(1, most_in_pattern + 1) for t in trees(vocabulary, kind, n, (0, 63), False)]
+    situations = [start + t for n in range(1, most_in_situation + 1) for t in trees(vocabulary, kind, n, (), True)]
+    return [p for p in patterns if one_kind_a_name(vocabulary, p)], situations
+
+
 def families():
-    """Each pattern with each situation of a kind, by the numbers of tokens; names are 0 and 63."""
-    for label, vocabulary_bytes, kind, most_in_pattern, most_in_situation in [
+    """Each pattern of a family with each situation."""
+    for label, vocabulary, *limits in [
         ("C", C, 0, 4, 5),
         ("gaps, kind 0", GAPS_FAMILY, 0, 4, 5),
         ("gaps, kind 1", GAPS_FAMILY, 1, 4, 5),
@@ -916,12 +600,8 @@ def families():
         ("A, kind 1", A, 1, 3, 3),
         ("A, kind 2", A, 2, 3, 3),
     ]:
-        vocabulary = read_vocabulary(vocabulary_bytes)
-        start = bytes([kind])
-        patterns = [start + h("ff")] + [start + t for n in range(1, most_in_pattern + 1) for t in trees(vocabulary, kind, n, (0, 63), False)]
-        patterns = [p for p in patterns if one_kind_a_name(vocabulary, p)]
-        situations = [start + t for n in range(1, most_in_situation + 1) for t in trees(vocabulary, kind, n, (), True)]
-        answers = [covered(vocabulary_bytes, p, s) for p in patterns for s in situations]
+        patterns, situations = family(read_vocabulary(vocabulary), *limits)
+        answers = [covered(vocabulary, p, s) for p in patterns for s in situations]
         parts = [tree for named in answers if named is not None for tree in named.values()]
         no = answers.count(None)
         yield (
@@ -931,8 +611,18 @@ def families():
         )
 
 
-# A section a call. A later call adds its function here.
-SECTIONS = [vocabulary_cases, term_cases, match_cases, part_cases, families]
+def listings_divide():
+    """The listing above against the matching above: each situation fits exactly one of a pattern and its entries."""
+    for vocabulary, *limits in [(C, 0, 3, 5), (GAPS_FAMILY, 0, 3, 5), (GAPS_FAMILY, 1, 3, 5), (THREE, 0, 3, 4), (A, 0, 3, 3)]:
+        read = read_vocabulary(vocabulary)
+        patterns, situations = family(read, *limits)
+        for pattern in patterns:
+            kind, tree = read_term(read, pattern)
+            names = [name.number for name in names_in(tree)]
+            if len(names) == len(set(names)):
+                heads = [pattern, *(bytes([kind]) + entry for entry in listing(read, tree))]
+                assert all(sum(covered(vocabulary, head, s) is not None for head in heads) == 1 for s in situations)
+
 
 # ---------------------------------------------------------------- values worked out by hand
 
@@ -1030,12 +720,70 @@ def matched_by_hand():
     assert [i for i in range(4095) if LAST_LEAF[i] != PAIRS_4095[i]] == [4093]
 
 
+def listed_by_hand():
+    """Document 01's own examples of list, READINGS' two, and listings counted on paper."""
+
+    def entries(vocabulary, pattern, length, behind=0):
+        """The answer and the bytes of list into so many, behind which so many stay as they were."""
+        answer, written, rest = listed(vocabulary, length, decoded(pattern))
+        assert rest == bytes([LENT_BYTE]) * behind
+        return answer, written.hex()
+
+    def refusal(vocabulary, pattern, length):
+        answer, written, rest = listed(vocabulary, length, decoded(pattern))
+        assert (written, rest) == (b"", bytes([LENT_BYTE]) * length)
+        return answer
+
+    # "A, wait(up, free): 3 entries, 15 bytes", as the program prints them; 15 bytes lent, 14, and more.
+    bench = "000500" + "0000010200" + "00000301000400"
+    assert entries(A, "00 00 03 01 00 03 00", 15) == ("accepted 3 15", bench)
+    assert entries(A, "00 00 03 01 00 03 00", 24, 9) == ("accepted 3 15", bench)
+    assert refusal(A, "00 00 03 01 00 03 00", 14) == "refused 20 3 15"
+    # "B, more(more(none)): entries `000000`, `0001010000`, `00010101010100`."
+    assert entries(B, "00 01 01 01 01 00 00", 15) == ("accepted 3 15", "000000" + "0001010000" + "00010101010100")
+    # "C, `00 ff`: 0 entries, 0 bytes."
+    assert entries(C, "00 ff", 0) == ("accepted 0 0", "")
+    assert entries(C, "00 ff", 4, 4) == ("accepted 0 0", "")
+    # "pair(n0, n0). Listed: 18, input 1, place 4", with no byte lent too.
+    assert refusal(C, "00 02 03 80 80", 100) == refusal(C, "00 02 03 80 80", 0) == "refused 18 1 4"
+    # READINGS: names of lower places stay; the earliest byte that is a second occurrence.
+    assert entries(C, "00 02 03 80 00 00", 18) == ("accepted 4 18", "000000" + "000100" + "000203800100" + "000203800200")
+    assert refusal(C, "00 02 03 02 03 80 81 02 03 81 80", 100) == "refused 18 1 9"
+    # Places 0 and 7, and 1 and 4: of left(a, right(b, a)) first a, then place 0 with left for a (01 is its map), then
+    # place 7 (81) with b for right, and in right place 1 (02) with right for b, and place 4 (12) with left for a.
+    assert entries(GAPS, "00 02 81 00 00 03 12 01 00 00 00", 35) == (
+        "accepted 5 35",
+        "000000" + "0002010200" + "00028100000100" + "000281000003020300" + "0002810000031201000200",
+    )
+    # Word n of 2^k - 1 in prefix order stands at 1 + 2n, so its entries have 2n + 3 bytes: in all 2^k - 1 squared and
+    # twice 2^k - 1, times the other words. 32 levels under B are such a chain of 32 words.
+    assert entries(B, "00 01 01 [1,60] 00 00", 1088)[0] == f"accepted 32 {32 * 32 + 2 * 32}"
+    assert refusal(C, "00 02 03 [1,14] 00 00 [17,2] [15,6] [13,14] [11,30] [9,62] [7,126] [5,254] [3,510]", 0) == f"refused 20 3 {2 * (511 * 511 + 2 * 511)}"
+    assert refusal(C, FULL_TREE, 0) == f"refused 20 3 {2 * (2047 * 2047 + 2 * 2047)}"
+    assert decoded(FULL_TREE) == PAIRS_4095
+
+
+def printed_by_hand():
+    """The text that document 01 gives whole, and READINGS' inputs."""
+    assert printed(h("00 10") + A + h("00 00 03 01 00 03 00")) == "leftovers 3\n1 000500\n2 0000010200\n3 00000301000400\n"
+    assert printed(h("00 0a") + C + h("00 ff")) == "leftovers 0\n"
+    # "No byte or one byte: the vocabulary is empty"; "Length 11 before C's ten bytes"
+    assert printed(h("")) == printed(h("00")) == printed(h("01")) == "refused 1 0 0\n"
+    assert printed(h("00 0b") + C) == "refused 7 1 0\n"
+
+
+FULL_TREE = "00 02 03 [1,18] 00 00 [21,2] [19,6] [17,14] [15,30] [13,62] [11,126] [9,254] [7,510] [5,1022] [3,2046]"
+
+
 def main():
     by_hand()
     matched_by_hand()
-    lines = [line for section in SECTIONS for line in section()]
-    labels = [line.rsplit(":", 1)[0] for line in lines]
-    assert len(labels) == len(set(labels)), "a label stands twice"
+    listed_by_hand()
+    printed_by_hand()
+    listings_divide()
+    cases = Path(__file__).parent.parent / "crates" / "examples" / "stdin"
+    programs = {"examples": lambda: examples(cases.read_text()), "families": families}
+    lines = list(programs[sys.argv[1]]())
     sys.stdout.write("".join(line + "\n" for line in lines))
 
 

@@ -1,24 +1,17 @@
-// Runs the checks, match and part on cases of document 01 and at its boundaries, and prints a line a case: its
-// label, and the reply in document 01's numbers. Then it compares match with a second matcher over families of
-// patterns and situations. tools/expected.py says what it must print.
-mod addresses;
-mod family;
-mod family_cases;
+// Reads cases from standard input, makes the call that each asks for, and prints a line a case: its label, and the
+// reply in document 01's numbers. The file `stdin` beside src/ has the cases; tools/expected.py says what they give.
+mod cases;
 mod lent;
-mod long;
-mod long_cases;
-mod match_cases;
+mod list_line;
 mod match_line;
+mod notation;
+mod report_line;
 mod say;
-mod table;
-mod term_cases;
-mod vocabulary_cases;
+
+use libc::STDIN_FILENO;
 
 fn main() {
-    vocabulary_cases::all();
-    term_cases::all();
-    match_cases::matches();
-    long_cases::all();
-    match_cases::parts();
-    family_cases::all();
+    let mut input = [0u8; 131072];
+    let n = io::read_full(STDIN_FILENO, &mut input);
+    cases::all(&input[..n]);
 }

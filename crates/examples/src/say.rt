@@ -10,6 +10,23 @@ pub(crate) fn text(bytes: &[u8]) {
     io::write_all(STDOUT_FILENO, bytes);
 }
 
+fn wide(byte: u8) -> u64 {
+    byte as u64
+}
+
+// Prints bytes in hexadecimal, or that there are none, and ends the line.
+pub(crate) fn bytes(found: &[u8]) {
+    if found.len() == 0 {
+        text(b"empty");
+    }
+    let mut i = 0;
+    while i < found.len() {
+        io::print_hex(STDOUT_FILENO, wide(found[i]), 2);
+        i += 1;
+    }
+    text(b"\n");
+}
+
 // Prints a number and what stands behind it.
 pub(crate) fn count(n: usize, behind: &[u8]) {
     io::print_decimal(STDOUT_FILENO, n as u64);
@@ -29,7 +46,7 @@ pub(crate) fn refused(line: usize, input: usize, place: usize) {
 }
 
 // Lines 1 to 6. The vocabulary is input 0.
-fn vocabulary_refused(why: VocabularyRefusal) {
+pub(crate) fn vocabulary_refused(why: VocabularyRefusal) {
     match why {
         VocabularyRefusal::Head => refused(1, 0, 0),
         VocabularyRefusal::WordCount => refused(2, 0, 1),
@@ -41,7 +58,7 @@ fn vocabulary_refused(why: VocabularyRefusal) {
 }
 
 // Lines 7 to 15, of a term that is input 1 or input 2.
-fn term_refused(why: TermRefusal, input: usize) {
+pub(crate) fn term_refused(why: TermRefusal, input: usize) {
     match why {
         TermRefusal::Size => refused(7, input, 0),
         TermRefusal::NoSuchKind => refused(8, input, 0),
@@ -66,17 +83,14 @@ pub(crate) fn inputs_refused(why: InputsRefusal) {
     }
 }
 
-fn term_accepted(words: usize, deepest: usize) {
+pub(crate) fn accepted(one: usize, other: usize) {
     text(b"accepted");
-    number(words);
-    number(deepest);
+    number(one);
+    number(other);
 }
 
-// Checks a vocabulary and prints the case's line.
-pub(crate) fn vocabulary(label: &[u8], vocabulary: &[u8]) {
-    text(b"vocabulary, ");
-    text(label);
-    text(b": ");
+// Checks a vocabulary and prints the reply.
+pub(crate) fn vocabulary(vocabulary: &[u8]) {
     match signature::check_vocabulary(vocabulary) {
         VocabularyAnswer::Accepted => text(b"accepted"),
         VocabularyAnswer::Refused(why) => vocabulary_refused(why),
@@ -84,16 +98,10 @@ pub(crate) fn vocabulary(label: &[u8], vocabulary: &[u8]) {
     text(b"\n");
 }
 
-// Checks a term under a vocabulary, each with its label, and prints the case's line. A term that is checked
-// alone is input 1.
-pub(crate) fn term(name: &[u8], vocabulary: &[u8], label: &[u8], term: &[u8]) {
-    text(b"term, ");
-    text(name);
-    text(b", ");
-    text(label);
-    text(b": ");
+// Checks a term under a vocabulary and prints the reply. A term that is checked alone is input 1.
+pub(crate) fn term(vocabulary: &[u8], term: &[u8]) {
     match reader::check_term(vocabulary, term) {
-        TermAnswer::Accepted(words, deepest) => term_accepted(words, deepest),
+        TermAnswer::Accepted(words, deepest) => accepted(words, deepest),
         TermAnswer::Vocabulary(why) => vocabulary_refused(why),
         TermAnswer::Term(why) => term_refused(why, 1),
     }

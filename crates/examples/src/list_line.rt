@@ -1,0 +1,167 @@
+// List on one case: calls it and prints the reply and the slice. The lent slice is filled with 238 (ee) before the call.
+use crate::notation;
+use crate::say;
+use complement::ListAnswer;
+use reader::TermAnswer;
+ghost use Prim.Native.Nat.{_<_};
+ghost use lib.ListN.{length};
+
+fn answer(given: ListAnswer) {
+    match given {
+        ListAnswer::Listed(entries, bytes) => say::accepted(entries, bytes),
+        ListAnswer::Vocabulary(why) => say::vocabulary_refused(why),
+        ListAnswer::Pattern(why) => say::term_refused(why, 1),
+        ListAnswer::Repeated(at) => say::refused(18, 1, at),
+        ListAnswer::NoRoom(bytes) => say::refused(20, 3, bytes),
+    }
+}
+
+// How many bytes of the slice the entries have.
+fn written(given: ListAnswer) -> usize {
+    match given {
+        ListAnswer::Listed(_, bytes) => bytes,
+        ListAnswer::Vocabulary(_) => 0,
+        ListAnswer::Pattern(_) => 0,
+        ListAnswer::Repeated(_) => 0,
+        ListAnswer::NoRoom(_) => 0,
+    }
+}
+
+// A sum of bytes in which each has its own weight: the powers of 31, the last byte's being 1, modulo 65,521.
+pub(crate) fn sum(bytes: &[u8]) -> usize {
+    let mut total = 0;
+    let mut i = 0;
+    while i < bytes.len() {
+        total = (31 * total + notation::wide(bytes[i])) % 65521;
+        i += 1;
+    }
+    total
+}
+
+// How many bytes are as they were lent.
+fn as_lent(bytes: &[u8]) -> usize {
+    let mut n = 0;
+    let mut i = 0;
+    while i < bytes.len() {
+        let byte = bytes[i];
+        i += 1;
+        if byte == 238 {
+            n += 1;
+        }
+    }
+    n
+}
+
+// Tells the sum of the entries' bytes, and how many bytes behind them are as lent.
+fn told_sum(given: ListAnswer, out: &[u8]) {
+    let n = written(given);
+    let behind = notation::between(out, n, out.len());
+    answer(given);
+    say::text(b", sum ");
+    say::count(sum(notation::between(out, 0, n)), b", ");
+    say::count(as_lent(behind), b" of ");
+    say::count(behind.len(), b" behind as lent\n");
+}
+
+// Tells the whole slice.
+fn told_whole(given: ListAnswer, out: &[u8]) {
+    answer(given);
+    say::text(b", ");
+    say::bytes(out);
+}
+
+fn accepted(vocabulary: &[u8], term: &[u8]) -> bool {
+    match reader::check_term(vocabulary, term) {
+        TermAnswer::Accepted(_, _) => true,
+        TermAnswer::Vocabulary(_) => false,
+        TermAnswer::Term(_) => false,
+    }
+}
+
+// Where the entry that begins at an offset ends: an entry is an accepted pattern, and no part from its front is one.
+fn entry_end(vocabulary: &[u8], entries: &[u8], from: usize) -> usize
+    requires { ⌜ from < length (now entries) ⌝ }
+    ensures { λ r. ⌜ from < r ⌝ }
+{
+    let mut to = from;
+    while to < entries.len() {
+        to += 1;
+        if accepted(vocabulary, notation::between(entries, from, to)) {
+            return to;
+        }
+    }
+    to
+}
+
+fn same(one: &[u8], other: &[u8]) -> bool {
+    if one.len() != other.len() {
+        return false;
+    }
+    let mut i = 0;
+    while i < one.len() {
+        if one[i] != other[i] {
+            return false;
+        }
+        i += 1;
+    }
+    true
+}
+
+// As which of the entries, from 1, the sought one stands there, or 0.
+fn place(vocabulary: &[u8], sought: &[u8], entries: &[u8]) -> usize {
+    let mut number = 0;
+    let mut at = 0;
+    while at < entries.len() {
+        let end = entry_end(vocabulary, entries, at);
+        number += 1;
+        if same(notation::between(entries, at, end), sought) {
+            return number;
+        }
+        at = end;
+    }
+    0
+}
+
+// Tells where the sought entry stands.
+fn told_place(given: ListAnswer, vocabulary: &[u8], sought: &[u8], out: &[u8]) {
+    answer(given);
+    let number = place(
+        vocabulary,
+        sought,
+        notation::between(out, 0, written(given)),
+    );
+    if number == 0 {
+        say::text(b", it is no entry\n");
+        return;
+    }
+    say::text(b", it is entry ");
+    say::count(number, b"\n");
+}
+
+// Lists into the lent slice, and tells the answer and what the line asks of the slice.
+fn asked(key: u8, vocabulary: &[u8], pattern: &[u8], sought: &[u8], out: &mut [u8]) {
+    let given = complement::list(vocabulary, pattern, out);
+    if key == b'l' {
+        told_whole(given, out);
+    }
+    if key == b's' {
+        told_sum(given, out);
+    }
+    if key == b'f' {
+        told_place(given, vocabulary, sought, out);
+    }
+}
+
+// Lends the first so many bytes of a slice.
+fn lend(key: u8, vocabulary: &[u8], pattern: &[u8], sought: &[u8], out: &mut [u8], length: usize) {
+    if out.len() < length {
+        return;
+    }
+    asked(key, vocabulary, pattern, sought, &mut out[0..length]);
+}
+
+// Lists into so many bytes, at most 524,288.
+pub(crate) fn listed(key: u8, vocabulary: &[u8], pattern: &[u8], sought: &[u8], length: usize) {
+    let mut out = [238u8; 524288];
+    lend(key, vocabulary, pattern, sought, &mut out, length);
+}

@@ -1,0 +1,32 @@
+// The text of the program `leftovers` for an input, on one case.
+use crate::list_line;
+use crate::notation;
+use crate::say;
+
+// Tells the whole text, or its length and a sum of its bytes.
+fn told(key: u8, text: &[u8]) {
+    if key == b'd' {
+        say::count(text.len(), b" bytes, sum ");
+        say::count(list_line::sum(text), b"\n");
+        return;
+    }
+    say::text(text);
+}
+
+// Tells the first so many bytes of a text.
+fn told_first(key: u8, text: &[u8; 524288], n: usize) {
+    told(key, notation::between(text, 0, n));
+}
+
+fn asked(key: u8, input: &[u8]) {
+    let mut text = [0u8; 524288];
+    let n = report::print(input, &mut text);
+    told_first(key, &text, n);
+}
+
+// Asks for the text for the input that a line writes, of at most 70,000 bytes.
+pub(crate) fn printed(key: u8, line: &[u8]) {
+    let mut input = [0u8; 70000];
+    let n = notation::decode(line, &mut input);
+    asked(key, notation::between(&input, 0, n));
+}
