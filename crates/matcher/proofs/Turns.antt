@@ -1,21 +1,25 @@
 -- Turns: the loop of the walk, turn by turn, and that turns come to an end.
 use mathlib.Core.Path.{_≡_, refl, sym, ap, ap₂, _∙_, subst, subst₂}
-use mathlib.Core.Bool.{Bool, true, false, true≢false, false≢true}
-use mathlib.Core.List.{List, [], _∷_, _++_}
-use Prim.Native.Nat.{ℕ, zero, suc, _+_, _-_, _*_, _/_, _%_, _<_, _≤_}
+use mathlib.Core.Bool.{Bool, true, false, false≢true}
+use mathlib.Core.List.{List, _∷_, _++_}
+use Prim.Native.Nat.{ℕ, zero, suc, _+_, _-_, _*_, _%_, _<_, _≤_}
+use native.Mathlib.Nat.{le-trans}
 use native.Mathlib.Numerals.{add-one}
 use native.Mathlib.Omega.{arith}
+use mir.Syntax.{w64}
+use mir.Val.{Fits}
+use mir.Facts.{fits-below}
 use lib.Dec.{eqb}
-use lib.ListN.{length, getD, drop, set, replicate, length-set}
+use lib.ListN.{length, getD, set, replicate, length-set}
 use borrow.Author.Tests.{eq-eqb, ne-eqb}
 use Rattle.terms.specs.Term.{Term, any, var, app, Terms, nil, cons, Ground, gapp, Grounds, gnil, gcons}
 use Rattle.terms.specs.Filling.{Filling}
-use Rattle.terms.specs.Matcher.{matcher, withOpen, noFilling}
-use Rattle.wire.specs.Vocabulary.{Vocabulary, signature, mapOf, InOrder}
-use Rattle.wire.specs.Written.{writtenMap, levels}
+use Rattle.terms.specs.Matcher.{withOpen, noFilling}
+use Rattle.wire.specs.Vocabulary.{Vocabulary, signature, mapOf}
+use Rattle.wire.specs.Written.{writtenMap}
 use Rattle.wire.specs.Matching.{Inputs, size}
 use Rattle.wire.proofs.Words.{length-symbols}
-use Rattle.wire.proofs.GroundBytes.{joined, size-least}
+use Rattle.wire.proofs.GroundBytes.{joined}
 use Rattle.matcher.specs.Walking.{writtenIn, placesIn, Framed, Standing, ends, Covered, InputsRead, Walked, WalkedOver}
 use Rattle.matcher.proofs.Marks.{Mark, marks, marksOf, marks-none, Shifted, marks-place, marks-gap, marks-last, turnsOf, turns-last, chained}
 use Rattle.matcher.proofs.Side.{Side, Facing, facing, due, stands, situation-inside, turn-open}
@@ -76,6 +80,16 @@ turn-leave {frames = frames} {depth = suc n} c h e =
       shallow = omega (arith, c .shallow);
       frameEntries = c .frameEntries;
     }
+
+pub top-slot : {p s frames spans : List ℕ} {depth i j : ℕ} → Walking p s frames spans depth i j → 0 < depth → depth - 1 < 33
+top-slot c some = let shallow = c .shallow in omega arith
+
+-- An offset does not wrap, nor does a level.
+pub offset-fits : {n m : ℕ} → n ≤ m → m ≤ 4096 → Fits w64 n
+offset-fits h small = fits-below tt (le-trans h small)
+
+pub level-fits : {depth : ℕ} → depth ≤ 32 → Fits w64 (depth + 1)
+level-fits room = record { fits = omega arith }
 
 -- ---- a turn that takes the lowest place off the last frame, which is y then
 
@@ -234,8 +248,20 @@ module _ {p s frames spans : List ℕ} {depth i j : ℕ} (a : InputsRead p s) (a
   pub word-situation : j + 2 ≤ length s
   word-situation = situation-word (at .side) (a .reads .vocabulary .inOrder) .inside
 
+  pub pattern-second : i + 1 < length p
+  pattern-second = omega (arith, word-pattern)
+
+  pub situation-second : j + 1 < length s
+  situation-second = omega (arith, word-situation)
+
+  pub situation-first : j < length s
+  situation-first = omega (arith, word-situation)
+
   pub word-room : 0 < depth → depth ≤ 32
   word-room some = let deep = at .side .marked .1 in omega arith
+
+  pub word-slot : 0 < depth → depth < 33
+  word-slot some = let room = word-room some in omega arith
 
   pub word-differs : (getD p i 0 ≡ getD s j 0 → ⊥) → WalkedOver (a .inputs) spans false
   word-differs d =
@@ -335,6 +361,14 @@ pub end-inside : {p s frames spans : List ℕ} {depth i j end : ℕ} (a : Inputs
 end-inside a at e =
     let h = e (stands (at .side) (a .reads .vocabulary .inOrder)) in
     (omega arith, omega (arith, situation-inside (at .side)))
+
+pub name-covers : {p s frames spans : List ℕ} {depth i j end b : ℕ} (a : InputsRead p s) → AtName (a .inputs) p s frames spans depth i j →
+    ((t : Standing s j) → end ≡ ends t) → b ≡ getD p i 0 →
+    ((b - 128 < 64) × (j + (end - j) ≤ length s) × (length s ≤ 4096)) × (getD spans (2 * (b - 128)) 0 + getD spans (2 * (b - 128) + 1) 0 ≤ length s)
+name-covers a at e q =
+    let inside = end-inside a at e in
+    let low = name-known a at in
+    ((omega arith, omega arith, a .reads .situationLimits .most), rw q (name-spans a at))
 
 -- ---- the measure
 

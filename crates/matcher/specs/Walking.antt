@@ -4,6 +4,7 @@
 --   Framed x w p                x is the frame of these two
 --   Standing s at               a ground term stands in the bytes s at an offset
 --   ends a                      where it ends
+--   Gathered s a b n r          r is 0 exactly where the n bytes from a on are those from b on
 --   Same s a b n r              r tells whether the n bytes from a on are those from b on
 --   Covered                     what noting a name's part does to the spans, and its answer
 --   InputsRead p s              inputs that the bytes p and s write
@@ -45,6 +46,10 @@ pub record Standing (s : List ℕ) (at : ℕ) : Type 0 where
 
 abbrev pub ends : {s : List ℕ} {at : ℕ} → Standing s at → ℕ
 ends {at} a = at + size (a .vocabulary) (a .ground)
+
+pub record Gathered (s : List ℕ) (a b n r : ℕ) : Type 0 where
+  pub none : r ≡ 0 → take n (drop a s) ≡ take n (drop b s)
+  pub some : take n (drop a s) ≡ take n (drop b s) → r ≡ 0
 
 pub record Same (s : List ℕ) (a b n : ℕ) (r : Bool) : Type 0 where
   pub yes : r ≡ true → take n (drop a s) ≡ take n (drop b s)

@@ -3,7 +3,7 @@ ghost use mathlib.Core.Path.{_≡_};
 ghost use Prim.Native.Nat.{_+_, _*_, _/_, _<_, _≤_};
 ghost use lib.Count.{ones};
 ghost use lib.ListN.{length, getD, replicate};
-ghost use Rattle.matcher.specs.Walking.{placesIn, writtenIn, Framed, Standing, ends, Same, Covered, InputsRead, Walked};
+ghost use Rattle.matcher.specs.Walking.{placesIn, writtenIn, Framed, Standing, ends, Gathered, Same, Covered, InputsRead, Walked};
 ghost use Rattle.wire.specs.Matching.{partSpan, MatchPromise, PartPromise};
 ghost use Rattle.matcher.specs.Answers.{matchNumbers};
 use reader::InputsAnswer;
@@ -52,19 +52,34 @@ fn end_of(s: &[u8], at: usize) -> usize
     end
 }
 
-// Whether the n bytes from one offset on are those from another on.
+// The differences between the n bytes from one offset on and those from another on, gathered: 0 where
+// there is none.
+fn differences(s: &[u8], a: usize, b: usize, n: usize) -> u8
+    requires { ⌜ (a + n ≤ length (now s)) × (b + n ≤ length (now s)) ⌝ }
+    ensures { λ r. ⌜ Gathered (now (s .entry)) a b n r ⌝ }
+{
+    let mut gathered: u8 = 0;
+    let mut i: usize = 0;
+    while i < n {
+        gathered = gathered | (s[a + i] ^ s[b + i]);
+        i += 1;
+    }
+    gathered
+}
+
+// Whether the n bytes from one offset on are those from another on. A block of 64 is compared at once.
 fn same(s: &[u8], a: usize, b: usize, n: usize) -> bool
     requires { ⌜ (a + n ≤ length (now s)) × (b + n ≤ length (now s)) ⌝ }
     ensures { λ r. ⌜ Same (now (s .entry)) a b n r ⌝ }
 {
     let mut i: usize = 0;
-    while i < n {
-        if s[a + i] != s[b + i] {
+    while i + 64 <= n {
+        if differences(s, a + i, b + i, 64) != 0 {
             return false;
         }
-        i += 1;
+        i += 64;
     }
-    true
+    differences(s, a + i, b + i, n - i) == 0
 }
 
 // A name covers the part from an offset on: the first time it is noted, later it must be the same part.
@@ -143,9 +158,9 @@ fn walk(p: &[u8], s: &[u8], spans: &mut [u16; 128]) -> bool
                 if due % 2 == 0 {
                     j = end_of(s, j);
                 } else {
-                    let b = wide(p[i]);
+                    let b = p[i];
                     if b < 128 {
-                        if p[i] != s[j] {
+                        if b != s[j] {
                             return false;
                         }
                         frames[depth] = frame(p[i + 1], s[j + 1]);
@@ -154,7 +169,7 @@ fn walk(p: &[u8], s: &[u8], spans: &mut [u16; 128]) -> bool
                         j += 2;
                     } else {
                         let end = end_of(s, j);
-                        if !cover(s, spans, b - 128, j, end - j) {
+                        if !cover(s, spans, wide(b) - 128, j, end - j) {
                             return false;
                         }
                         i += 1;

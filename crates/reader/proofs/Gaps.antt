@@ -1,6 +1,7 @@
 -- Gaps: the bytes of an accepted term tell its first gap.
 --
---   gap-ends, gap-last, gap-other, gap-short, gap-full   what gapIn finds at an offset of some bytes
+--   gap-there, gap-none    whether an answer is a gap
+--   gap-past, gap-other, gap-short, gap-full   what gapIn finds at an offset of some bytes
 --   gap-reads    in the bytes of a good term gapIn finds the first gap
 --
 use mathlib.Core.Path.{_≡_, refl, sym, ap, ap₂, _∙_, subst}
@@ -12,7 +13,7 @@ use native.Mathlib.Omega.{arith}
 use lib.Dec.{eqb, ltb}
 use lib.ListN.{length, getD, drop, length-append, drop-of-length-le}
 use lib.Seq.{drop-cons}
-use borrow.Author.Tests.{lt-ltb, le-ltb, eq-eqb, ne-eqb}
+use borrow.Author.Tests.{lt-ltb, le-ltb, eq-eqb, ne-eqb, ltb-true, ltb-false}
 use Rattle.terms.specs.Signature.{arguments}
 use Rattle.terms.specs.Term.{Term, any, var, app, Terms, nil, cons, Sorted, SortedAll}
 use Rattle.wire.specs.Map.{mapBytes}
@@ -21,7 +22,13 @@ use Rattle.wire.specs.Written.{nameByte, writtenMap, encodeAt, encodeAll, encod
 use Rattle.wire.proofs.Cond.{cond-true, cond-false}
 use Rattle.wire.proofs.Theorems.{full-map-means-no-open-place}
 use Rattle.wire.proofs.Words.{length-symbols, arguments-word}
-use Rattle.reader.specs.Gaps.{gapIn}
+use Rattle.reader.specs.Gaps.{gapIn, gapOf}
+
+pub gap-there : (n q : ℕ) → q < n → gapOf n q ≡ some q
+gap-there n q h = cond-true (ltb q n) (some q) none (lt-ltb q n h)
+
+pub gap-none : (n q : ℕ) → n ≤ q → gapOf n q ≡ none
+gap-none n q h = cond-false (ltb q n) (some q) none (le-ltb q n h)
 
 -- ---- at the front of some bytes
 
@@ -42,13 +49,21 @@ module _ (maps : List ℕ) (b m : ℕ) (l : List ℕ) (at : ℕ) where
 -- ---- at an offset
 
 module _ (maps t : List ℕ) (at : ℕ) where
-  pub gap-ends : length t ≤ at → none ≡ gapIn maps (drop at t) at
+  gap-ends : length t ≤ at → none ≡ gapIn maps (drop at t) at
   gap-ends h = ap (λ l. gapIn maps l at) (sym (drop-of-length-le t h))
 
-  pub gap-last : at < length t → length t ≤ at + 1 → some at ≡ gapIn maps (drop at t) at
+  gap-last : at < length t → length t ≤ at + 1 → some at ≡ gapIn maps (drop at t) at
   gap-last h k =
       ap (λ l. gapIn maps l at)
       (sym (drop-cons t at 0 h ∙ ap {B = List ℕ} (λ l. getD t at 0 ∷ l) (drop-of-length-le t {i = suc at} (omega arith))))
+
+  -- No two bytes are left.
+  pub gap-past : length t ≤ at + 1 → gapOf (length t) at ≡ gapIn maps (drop at t) at
+  gap-past k = go (ltb at (length t)) refl
+    where
+      go : (b : Bool) → ltb at (length t) ≡ b → cond b (some at) none ≡ gapIn maps (drop at t) at
+      go true e = gap-last (ltb-true at (length t) e) k
+      go false e = gap-ends (ltb-false at (length t) e)
 
   two-bytes : at + 1 < length t → drop at t ≡ getD t at 0 ∷ getD t (at + 1) 0 ∷ drop (at + 2) t
   two-bytes h =
@@ -63,11 +78,11 @@ module _ (maps t : List ℕ) (at : ℕ) where
     standing : b ∷ getD t (at + 1) 0 ∷ drop (at + 2) t ≡ drop at t
     standing = ap {B = List ℕ} (λ b. b ∷ getD t (at + 1) 0 ∷ drop (at + 2) t) first ∙ sym (two-bytes h)
 
-    pub gap-other : 95 < b → some at ≡ gapIn maps (drop at t) at
-    gap-other k = sym (front-other maps b (getD t (at + 1) 0) (drop (at + 2) t) at k) ∙ ap (λ l. gapIn maps l at) standing
+    pub gap-other : 95 < b → gapOf (length t) at ≡ gapIn maps (drop at t) at
+    gap-other k = gap-there (length t) at (omega arith) ∙ sym (front-other maps b (getD t (at + 1) 0) (drop (at + 2) t) at k) ∙ ap (λ l. gapIn maps l at) standing
 
-    pub gap-short : b ≤ 95 → (getD t (at + 1) 0 ≡ getD maps b 0 → ⊥) → some (at + 1) ≡ gapIn maps (drop at t) at
-    gap-short k d = sym (front-short maps b (getD t (at + 1) 0) (drop (at + 2) t) at k d) ∙ ap (λ l. gapIn maps l at) standing
+    pub gap-short : b ≤ 95 → (getD t (at + 1) 0 ≡ getD maps b 0 → ⊥) → gapOf (length t) (at + 1) ≡ gapIn maps (drop at t) at
+    gap-short k d = gap-there (length t) (at + 1) h ∙ sym (front-short maps b (getD t (at + 1) 0) (drop (at + 2) t) at k d) ∙ ap (λ l. gapIn maps l at) standing
 
     pub gap-full : b ≤ 95 → getD t (at + 1) 0 ≡ getD maps b 0 → gapIn maps (drop (at + 2) t) (at + 2) ≡ gapIn maps (drop at t) at
     gap-full k e = sym (front-full maps b (getD t (at + 1) 0) (drop (at + 2) t) at k e) ∙ ap (λ l. gapIn maps l at) standing

@@ -1,4 +1,4 @@
--- The replies behind a whole term, at the deepest level and for what is wrong at a place.
+-- The replies behind a whole term and for what is wrong at a place.
 use mathlib.Core.Path.{_≡_, refl, sym, ap, _∙_}
 use mathlib.Core.List.{List, [], _∷_}
 use Prim.Native.Nat.{ℕ, suc, _+_, _-_, _<_, _≤_}
@@ -6,7 +6,7 @@ use native.Mathlib.Omega.{arith}
 use lib.ListN.{length, getD, drop, length-drop, drop-of-length-le}
 use lib.Seq.{drop-cons, drop-drop}
 use Rattle.wire.specs.Reply.{accepted, refused, replyOf}
-use Rattle.wire.specs.Reading.{Got, got, stop, Read, offset, atLimit, line15}
+use Rattle.wire.specs.Reading.{Got, got, stop, Read, offset, line15}
 use Rattle.wire.specs.Checks.{termValues}
 use Rattle.wire.proofs.Bytes.{offset-drop}
 use Rattle.wire.proofs.Scan.{Tally, tallied}
@@ -26,14 +26,6 @@ module _ (t : List ℕ) (at : ℕ) where
 
   pub answer-whole : (y : Tally) → length t ≤ at → accepted (y .words ∷ y .deepest ∷ []) ≡ answerOf t (got y (drop at t))
   answer-whole y h = ap (λ l. answerOf t (got y l)) (sym (drop-of-length-le t h))
-
-  pub answer-deep : at < length t → refused 10 1 at ≡ answerOf t (atLimit (drop at t))
-  answer-deep h = ap (refused 10 1) (sym (offset-rest h)) ∙ ap (λ l. answerOf t (atLimit l)) (sym (drop-cons t at 0 h))
-
-  pub answer-ends : at ≤ length t → length t ≤ at → refused 9 1 at ≡ answerOf t (atLimit (drop at t))
-  answer-ends h g =
-      let same : at ≡ offset t [] = omega arith in
-      ap (refused 9 1) same ∙ ap (λ l. answerOf t (atLimit l)) (sym (drop-of-length-le t g))
 
   -- What is wrong at the rest's first byte, or where it ends.
   pub answer-here : (k : ℕ) → at ≤ length t → refused k 1 at ≡ answerOf t (stop k (drop at t))

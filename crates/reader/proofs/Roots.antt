@@ -46,16 +46,16 @@ module _ (W : Vocabulary) (s : ℕ) (t : List ℕ) where
       ∙ root-step (whole (drop 1 (drop 1 t))) (node-whole W s [] (drop 1 t) (omega (arith, length-drop 1 t)) (getD-drop 1 t 0 0 ∙ e) few)
 
   module _ (other : getD t 1 0 ≡ 255 → ⊥) {n : ℕ} {maps : List ℕ} where
-    root-stood : {y : Answer} → Stood W n maps s 1 (drop 1 t) y → scanNode (run W) (rootDue s) [] [] noTally (nodeOf W 1 (drop 1 t) y) ≡ rootRun
-    root-stood {y} x = root-step (nodeOf W 1 (drop 1 t) y) (node-root W s [] (drop 1 t) (λ e. other (sym (getD-drop 1 t 0 0) ∙ e)) ∙ x .same)
+    root-stood : {y : Answer} → Stood W 0 n maps s 1 (drop 1 t) y → scanNode (run W) (rootDue s) [] [] noTally (nodeOf W 1 (drop 1 t) y) ≡ rootRun
+    root-stood {y} x = root-step (nodeOf W 1 (drop 1 t) y) (node-root W s [] (drop 1 t) (λ e. other (sym (getD-drop 1 t 0 0) ∙ e)) ∙ x .same (omega arith))
 
-    pub root-refused : {why : TermRefusal} → 2 ≤ length t → Stood W n maps s 1 (drop 1 t) (Fault why) → termNumbers (A.Term why) ≡ answerOf t rootRun
+    pub root-refused : {why : TermRefusal} → 2 ≤ length t → Stood W 0 n maps s 1 (drop 1 t) (Fault why) → termNumbers (A.Term why) ≡ answerOf t rootRun
     root-refused {why} h x = answer-refused t 1 why (omega arith) (x .inside) ∙ ap (answerOf t) (root-stood x)
 
-    pub root-name : {k : ℕ} → Stood W n maps s 1 (drop 1 t) (Name k) → got (tallyOf 0 1) (drop 2 t) ≡ rootRun
+    pub root-name : {k : ℕ} → Stood W 0 n maps s 1 (drop 1 t) (Name k) → got (tallyOf 0 1) (drop 2 t) ≡ rootRun
     root-name x = ap (got (tallyOf 0 1)) (sym (drop-drop 1 1 t)) ∙ root-stood x
 
-    pub root-word : {f m z : ℕ} {v : List ℕ} → Stood W n maps s 1 (drop 1 t) (Word f m) → WordFramed v W f m z →
+    pub root-word : {f m z : ℕ} {v : List ℕ} → Stood W 0 n maps s 1 (drop 1 t) (Word f m) → WordFramed v W f m z →
         run W (frameDue v 2 z) [] (tallyOf 1 1) (drop 3 t) ≡ rootRun
     root-word {f} {m} x framed =
         ap₂ (λ ds l. run W ds [] (tallyOf 1 1) l)

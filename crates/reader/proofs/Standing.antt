@@ -1,16 +1,17 @@
 -- What the functions that read a node answer, case by case.
 use mathlib.Core.Path.{_≡_, refl, sym, ap, subst, subst₂, _∙_}
 use mathlib.Core.Bool.{false}
-use mathlib.Core.List.{List, []}
-use Prim.Native.Nat.{ℕ, _+_, _-_, _<_, _≤_}
+use mathlib.Core.List.{List, [], _∷_}
+use Prim.Native.Nat.{ℕ, _+_, _-_, _/_, _<_, _≤_}
 use native.Mathlib.Omega.{arith}
 use lib.Bits.{bitAnd}
 use lib.ListN.{length, getD, take, drop, length-drop, drop-of-length-le}
 use lib.Seq.{take-all}
 use Rattle.wire.specs.Map.{flags, within}
 use Rattle.wire.specs.Vocabulary.{Vocabulary}
-use Rattle.wire.specs.Reading.{variable, fault, node}
-use Rattle.reader.specs.Nodes.{Tabled, nodeOf, Inside, NodeAt, WordAt}
+use Rattle.wire.specs.Reading.{stop, variable, fault, node, atLimit}
+use Rattle.wire.proofs.Scan.{Tally}
+use Rattle.reader.specs.Nodes.{Tabled, nodeOf, Inside, Limited, NodeAt, WordAt}
 use Rattle.reader.specs.declared.TermRefusal.the-variants as T
 use Rattle.reader.specs.declared.term.Node.{Node as Answer}
 use Rattle.reader.specs.declared.term.Node.the-variants.{Word, Name, Fault}
@@ -50,49 +51,76 @@ module _ (f result map s at : ℕ) (rest : List ℕ) (some : 0 < length rest) (f
         node-word W s rest h k (sym r ∙ d) (ap (λ p. within (flags (getD rest 1 0)) (flags p)) (sym m) ∙ within-and 8 (getD rest 1 0) map small w);
   })
 
-module _ (n : ℕ) (results maps : List ℕ) (s at : ℕ) (rest : List ℕ) where
-  pub at-ends : length rest ≡ 0 → NodeAt n results maps s at rest (Fault (T.Ends at))
+limit-ends : (rest : List ℕ) (n : ℕ) → length rest ≡ 0 → atLimit {A = Tally} rest ≡ stop 9 (drop n rest)
+limit-ends [] n h = ap (stop 9) (sym (drop-of-length-le [] {i = n} (omega arith)))
+limit-ends (b ∷ l) n h = absurd (omega arith)
+
+limit-deep : (rest : List ℕ) (n : ℕ) → 0 < length rest → 0 ≡ n → atLimit {A = Tally} rest ≡ stop 10 (drop n rest)
+limit-deep [] n some e = absurd (omega arith)
+limit-deep (b ∷ l) n some e = ap (λ n. stop 10 (drop n (b ∷ l))) e
+
+module _ (depth n : ℕ) (results maps : List ℕ) (s at : ℕ) (rest : List ℕ) where
+  pub at-ends : length rest ≡ 0 → NodeAt depth n results maps s at rest (Fault (T.Ends at))
   at-ends h = record {
     inside = record { from = omega arith; upTo = omega arith };
-    same = λ W t. node-ends W s rest h ∙ ap (fault 9) (sym (drop-of-length-le rest {i = at - at} (omega arith)));
+    limit = λ deep. limit-ends rest (at - at) h;
+    same = λ shallow W t. node-ends W s rest h ∙ ap (fault 9) (sym (drop-of-length-le rest {i = at - at} (omega arith)));
   }
 
-  pub at-word : (b : ℕ) (x : Answer) → b < n → WordAt b (getD results b 0) (getD maps b 0) s at rest x → NodeAt n results maps s at rest x
-  at-word b x h w = record {
-    inside = w .inside n maps h refl;
-    same = λ W t. w .same W (let k = t .words in omega arith) (t .result b h) (t .placeMap b h);
-  }
+  module _ (some : 0 < length rest) where
+    pub at-deep : 31 < depth → NodeAt depth n results maps s at rest (Fault (T.TooDeep at))
+    at-deep h = record {
+      inside = record { from = omega arith; upTo = omega arith };
+      limit = λ deep. limit-deep rest (at - at) some (omega arith);
+      same = λ shallow. absurd (omega arith);
+    }
 
-  pub at-name : (b : ℕ) → b ≡ getD rest 0 0 → 0 < length rest → n ≤ b → 128 ≤ b → b < 192 → NodeAt n results maps s at rest (Name (b - 128))
-  at-name b first some k p q = record {
-    inside = record { known = omega arith; long = omega arith };
-    same = λ W t.
-        node-name W s rest some (let e = t .words in omega arith) (omega arith) (omega arith)
-        ∙ ap (λ b. variable (b - 128) (drop 1 rest)) (sym first);
-  }
+    module _ (h : depth ≤ 31) (b : ℕ) where
+      pub at-word : (x : Answer) → b < n → WordAt b (getD results b 0) (getD maps b 0) s at rest x → NodeAt depth n results maps s at rest x
+      at-word x k w = record {
+        inside = w .inside n maps k refl;
+        limit = λ deep. absurd (omega arith);
+        same = λ shallow W t. w .same W (let e = t .words in omega arith) (t .result b k) (t .placeMap b k);
+      }
 
-  pub at-unknown : (b : ℕ) → b ≡ getD rest 0 0 → 0 < length rest → n ≤ b → (128 ≤ b → b < 192 → ⊥) →
-      NodeAt n results maps s at rest (Fault (T.NoWordOrName at))
-  at-unknown b first some k d = record {
-    inside = record { from = omega arith; upTo = omega arith };
-    same = λ W t.
-        node-unknown W s rest some (let e = t .words in omega arith) (λ p q. d (omega arith) (omega arith))
-        ∙ fault-at 11 at at 0 rest (omega arith);
-  }
+      module _ (first : b ≡ getD rest 0 0) (k : n ≤ b) where
+        pub at-name : b / 64 ≡ 2 → NodeAt depth n results maps s at rest (Name (b - 128))
+        at-name p = record {
+          inside = record { known = omega arith; long = some };
+          limit = λ deep. absurd (omega arith);
+          same = λ shallow W t.
+              node-name W s rest some (let e = t .words in omega arith) (omega arith) (omega arith)
+              ∙ ap (λ b. variable (b - 128) (drop 1 rest)) (sym first);
+        }
+
+        pub at-unknown : (b / 64 ≡ 2 → ⊥) → NodeAt depth n results maps s at rest (Fault (T.NoWordOrName at))
+        at-unknown d = record {
+          inside = record { from = omega arith; upTo = omega arith };
+          limit = λ deep. absurd (omega arith);
+          same = λ shallow W t.
+              node-unknown W s rest some (let e = t .words in omega arith) (λ p q. d (omega arith))
+              ∙ fault-at 11 at at 0 rest (omega arith);
+        }
 
 -- ---- an answer under a vocabulary
 
 -- The answer y is what stands there under W, no names seen.
-pub record Stood (W : Vocabulary) (n : ℕ) (maps : List ℕ) (s at : ℕ) (rest : List ℕ) (y : Answer) : Type 0 where
+pub record Stood (W : Vocabulary) (depth n : ℕ) (maps : List ℕ) (s at : ℕ) (rest : List ℕ) (y : Answer) : Type 0 where
   pub inside : Inside n maps at rest y
-  pub same : node W false s [] rest ≡ nodeOf W at rest y
+  pub limit : 31 < depth → Limited at rest y
+  pub same : depth ≤ 31 → node W false s [] rest ≡ nodeOf W at rest y
 
 -- The rest of a term from an offset on, as it is lent.
 rest-whole : (t : List ℕ) (at : ℕ) → take (length t - at) (drop at t) ≡ drop at t
 rest-whole t at = take-all (length t - at) (drop at t) (omega (arith, length-drop at t))
 
-pub stood : (t : List ℕ) {W : Vocabulary} {n : ℕ} {results maps : List ℕ} {s at : ℕ} {x y : Answer} →
-    NodeAt n results maps s at (take (length t - at) (drop at t)) x → Tabled W n results maps → x ≡ y → Stood W n maps s at (drop at t) y
-stood t {W = W} {n = n} {results = results} {maps = maps} {s = s} {at = at} a tables e =
-    let whole = subst₂ (λ rest x. NodeAt n results maps s at rest x) (rest-whole t at) e a in
-    record { inside = whole .inside; same = whole .same W tables }
+pub stood : (t : List ℕ) {W : Vocabulary} {depth n : ℕ} {results maps : List ℕ} {s at : ℕ} {x y : Answer} →
+    NodeAt depth n results maps s at (take (length t - at) (drop at t)) x → Tabled W n results maps → x ≡ y → Stood W depth n maps s at (drop at t) y
+stood t {W = W} {depth = depth} {n = n} {results = results} {maps = maps} {s = s} {at = at} a tables e =
+    let whole = subst₂ (λ rest x. NodeAt depth n results maps s at rest x) (rest-whole t at) e a in
+    record { inside = whole .inside; limit = whole .limit; same = λ shallow. whole .same shallow W tables }
+
+-- A node that is no fault stands above level 33.
+pub stood-room : {W : Vocabulary} {depth n : ℕ} {maps : List ℕ} {s at : ℕ} {rest : List ℕ} {y : Answer} →
+    Stood W depth n maps s at rest y → (Limited at rest y → ⊥) → depth ≤ 31
+stood-room {depth = depth} c never = let high : 31 < depth → ⊥ = λ deep. never (c .limit deep) in omega arith

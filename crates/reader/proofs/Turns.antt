@@ -3,13 +3,16 @@ use mathlib.Core.Path.{_≡_, sym, ap, subst, subst₂, _∙_}
 use mathlib.Core.Bool.{true, false}
 use mathlib.Core.List.{List}
 use Prim.Native.Nat.{ℕ, suc, _+_, _-_, _*_, _%_, _<_, _≤_, max}
+use native.Mathlib.Decide.{decLe}
 use native.Mathlib.Numerals.{add-one}
 use native.Mathlib.Omega.{arith}
+use mir.Syntax.{w64}
+use mir.Val.{Fits}
 use lib.ListN.{length, getD, drop, set, length-set, length-drop}
 use Rattle.wire.specs.Reply.{refused}
 use Rattle.wire.specs.Map.{flags, slots}
 use Rattle.wire.specs.Vocabulary.{Vocabulary, word, mapOf}
-use Rattle.wire.specs.Reading.{Got, atLimit}
+use Rattle.wire.specs.Reading.{Got, stop, atLimit}
 use Rattle.wire.proofs.Scan.{Tally}
 use Rattle.reader.specs.Answers.{termNumbers}
 use Rattle.reader.specs.Frames.{writtenIn, kindsIn}
@@ -19,7 +22,7 @@ use Rattle.reader.specs.declared.TermAnswer.the-variants as A
 use Rattle.reader.specs.declared.term.Node.the-variants.{Word, Name, Fault}
 use Rattle.reader.proofs.Frames.{Shifted, place-written, WordFramed, turnsOf, turns-last}
 use Rattle.reader.proofs.Replies.{answer-here, answer-refused}
-use Rattle.reader.proofs.Standing.{Stood}
+use Rattle.reader.proofs.Standing.{Stood, stood-room}
 use Rattle.reader.proofs.Scanning.{Scanning, leave, pass, limit, refuse, disagree, name, word as scan-word}
 
 module _ {v t : List ℕ} {W : Vocabulary} {g : Got Tally} {names frames : List ℕ} {depth at count deepest : ℕ}
@@ -29,6 +32,27 @@ module _ {v t : List ℕ} {W : Vocabulary} {g : Got Tally} {names frames : List 
 
   pub turn-leave : writtenIn (getD frames (depth - 1) 0) ≡ 0 → Scanning v t W g names frames (depth - 1) at count deepest
   turn-leave = leave v t W g names frames at count deepest (depth - 1) at-top
+
+  pub top-slot : depth - 1 < 32
+  top-slot = let shallow = c .shallow in omega arith
+
+  pub top-kinds : kindsIn (getD frames (depth - 1) 0) < 131072
+  top-kinds = let small = c .sound (depth - 1) (omega arith) .small in omega arith
+
+-- The counters do not wrap.
+module _ {v t : List ℕ} {W : Vocabulary} {g : Got Tally} {names frames : List ℕ} {depth at count deepest : ℕ}
+    (c : Scanning v t W g names frames depth at count deepest) (small : length t ≤ 4096) where
+  pub at-fits : (k : ℕ) → k ≤ 2 → Fits w64 (at + k)
+  at-fits k h = let inside = c .inside in record { fits = omega arith }
+
+  pub count-fits : Fits w64 (count + 1)
+  count-fits =
+      let inside = c .inside in
+      let fewer = c .fewer in
+      record { fits = omega arith }
+
+pub level-fits : {depth : ℕ} → depth ≤ 32 → Fits w64 (depth + 1)
+level-fits room = record { fits = omega arith }
 
 -- A turn that takes the lowest place off the last frame, which is y then.
 pub record Turn (v t : List ℕ) (W : Vocabulary) (g : Got Tally) (names frames : List ℕ) (at count deepest depth y : ℕ) : Type 0 where
@@ -55,11 +79,13 @@ module _ {v t : List ℕ} {W : Vocabulary} {g : Got Tally} {names frames : List 
   pub kind-inside : getD frames (depth - 1) 0 % 2 ≡ 1 → kindsIn (getD frames (depth - 1) 0) < length v
   kind-inside odd = place-written v (getD frames (depth - 1) 0) (top .sound (depth - 1) (omega arith)) odd .1
 
--- A turn at a written place whose level is allowed.
+-- A turn at a written place.
 pub record Place (v t : List ℕ) (W : Vocabulary) (g : Got Tally) (names frames : List ℕ) (at count deepest depth y : ℕ) : Type 0 where
   pub turn : Turn v t W g names frames at count deepest depth y
   pub odd : getD frames (depth - 1) 0 % 2 ≡ 1
-  pub room : depth ≤ 31
+
+pub next-slot : {depth : ℕ} → depth ≤ 31 → depth < 32
+next-slot room = omega arith
 
 -- The kind due at the lowest place of a frame.
 abbrev pub kindDue : List ℕ → ℕ → ℕ
@@ -67,46 +93,48 @@ kindDue v x = getD v (kindsIn x) 0
 
 module _ {v t : List ℕ} {W : Vocabulary} {g : Got Tally} {names frames : List ℕ} {at count deepest depth y : ℕ}
     (c : Place v t W g names frames at count deepest depth y) where
-  below : suc (depth - 1) < 32
-  below = let room = c .room in omega (arith, same-depth (c .turn))
+  below : depth ≤ 31 → suc (depth - 1) < 32
+  below room = omega (arith, same-depth (c .turn))
 
   deepened : {d : ℕ} → d ≡ max deepest (depth + 1) → max deepest (suc (depth - 1) + 1) ≡ d
   deepened e = ap (λ k. max deepest (k + 1)) (same-depth (c .turn)) ∙ sym e
 
-  pub place-refused : {why : TermRefusal} {n : ℕ} {maps : List ℕ} → Stood W n maps (kindDue v (getD frames (depth - 1) 0)) at (drop at t) (Fault why) →
+  pub place-refused : {why : TermRefusal} {n : ℕ} {maps : List ℕ} → Stood W depth n maps (kindDue v (getD frames (depth - 1) 0)) at (drop at t) (Fault why) →
       termNumbers (A.Term why) ≡ answerOf t g
-  place-refused {why} s =
-      answer-refused t at why (c .turn .inv .inside) (s .inside)
-      ∙ ap (answerOf t)
-      (refuse v t W g names frames at count deepest (depth - 1) (top (c .turn)) y (c .turn .shifted) (c .odd) below
-      (numberOf why) (drop (placeOf why - at) (drop at t)) (s .same))
+  place-refused {why} s = answer-refused t at why (c .turn .inv .inside) (s .inside) ∙ ap (answerOf t) (go (decLe depth 31))
+    where
+      go : Dec (depth ≤ 31) → stop (numberOf why) (drop (placeOf why - at) (drop at t)) ≡ g
+      go (yes room) =
+          refuse v t W g names frames at count deepest (depth - 1) (top (c .turn)) y (c .turn .shifted) (c .odd) (below room)
+          (numberOf why) (drop (placeOf why - at) (drop at t)) (s .same room)
+      go (no deep) = let high : 31 < depth = omega arith in sym (s .limit high) ∙ turn-limit (c .turn) (c .odd) high
 
-  pub place-clash : {k : ℕ} {n : ℕ} {maps : List ℕ} → Stood W n maps (kindDue v (getD frames (depth - 1) 0)) at (drop at t) (Name k) →
+  pub place-clash : {k : ℕ} {n : ℕ} {maps : List ℕ} → Stood W depth n maps (kindDue v (getD frames (depth - 1) 0)) at (drop at t) (Name k) →
       clashing (getD names k 0) (kindDue v (getD frames (depth - 1) 0)) ≡ true → refused 13 1 at ≡ answerOf t g
   place-clash {k} s clashes =
       answer-here t at 13 (c .turn .inv .inside)
       ∙ ap (answerOf t)
-      (disagree v t W g names frames at count deepest (depth - 1) (top (c .turn)) y (c .turn .shifted) (c .odd) below
-      k (s .inside .known) (s .same) clashes)
+      (disagree v t W g names frames at count deepest (depth - 1) (top (c .turn)) y (c .turn .shifted) (c .odd) (below (stood-room s (λ e. e)))
+      k (s .inside .known) (s .same (stood-room s (λ e. e))) clashes)
 
   pub place-name : {k d : ℕ} {n : ℕ} {maps : List ℕ} → d ≡ max deepest (depth + 1) →
-      Stood W n maps (kindDue v (getD frames (depth - 1) 0)) at (drop at t) (Name k) →
+      Stood W depth n maps (kindDue v (getD frames (depth - 1) 0)) at (drop at t) (Name k) →
       kindDue v (getD frames (depth - 1) 0) < 256 → clashing (getD names k 0) (kindDue v (getD frames (depth - 1) 0)) ≡ false →
       Scanning v t W g (set names k (kindDue v (getD frames (depth - 1) 0))) (set frames (depth - 1) y) depth (at + 1) count d
   place-name {k} deeper s small agrees =
       subst₂ (λ e d. Scanning v t W g (set names k (kindDue v (getD frames (depth - 1) 0))) (set frames (depth - 1) y) e (at + 1) count d)
       (same-depth (c .turn)) (deepened deeper)
-      (name v t W g names frames at count deepest (depth - 1) (top (c .turn)) y (c .turn .shifted) (c .odd) below
-      k (s .inside .known) small (s .inside .long) (s .same) agrees)
+      (name v t W g names frames at count deepest (depth - 1) (top (c .turn)) y (c .turn .shifted) (c .odd) (below (stood-room s (λ e. e)))
+      k (s .inside .known) small (s .inside .long) (s .same (stood-room s (λ e. e))) agrees)
 
   pub place-word : {f m z d : ℕ} {n : ℕ} {maps : List ℕ} → d ≡ max deepest (depth + 1) →
-      Stood W n maps (kindDue v (getD frames (depth - 1) 0)) at (drop at t) (Word f m) →
+      Stood W depth n maps (kindDue v (getD frames (depth - 1) 0)) at (drop at t) (Word f m) →
       WordFramed v W f m z → Scanning v t W g names (set (set frames (depth - 1) y) depth z) (depth + 1) (at + 2) (count + 1) d
   place-word {f} {m} {z} deeper s framed =
       subst₂ (λ e d. Scanning v t W g names (set (set frames (depth - 1) y) e z) (e + 1) (at + 2) (count + 1) d)
       (same-depth (c .turn)) (deepened deeper)
-      (scan-word v t W g names frames at count deepest (depth - 1) (top (c .turn)) y (c .turn .shifted) (c .odd) below
-      f (slots (flags (mapOf W f)) (flags m) (word W f .kinds)) (s .inside .long) (s .same) z (framed .fits) (framed .dues (suc (suc (suc (depth - 1))))))
+      (scan-word v t W g names frames at count deepest (depth - 1) (top (c .turn)) y (c .turn .shifted) (c .odd) (below (stood-room s (λ e. e)))
+      f (slots (flags (mapOf W f)) (flags m) (word W f .kinds)) (s .inside .long) (s .same (stood-room s (λ e. e))) z (framed .fits) (framed .dues (suc (suc (suc (depth - 1))))))
 
 -- ---- the measure
 
@@ -138,11 +166,10 @@ module _ {v t : List ℕ} {W : Vocabulary} {g : Got Tally} {names frames : List 
   pub left-name : Place v t W g names frames at count deepest depth y → leftOf t (set frames (depth - 1) y) depth (at + 1) < leftOf t frames depth at
   left-name c = let odd = c .odd in omega (arith, turns-shifted (c .turn) (λ e. omega arith))
 
-  pub left-word : Place v t W g names frames at count deepest depth y → 2 ≤ length (drop at t) → (z : ℕ) →
+  pub left-word : Place v t W g names frames at count deepest depth y → depth ≤ 31 → 2 ≤ length (drop at t) → (z : ℕ) →
       leftOf t (set (set frames (depth - 1) y) depth z) (depth + 1) (at + 2) < leftOf t frames depth at
-  left-word c long z =
+  left-word c room long z =
       let odd = c .odd in
-      let room = c .room in
       let size = length-set frames (depth - 1) y in
       let last : turnsOf (set (set frames (depth - 1) y) depth z) (depth + 1) ≡ writtenIn z + 1 + turnsOf (set frames (depth - 1) y) depth =
       ap (turnsOf (set (set frames (depth - 1) y) depth z)) (add-one depth)

@@ -2,7 +2,7 @@
 --
 --   gapIn maps l at        the first gap of the bytes l, which begin at an offset: a byte that is no word, or
 --                          a map that is not the one in the table maps; up to there each node has two bytes
---   gapOf g                the place that first_gap answers, where there is one
+--   gapOf n q              the gap at q, where q is an offset of n bytes
 --   situationReply W k s   the reply where only the situation s is left to be judged, for a pattern of kind k
 --   patternReply W p s     the reply where pattern and situation are
 --
@@ -17,8 +17,6 @@ use Rattle.wire.specs.Vocabulary.{Vocabulary}
 use Rattle.wire.specs.Checks.{checkedTerm}
 use Rattle.wire.specs.Situation.{checkedSituation}
 use Rattle.wire.specs.Matching.{judgedPattern, clearReply}
-use Rattle.reader.specs.declared.inputs.Gap.{Gap}
-use Rattle.reader.specs.declared.inputs.Gap.the-variants.{At, Nothing}
 
 abbrev pub gapIn : List ℕ → List ℕ → ℕ → Option ℕ
 gapIn maps [] at = none
@@ -26,9 +24,8 @@ gapIn maps (b ∷ []) at = some at
 gapIn maps (b ∷ m ∷ l) at =
     cond (ltb 95 b) (some at) (cond (eqb m (getD maps b 0)) (gapIn maps l (at + 2)) (some (at + 1)))
 
-abbrev pub gapOf : Gap → Option ℕ
-gapOf (At q) = some q
-gapOf Nothing = none
+abbrev pub gapOf : ℕ → ℕ → Option ℕ
+gapOf n q = cond (ltb q n) (some q) none
 
 abbrev pub situationReply : Vocabulary → ℕ → List ℕ → Reply
 situationReply W k s = replyOf 2 (λ g. []) (checkedSituation W k s)

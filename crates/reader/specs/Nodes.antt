@@ -4,7 +4,8 @@
 --   Tabled W n results maps      the first n entries of the tables are W's result kinds and place maps
 --   nodeOf W at rest x           what x says that stands at the front of the bytes rest, which begin at an offset
 --   Inside n maps at rest x      what x names is there
---   NodeAt                       x is what stands where a term of kind s is due, no names seen
+--   Limited at rest x            x is the fault where level 33 begins
+--   NodeAt                       x is what stands where a term of kind s is due below so many words, no names seen
 --   WordAt                       the same, of a word
 --   clashing k s                 the entry k of the table of names is another kind than s
 --   tallyOf c d                  c words, the deepest at level d
@@ -20,7 +21,7 @@ use lib.ListN.{length, getD, drop}
 use Rattle.wire.specs.Reply.{Reply, accepted, refused}
 use Rattle.wire.specs.Map.{flags, slots}
 use Rattle.wire.specs.Vocabulary.{Vocabulary, word, mapOf}
-use Rattle.wire.specs.Reading.{Got, got, stop, Node, symbol, variable, fault, node, offset}
+use Rattle.wire.specs.Reading.{Got, got, stop, Node, symbol, variable, fault, node, atLimit, offset}
 use Rattle.wire.proofs.Scan.{Tally}
 use Rattle.reader.specs.declared.TermRefusal.{TermRefusal}
 use Rattle.reader.specs.declared.TermRefusal.the-variants as T
@@ -77,9 +78,15 @@ Inside n maps at rest (Word f m) = WordInside n maps rest f m
 Inside n maps at rest (Name k) = NameInside rest k
 Inside n maps at rest (Fault why) = PlaceInside at rest (placeOf why)
 
-pub record NodeAt (n : ℕ) (results maps : List ℕ) (s at : ℕ) (rest : List ℕ) (x : Answer) : Type 0 where
+abbrev pub Limited : ℕ → List ℕ → Answer → Type 0
+Limited at rest (Word f m) = ⊥
+Limited at rest (Name k) = ⊥
+Limited at rest (Fault why) = atLimit {A = Tally} rest ≡ stop (numberOf why) (drop (placeOf why - at) rest)
+
+pub record NodeAt (depth n : ℕ) (results maps : List ℕ) (s at : ℕ) (rest : List ℕ) (x : Answer) : Type 0 where
   pub inside : Inside n maps at rest x
-  pub same : (W : Vocabulary) → Tabled W n results maps → node W false s [] rest ≡ nodeOf W at rest x
+  pub limit : 31 < depth → Limited at rest x
+  pub same : depth ≤ 31 → (W : Vocabulary) → Tabled W n results maps → node W false s [] rest ≡ nodeOf W at rest x
 
 -- The same of a word of number f, with its result kind and place map at hand.
 pub record WordAt (f result map s at : ℕ) (rest : List ℕ) (x : Answer) : Type 0 where

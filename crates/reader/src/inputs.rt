@@ -1,6 +1,6 @@
 // A pattern and a situation judged under an accepted vocabulary.
 ghost use mathlib.Core.Path.{_≡_};
-ghost use lib.ListN.{drop};
+ghost use lib.ListN.{length, drop};
 ghost use Rattle.signature.specs.Tables.{Tables, vocabularyIn};
 ghost use Rattle.reader.specs.Answers.{inputsNumbers};
 ghost use Rattle.reader.specs.Gaps.{gapIn, gapOf, situationReply, patternReply};
@@ -9,38 +9,23 @@ use crate::InputsRefusal;
 use crate::TermAnswer;
 use crate::term;
 
-// The first gap of a term, where it has one.
-enum Gap {
-    At(usize),
-    Nothing,
-}
-
-fn wide(b: u8) -> usize
-    ensures { λ r. ⌜ r ≡ b ⌝ }
-{
-    b as usize
-}
-
-// The first name, 255 or short map of an accepted term. Up to there each node has two bytes, and the
-// next node follows directly.
-fn first_gap(t: &[u8], maps: &[u8; 96]) -> Gap
-    ensures { λ r. ⌜ gapOf r ≡ gapIn (now (maps .entry)) (drop 1 (now (t .entry))) 1 ⌝ }
+// Where the first name, 255 or short map of an accepted term stands, or no offset of the term. Up to
+// there each node has two bytes, and the next node follows directly.
+fn first_gap(t: &[u8], maps: &[u8; 96]) -> usize
+    ensures { λ r. ⌜ gapOf (length (now (t .entry))) r ≡ gapIn (now (maps .entry)) (drop 1 (now (t .entry))) 1 ⌝ }
 {
     let mut at: usize = 1;
     while at + 1 < t.len() {
-        let b = wide(t[at]);
+        let b = term::wide(t[at]);
         if 95 < b {
-            return Gap::At(at);
+            return at;
         }
         if t[at + 1] != maps[b] {
-            return Gap::At(at + 1);
+            return at + 1;
         }
         at += 2;
     }
-    if at < t.len() {
-        return Gap::At(at);
-    }
-    Gap::Nothing
+    at
 }
 
 // Judges a situation for a pattern of a kind.
@@ -57,18 +42,22 @@ fn judge_situation<'a>(
     ensures { λ r. ⌜ inputsNumbers r ≡ situationReply (vocabularyIn (now (v .entry))) kind (now (s .entry)) ⌝ }
 {
     match term::read(v, s, words, offsets, results, maps) {
-        TermAnswer::Vocabulary(why) => InputsAnswer::Refused(InputsRefusal::Vocabulary(why)),
-        TermAnswer::Term(why) => InputsAnswer::Refused(InputsRefusal::Situation(why)),
-        TermAnswer::Accepted(_, _) => match first_gap(s, maps) {
-            Gap::At(q) => InputsAnswer::Refused(InputsRefusal::Incomplete(q)),
-            Gap::Nothing => {
-                if s[0] != kind {
-                    return InputsAnswer::Refused(InputsRefusal::KindsDiffer);
-                }
-                InputsAnswer::Clear
-            }
-        },
+        TermAnswer::Vocabulary(why) => {
+            return InputsAnswer::Refused(InputsRefusal::Vocabulary(why));
+        }
+        TermAnswer::Term(why) => {
+            return InputsAnswer::Refused(InputsRefusal::Situation(why));
+        }
+        TermAnswer::Accepted(_, _) => {}
     }
+    let gap = first_gap(s, maps);
+    if gap < s.len() {
+        return InputsAnswer::Refused(InputsRefusal::Incomplete(gap));
+    }
+    if s[0] != kind {
+        return InputsAnswer::Refused(InputsRefusal::KindsDiffer);
+    }
+    InputsAnswer::Clear
 }
 
 // Judges a pattern and then a situation.
@@ -85,8 +74,13 @@ pub(crate) fn judge_terms<'a>(
     ensures { λ r. ⌜ inputsNumbers r ≡ patternReply (vocabularyIn (now (v .entry))) (now (p .entry)) (now (s .entry)) ⌝ }
 {
     match term::read(v, p, words, offsets, results, maps) {
-        TermAnswer::Vocabulary(why) => InputsAnswer::Refused(InputsRefusal::Vocabulary(why)),
-        TermAnswer::Term(why) => InputsAnswer::Refused(InputsRefusal::Pattern(why)),
-        TermAnswer::Accepted(_, _) => judge_situation(v, s, p[0], words, offsets, results, maps),
+        TermAnswer::Vocabulary(why) => {
+            return InputsAnswer::Refused(InputsRefusal::Vocabulary(why));
+        }
+        TermAnswer::Term(why) => {
+            return InputsAnswer::Refused(InputsRefusal::Pattern(why));
+        }
+        TermAnswer::Accepted(_, _) => {}
     }
+    judge_situation(v, s, p[0], words, offsets, results, maps)
 }

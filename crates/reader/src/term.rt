@@ -5,7 +5,7 @@ ghost use Prim.Native.Nat.{_+_, _/_, _%_, _<_, _≤_, max};
 ghost use lib.ListN.{length, getD, drop};
 ghost use Rattle.wire.specs.Checks.{checkedTerm, termValues};
 ghost use Rattle.wire.specs.Reply.{replyOf};
-ghost use Rattle.wire.specs.Reading.{got, atLimit};
+ghost use Rattle.wire.specs.Reading.{got};
 ghost use Rattle.wire.proofs.Scan.{run, rootDue, noTally};
 ghost use Rattle.reader.specs.Answers.{termNumbers};
 ghost use Rattle.signature.specs.Tables.{Tables, vocabularyIn};
@@ -21,7 +21,7 @@ enum Node {
     Fault(TermRefusal),
 }
 
-fn wide(b: u8) -> usize
+pub(crate) fn wide(b: u8) -> usize
     ensures { λ r. ⌜ r ≡ b ⌝ }
 {
     b as usize
@@ -81,29 +81,32 @@ fn word_node(rest: &[u8], at: usize, word: usize, kind: u8, result: u8, map: u8)
     Node::Word(word, written)
 }
 
-// What stands at the front of the rest of a term, where a term of a kind is due.
+// What stands at the front of the rest of a term, where a term of a kind is due below so many words.
+// Level 33 would begin below 32 of them.
 fn node_at<'a>(
     rest: &[u8],
     at: usize,
+    depth: usize,
     kind: u8,
     words: usize,
     results: &'a [u8; 96],
     maps: &'a [u8; 96],
 ) -> Node
     requires { ⌜ (at ≤ 4096) × (words ≤ 96) ⌝ }
-    ensures { λ r. ⌜ NodeAt words (now (results .entry)) (now (maps .entry)) kind at (now (rest .entry)) r ⌝ }
+    ensures { λ r. ⌜ NodeAt depth words (now (results .entry)) (now (maps .entry)) kind at (now (rest .entry)) r ⌝ }
 {
     if rest.len() == 0 {
         return Node::Fault(TermRefusal::Ends(at));
+    }
+    if 31 < depth {
+        return Node::Fault(TermRefusal::TooDeep(at));
     }
     let b = wide(rest[0]);
     if b < words {
         return word_node(rest, at, b, kind, results[b], maps[b]);
     }
-    if b < 128 {
-        return Node::Fault(TermRefusal::NoWordOrName(at));
-    }
-    if 191 < b {
+    // A name is a byte 128 to 191.
+    if b / 64 != 2 {
         return Node::Fault(TermRefusal::NoWordOrName(at));
     }
     Node::Name(b - 128)
@@ -118,17 +121,6 @@ fn finish(t: &[u8], at: usize, count: usize, deepest: usize) -> TermAnswer
         return TermAnswer::Term(TermRefusal::Continues(at));
     }
     TermAnswer::Accepted(count, deepest)
-}
-
-// Where level 33 begins.
-fn at_limit(t: &[u8], at: usize) -> TermAnswer
-    requires { ⌜ at ≤ length (now t) ⌝ }
-    ensures { λ r. ⌜ termNumbers r ≡ answerOf (now (t .entry)) (atLimit (drop at (now (t .entry)))) ⌝ }
-{
-    if at < t.len() {
-        return TermAnswer::Term(TermRefusal::TooDeep(at));
-    }
-    TermAnswer::Term(TermRefusal::Ends(at))
 }
 
 // The larger of the two.
@@ -181,12 +173,9 @@ fn read_places<'a>(
         } else {
             frames[top] = passed(due);
             if due % 2 == 1 {
-                if 31 < depth {
-                    return at_limit(t, at);
-                }
                 let kind = v[(due / 65536) as usize];
                 deepest = most(deepest, depth + 1);
-                match node_at(&t[at..], at, kind, words, results, maps) {
+                match node_at(&t[at..], at, depth, kind, words, results, maps) {
                     Node::Fault(why) => {
                         return TermAnswer::Term(why);
                     }
@@ -227,7 +216,7 @@ fn read_root<'a>(
     if t[1] == 255 {
         return finish(t, 2, 0, 1);
     }
-    match node_at(&t[1..], 1, kind, words, results, maps) {
+    match node_at(&t[1..], 1, 0, kind, words, results, maps) {
         Node::Fault(why) => TermAnswer::Term(why),
         Node::Name(_) => finish(t, 2, 0, 1),
         Node::Word(f, written) => {

@@ -24,16 +24,16 @@ clears : (c : tie.After-judge) → c .judge .result ≡ Clear → let a = c .bef
 clears c e = sym (ap inputsNumbers e) ∙ c .judge .ensures
 
 judge-requires : tie.Need-judge-requires
-judge-requires c κs = search needs
+judge-requires c κs = tt
 
 enum-known-why : tie.Need-enum-known-why
-enum-known-why c = search needs
+enum-known-why c = c .match .keys1
 
 returns : tie.Need-returns
 returns c = match-refused (lent (c .before .before .before)) _ _ (c .before .why .given .0 .0) (sym (ap inputsNumbers (c .before .why .given .1)) ∙ c .before .before .before .judge .ensures) refl
 
 enum-told : tie.Need-enum-told
-enum-told c = search needs
+enum-told c = c .match .keys2
 
 returns-2 : tie.Need-returns-2
 returns-2 c = match-length (lent (c .before .before .before)) _ _ (clears (c .before .before .before) (c .before .enum-told .given .1)) (c .if1 .taken) refl

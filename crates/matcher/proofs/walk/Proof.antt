@@ -1,14 +1,16 @@
 -- `matcher::walk` meets its contract: at each turn what is due leads to the same filling and the same spans.
 use mathlib.Core.Path.{_≡_, sym, ap, _∙_}
 use mathlib.Core.Bool.{true, false}
-use Prim.Native.Nat.{_-_, _%_, _≤_, _<_}
+use Prim.Native.Nat.{_-_, _%_}
+use native.Mathlib.Nat.{le-refl, le-of-lt}
 use native.Mathlib.Omega.{arith}
 use denote.Ref.{now}
+use lib.Dec.{lit<}
 use lib.ListN.{getD, set}
-use borrow.Author.Needs.{needs}
+use borrow.Author.Needs.{scaled-fits}
 use Rattle.matcher.specs.Walking.{placesIn, InputsRead}
 use Rattle.matcher.proofs.Parts.{not-true, not-false}
-use Rattle.matcher.proofs.Turns.{Walking, walking-begins, walking-ends, turn-leave, Turn, AtPlace, turn-gap, at-open, at-written, standing, turn-opened, AtWord, AtName, at-word, at-name, pattern-inside, word-pattern, word-situation, word-room, word-differs, turn-worded, name-known, name-inside, name-spans, turn-named, turn-unnamed, end-later, end-inside, leftOf, left-leave, left-on, left-word}
+use Rattle.matcher.proofs.Turns.{Walking, walking-begins, walking-ends, turn-leave, top-slot, offset-fits, level-fits, Turn, AtPlace, turn-gap, at-open, at-written, standing, turn-opened, AtWord, AtName, at-word, at-name, pattern-inside, word-pattern, word-situation, pattern-second, situation-second, situation-first, word-room, word-slot, word-differs, turn-worded, name-inside, name-covers, turn-named, turn-unnamed, end-later, end-inside, leftOf, left-leave, left-on, left-word}
 use Rattle.matcher.proofs.walk.Statement.{statement}
 use Rattle.matcher.proofs.walk.Tie as tie
 
@@ -44,43 +46,39 @@ written : (c : tie.After-passed Inv-loop μ-loop) → let l = c .before .before 
 written c odd bit = at-written (turn c) (sym (ap (λ n. n % 2) (c .before .before .places-due .ensures)) ∙ odd) bit
 
 -- What stands there is a word, or a name.
-worded : (c : tie.After-wide Inv-loop μ-loop) → let l = c .before .before .before .before .before .before .before .before .loop in let a = c .before .before .before .before .before .before .before .before .before .before .before .before .before .args in
-    c .wide .result < 128 → (x : InputsRead (now (a .p)) (now (a .s))) →
+worded : (c : tie.Then4 Inv-loop μ-loop) → let l = c .before .before .before .before .before .before .before .before .loop in let a = c .before .before .before .before .before .before .before .before .before .before .before .before .before .args in
+    (x : InputsRead (now (a .p)) (now (a .s))) →
     AtWord (x .inputs) (now (a .p)) (now (a .s)) (set (l .frames) (l .depth - 1) (c .before .before .before .before .passed .result)) (l .spans) (l .depth) (l .i) (l .j)
-worded c low x =
-    let byte = c .wide .ensures in
-    at-word x (written (c .before .before .before .before) (c .before .before .before .if2 .taken) (c .before .before .if3 .left) x) (omega arith)
+worded c x = at-word x (written (c .before .before .before .before) (c .before .before .before .if2 .taken) (c .before .before .if3 .left) x) (c .if4 .taken)
 
-named : (c : tie.After-wide Inv-loop μ-loop) → let l = c .before .before .before .before .before .before .before .before .loop in let a = c .before .before .before .before .before .before .before .before .before .before .before .before .before .args in
-    128 ≤ c .wide .result → (x : InputsRead (now (a .p)) (now (a .s))) →
+named : (c : tie.Else4 Inv-loop μ-loop) → let l = c .before .before .before .before .before .before .before .before .loop in let a = c .before .before .before .before .before .before .before .before .before .before .before .before .before .args in
+    (x : InputsRead (now (a .p)) (now (a .s))) →
     AtName (x .inputs) (now (a .p)) (now (a .s)) (set (l .frames) (l .depth - 1) (c .before .before .before .before .passed .result)) (l .spans) (l .depth) (l .i) (l .j)
-named c high x =
-    let byte = c .wide .ensures in
-    at-name x (written (c .before .before .before .before) (c .before .before .before .if2 .taken) (c .before .before .if3 .left) x) (omega arith)
+named c x = at-name x (written (c .before .before .before .before) (c .before .before .before .if2 .taken) (c .before .before .if3 .left) x) (c .if4 .left)
 
 shared-slice-read-root-frame : tie.Need-shared-slice-read-root-frame Inv-loop μ-loop
-shared-slice-read-root-frame c = let long = c .before .before .before .pre .0 .reads .patternLimits .least in omega arith
+shared-slice-read-root-frame c = c .before .before .before .pre .0 .reads .patternLimits .least
 
 root-frame-requires : tie.Need-root-frame-requires Inv-loop μ-loop
-root-frame-requires c κs = search needs
+root-frame-requires c κs = tt
 
 array-write-frames : tie.Need-array-write-frames Inv-loop μ-loop
-array-write-frames c = search needs
+array-write-frames c = lit< tt
 
 loop-holds : tie.Need-loop-holds Inv-loop μ-loop
 loop-holds c = walking-begins _ _ _ _ (c .before .before .before .before .pre .1) (record { whole = c .root-frame .ensures .0; written = c .root-frame .ensures .1 })
 
 sub-top : tie.Need-sub-top Inv-loop μ-loop
-sub-top c = search needs
+sub-top c = c .loop-test .taken
 
 mul-due : tie.Need-mul-due Inv-loop μ-loop
-mul-due c = search needs
+mul-due c = scaled-fits _ 33 2 (top-slot (c .before .loop .inv) (c .loop-test .taken)) (lit< tt)
 
 array-read-due : tie.Need-array-read-due Inv-loop μ-loop
-array-read-due c = search needs
+array-read-due c = top-slot (c .before .loop .inv) (c .loop-test .taken)
 
 places-due-requires : tie.Need-places-due-requires Inv-loop μ-loop
-places-due-requires c κs = search needs
+places-due-requires c κs = tt
 
 loop-less : tie.Need-loop-less Inv-loop μ-loop
 loop-less c = left-leave (now (c .before .before .before .before .before .before .before .before .args .s)) (c .before .before .before .loop .frames) (c .before .before .before .loop .j) (c .before .before .before .loop .depth) (c .before .before .loop-test .taken)
@@ -89,104 +87,106 @@ loop-again : tie.Need-loop-again Inv-loop μ-loop
 loop-again c = turn-leave (c .before .before .before .loop .inv) (c .before .before .loop-test .taken) (sym (c .before .places-due .ensures) ∙ c .if1 .taken)
 
 passed-requires : tie.Need-passed-requires Inv-loop μ-loop
-passed-requires c κs = search needs
+passed-requires c κs = tt
 
 mul-frames : tie.Need-mul-frames Inv-loop μ-loop
-mul-frames c = search needs
+mul-frames c = scaled-fits _ 33 2 (top-slot (c .before .before .before .before .loop .inv) (c .before .before .before .loop-test .taken)) (lit< tt)
 
 array-write-frames-2 : tie.Need-array-write-frames-2 Inv-loop μ-loop
-array-write-frames-2 c = search needs
+array-write-frames-2 c = top-slot (c .before .before .before .before .loop .inv) (c .before .before .before .loop-test .taken)
 
 end-of-requires : tie.Need-end-of-requires Inv-loop μ-loop
-end-of-requires c κs = let t = (c .before .before) in standing (turn t) (opened t (c .before .if2 .taken) (c .if3 .taken)) (c .before .before .before .before .before .before .before .before .before .before .before .pre .0)
+end-of-requires c κs = standing (turn (c .before .before)) (opened (c .before .before) (c .before .if2 .taken) (c .if3 .taken)) (c .before .before .before .before .before .before .before .before .before .before .before .pre .0)
 
 loop-less-2 : tie.Need-loop-less-2 Inv-loop μ-loop
-loop-less-2 c = let t = (c .before .before .before) in
-    let st = standing (turn t) (opened t (c .before .before .if2 .taken) (c .before .if3 .taken)) (c .before .before .before .before .before .before .before .before .before .before .before .before .pre .0) in
-    left-on (turn t) (full t) (c .end-of .result) (end-later st (c .end-of .ensures st))
+loop-less-2 c =
+    let st = standing (turn (c .before .before .before)) (opened (c .before .before .before) (c .before .before .if2 .taken) (c .before .if3 .taken)) (c .before .before .before .before .before .before .before .before .before .before .before .before .pre .0) in
+    left-on (turn (c .before .before .before)) (full (c .before .before .before)) (c .end-of .result) (end-later st (c .end-of .ensures st))
 
 loop-again-2 : tie.Need-loop-again-2 Inv-loop μ-loop
-loop-again-2 c = let t = (c .before .before .before) in turn-opened (turn t) (opened t (c .before .before .if2 .taken) (c .before .if3 .taken)) (c .end-of .result) (c .end-of .ensures)
+loop-again-2 c = turn-opened (turn (c .before .before .before)) (opened (c .before .before .before) (c .before .before .if2 .taken) (c .before .if3 .taken)) (c .end-of .result) (c .end-of .ensures)
 
-shared-slice-read-wide : tie.Need-shared-slice-read-wide Inv-loop μ-loop
-shared-slice-read-wide c = pattern-inside (c .before .before .before .before .before .before .before .before .before .before .before .before .pre .0) ((written (c .before .before .before) (c .before .before .if2 .taken) (c .before .if3 .left)) (c .before .before .before .before .before .before .before .before .before .before .before .before .pre .0))
-
-wide-requires : tie.Need-wide-requires Inv-loop μ-loop
-wide-requires c κs = search needs
+shared-slice-read-b : tie.Need-shared-slice-read-b Inv-loop μ-loop
+shared-slice-read-b c = pattern-inside (c .before .before .before .before .before .before .before .before .before .before .before .before .pre .0) (written (c .before .before .before) (c .before .before .if2 .taken) (c .before .if3 .left) (c .before .before .before .before .before .before .before .before .before .before .before .before .pre .0))
 
 shared-slice-read-if5 : tie.Need-shared-slice-read-if5 Inv-loop μ-loop
-shared-slice-read-if5 c = pattern-inside (c .before .before .before .before .before .before .before .before .before .before .before .before .before .before .before .pre .0) ((written (c .before .before .before .before .before .before) (c .before .before .before .before .before .if2 .taken) (c .before .before .before .before .if3 .left)) (c .before .before .before .before .before .before .before .before .before .before .before .before .before .before .before .pre .0))
-
-shared-slice-read-if5-2 : tie.Need-shared-slice-read-if5-2 Inv-loop μ-loop
-shared-slice-read-if5-2 c = let long = word-situation (c .before .before .before .before .before .before .before .before .before .before .before .before .before .before .before .before .pre .0) ((worded (c .before .before .before) (c .before .before .if4 .taken)) (c .before .before .before .before .before .before .before .before .before .before .before .before .before .before .before .before .pre .0)) in omega arith
+shared-slice-read-if5 c = situation-first (c .before .before .before .before .before .before .before .before .before .before .before .before .before .before .pre .0) (worded (c .before) (c .before .before .before .before .before .before .before .before .before .before .before .before .before .before .pre .0))
 
 returns : tie.Need-returns Inv-loop μ-loop
-returns c = λ a. word-differs a ((worded (c .before .before .before .before) (c .before .before .before .if4 .taken)) a) (c .if5 .taken)
+returns c = λ a. word-differs a (worded (c .before .before) a) (c .if5 .taken)
 
 add-frame : tie.Need-add-frame Inv-loop μ-loop
-add-frame c = let long = word-pattern (c .before .before .before .before .before .before .before .before .before .before .before .before .before .before .before .before .before .pre .0) ((worded (c .before .before .before .before) (c .before .before .before .if4 .taken)) (c .before .before .before .before .before .before .before .before .before .before .before .before .before .before .before .before .before .pre .0)) in omega arith
+add-frame c = let a = c .before .before .before .before .before .before .before .before .before .before .before .before .before .before .before .pre .0 in offset-fits (le-of-lt (pattern-second a (worded (c .before .before) a))) (a .reads .patternLimits .most)
 
 shared-slice-read-frame : tie.Need-shared-slice-read-frame Inv-loop μ-loop
-shared-slice-read-frame c = let long = word-pattern (c .before .before .before .before .before .before .before .before .before .before .before .before .before .before .before .before .before .before .pre .0) ((worded (c .before .before .before .before .before) (c .before .before .before .before .if4 .taken)) (c .before .before .before .before .before .before .before .before .before .before .before .before .before .before .before .before .before .before .pre .0)) in omega arith
+shared-slice-read-frame c = pattern-second (c .before .before .before .before .before .before .before .before .before .before .before .before .before .before .before .before .pre .0) (worded (c .before .before .before) (c .before .before .before .before .before .before .before .before .before .before .before .before .before .before .before .before .pre .0))
 
 add-frame-2 : tie.Need-add-frame-2 Inv-loop μ-loop
-add-frame-2 c = let long = word-situation (c .before .before .before .before .before .before .before .before .before .before .before .before .before .before .before .before .before .before .pre .0) ((worded (c .before .before .before .before .before) (c .before .before .before .before .if4 .taken)) (c .before .before .before .before .before .before .before .before .before .before .before .before .before .before .before .before .before .before .pre .0)) in omega arith
+add-frame-2 c = let a = c .before .before .before .before .before .before .before .before .before .before .before .before .before .before .before .before .pre .0 in offset-fits (le-of-lt (situation-second a (worded (c .before .before .before) a))) (a .reads .situationLimits .most)
 
 shared-slice-read-frame-2 : tie.Need-shared-slice-read-frame-2 Inv-loop μ-loop
-shared-slice-read-frame-2 c = let long = word-situation (c .before .before .before .before .before .before .before .before .before .before .before .before .before .before .before .before .before .before .before .pre .0) ((worded (c .before .before .before .before .before .before) (c .before .before .before .before .before .if4 .taken)) (c .before .before .before .before .before .before .before .before .before .before .before .before .before .before .before .before .before .before .before .pre .0)) in omega arith
+shared-slice-read-frame-2 c = situation-second (c .before .before .before .before .before .before .before .before .before .before .before .before .before .before .before .before .before .pre .0) (worded (c .before .before .before .before) (c .before .before .before .before .before .before .before .before .before .before .before .before .before .before .before .before .before .pre .0))
 
 frame-requires : tie.Need-frame-requires Inv-loop μ-loop
-frame-requires c κs = search needs
+frame-requires c κs = tt
 
 mul-frames-2 : tie.Need-mul-frames-2 Inv-loop μ-loop
-mul-frames-2 c = let room = word-room (c .before .before .before .before .before .before .before .before .before .before .before .before .before .before .before .before .before .before .before .before .pre .0) ((worded (c .before .before .before .before .before .before .before) (c .before .before .before .before .before .before .if4 .taken)) (c .before .before .before .before .before .before .before .before .before .before .before .before .before .before .before .before .before .before .before .before .pre .0)) (c .before .before .before .before .before .before .before .before .before .before .before .before .before .before .loop-test .taken) in omega arith
+mul-frames-2 c = scaled-fits _ 33 2 (word-slot (c .before .before .before .before .before .before .before .before .before .before .before .before .before .before .before .before .before .before .pre .0) (worded (c .before .before .before .before .before) (c .before .before .before .before .before .before .before .before .before .before .before .before .before .before .before .before .before .before .pre .0)) (c .before .before .before .before .before .before .before .before .before .before .before .before .loop-test .taken)) (lit< tt)
 
 array-write-frames-3 : tie.Need-array-write-frames-3 Inv-loop μ-loop
-array-write-frames-3 c = let room = word-room (c .before .before .before .before .before .before .before .before .before .before .before .before .before .before .before .before .before .before .before .before .pre .0) ((worded (c .before .before .before .before .before .before .before) (c .before .before .before .before .before .before .if4 .taken)) (c .before .before .before .before .before .before .before .before .before .before .before .before .before .before .before .before .before .before .before .before .pre .0)) (c .before .before .before .before .before .before .before .before .before .before .before .before .before .before .loop-test .taken) in omega arith
+array-write-frames-3 c = word-slot (c .before .before .before .before .before .before .before .before .before .before .before .before .before .before .before .before .before .before .pre .0) (worded (c .before .before .before .before .before) (c .before .before .before .before .before .before .before .before .before .before .before .before .before .before .before .before .before .before .pre .0)) (c .before .before .before .before .before .before .before .before .before .before .before .before .loop-test .taken)
 
 add-depth : tie.Need-add-depth Inv-loop μ-loop
-add-depth c = let room = word-room (c .before .before .before .before .before .before .before .before .before .before .before .before .before .before .before .before .before .before .before .before .pre .0) ((worded (c .before .before .before .before .before .before .before) (c .before .before .before .before .before .before .if4 .taken)) (c .before .before .before .before .before .before .before .before .before .before .before .before .before .before .before .before .before .before .before .before .pre .0)) (c .before .before .before .before .before .before .before .before .before .before .before .before .before .before .loop-test .taken) in omega arith
+add-depth c = level-fits (word-room (c .before .before .before .before .before .before .before .before .before .before .before .before .before .before .before .before .before .before .pre .0) (worded (c .before .before .before .before .before) (c .before .before .before .before .before .before .before .before .before .before .before .before .before .before .before .before .before .before .pre .0)) (c .before .before .before .before .before .before .before .before .before .before .before .before .loop-test .taken))
 
 add-i : tie.Need-add-i Inv-loop μ-loop
-add-i c = let long = word-pattern (c .before .before .before .before .before .before .before .before .before .before .before .before .before .before .before .before .before .before .before .before .pre .0) ((worded (c .before .before .before .before .before .before .before) (c .before .before .before .before .before .before .if4 .taken)) (c .before .before .before .before .before .before .before .before .before .before .before .before .before .before .before .before .before .before .before .before .pre .0)) in omega arith
+add-i c = let a = c .before .before .before .before .before .before .before .before .before .before .before .before .before .before .before .before .before .before .pre .0 in offset-fits (word-pattern a (worded (c .before .before .before .before .before) a)) (a .reads .patternLimits .most)
 
 add-j : tie.Need-add-j Inv-loop μ-loop
-add-j c = let long = word-situation (c .before .before .before .before .before .before .before .before .before .before .before .before .before .before .before .before .before .before .before .before .pre .0) ((worded (c .before .before .before .before .before .before .before) (c .before .before .before .before .before .before .if4 .taken)) (c .before .before .before .before .before .before .before .before .before .before .before .before .before .before .before .before .before .before .before .before .pre .0)) in omega arith
+add-j c = let a = c .before .before .before .before .before .before .before .before .before .before .before .before .before .before .before .before .before .before .pre .0 in offset-fits (word-situation a (worded (c .before .before .before .before .before) a)) (a .reads .situationLimits .most)
 
 loop-less-3 : tie.Need-loop-less-3 Inv-loop μ-loop
-loop-less-3 c = let t = (c .before .before .before .before .before .before .before .before .before .before .before) in let at = (worded (c .before .before .before .before .before .before .before) (c .before .before .before .before .before .before .if4 .taken)) (c .before .before .before .before .before .before .before .before .before .before .before .before .before .before .before .before .before .before .before .before .pre .0) in left-word (turn t) (full t) (word-room (c .before .before .before .before .before .before .before .before .before .before .before .before .before .before .before .before .before .before .before .before .pre .0) at (c .before .before .before .before .before .before .before .before .before .before .before .before .before .before .loop-test .taken)) (word-situation (c .before .before .before .before .before .before .before .before .before .before .before .before .before .before .before .before .before .before .before .before .pre .0) at) (c .frame .result)
+loop-less-3 c =
+    let a = c .before .before .before .before .before .before .before .before .before .before .before .before .before .before .before .before .before .before .pre .0 in
+    left-word (turn (c .before .before .before .before .before .before .before .before .before)) (full (c .before .before .before .before .before .before .before .before .before)) (word-room a (worded (c .before .before .before .before .before) a) (c .before .before .before .before .before .before .before .before .before .before .before .before .loop-test .taken)) (word-situation a (worded (c .before .before .before .before .before) a)) (c .frame .result)
 
 loop-again-3 : tie.Need-loop-again-3 Inv-loop μ-loop
-loop-again-3 c = turn-worded (turn (c .before .before .before .before .before .before .before .before .before .before .before)) (c .before .before .before .before .before .before .before .before .before .before .before .before .before .before .before .before .before .before .before .before .pre .0) (worded (c .before .before .before .before .before .before .before) (c .before .before .before .before .before .before .if4 .taken)) (c .before .before .before .if5 .left) (c .frame .result) (c .frame .ensures)
+loop-again-3 c = turn-worded (turn (c .before .before .before .before .before .before .before .before .before)) (c .before .before .before .before .before .before .before .before .before .before .before .before .before .before .before .before .before .before .pre .0) (worded (c .before .before .before .before .before)) (c .before .before .before .if5 .left) (c .frame .result) (c .frame .ensures)
 
 end-of-requires-2 : tie.Need-end-of-requires-2 Inv-loop μ-loop
-end-of-requires-2 c κs = let t = (c .before .before .before .before .before) in standing (turn t) (written (c .before .before .before .before .before) (c .before .before .before .before .if2 .taken) (c .before .before .before .if3 .left)) (c .before .before .before .before .before .before .before .before .before .before .before .before .before .before .pre .0)
+end-of-requires-2 c κs = standing (turn (c .before .before .before .before)) (written (c .before .before .before .before) (c .before .before .before .if2 .taken) (c .before .before .if3 .left)) (c .before .before .before .before .before .before .before .before .before .before .before .before .before .pre .0)
+
+wide-requires : tie.Need-wide-requires Inv-loop μ-loop
+wide-requires c κs = tt
 
 sub-cover : tie.Need-sub-cover Inv-loop μ-loop
-sub-cover c = let e = end-inside (c .before .before .before .before .before .before .before .before .before .before .before .before .before .before .before .before .pre .0) ((named (c .before .before .before) (c .before .before .if4 .left)) (c .before .before .before .before .before .before .before .before .before .before .before .before .before .before .before .before .pre .0)) (c .before .end-of2 .ensures) .0 in omega arith
+sub-cover c =
+    let byte = c .wide .ensures in
+    let high = c .before .before .before .if4 .left in
+    omega arith
+
+sub-cover-2 : tie.Need-sub-cover-2 Inv-loop μ-loop
+sub-cover-2 c = end-inside (c .before .before .before .before .before .before .before .before .before .before .before .before .before .before .before .before .pre .0) (named (c .before .before .before) (c .before .before .before .before .before .before .before .before .before .before .before .before .before .before .before .before .pre .0)) (c .before .before .end-of2 .ensures) .0
 
 cover-requires : tie.Need-cover-requires Inv-loop μ-loop
-cover-requires c κs = let at = (named (c .before .before .before) (c .before .before .if4 .left)) (c .before .before .before .before .before .before .before .before .before .before .before .before .before .before .before .before .pre .0) in
-    let inside = end-inside (c .before .before .before .before .before .before .before .before .before .before .before .before .before .before .before .before .pre .0) at (c .before .end-of2 .ensures) in
-    let low = name-known (c .before .before .before .before .before .before .before .before .before .before .before .before .before .before .before .before .pre .0) at in
-    let byte = c .before .before .before .wide .ensures in
-    let long = c .before .before .before .before .before .before .before .before .before .before .before .before .before .before .before .before .pre .0 .reads .situationLimits .most in
-    ((omega arith, omega arith, long), rw byte (name-spans (c .before .before .before .before .before .before .before .before .before .before .before .before .before .before .before .before .pre .0) at))
+cover-requires c κs = name-covers (c .before .before .before .before .before .before .before .before .before .before .before .before .before .before .before .before .pre .0) (named (c .before .before .before) (c .before .before .before .before .before .before .before .before .before .before .before .before .before .before .before .before .pre .0)) (c .before .before .end-of2 .ensures) (c .wide .ensures)
 
 returns-2 : tie.Need-returns-2 Inv-loop μ-loop
-returns-2 c = turn-unnamed (turn (c .before .before .before .before .before .before .before .before .before)) (named (c .before .before .before .before .before) (c .before .before .before .before .if4 .left)) (c .before .before .before .end-of2 .ensures) (c .before .before .before .before .before .wide .ensures) (c .before .cover .ensures) (not-true (c .before .cover .result) (c .if6 .taken))
+returns-2 c = turn-unnamed (turn (c .before .before .before .before .before .before .before .before .before)) (named (c .before .before .before .before .before)) (c .before .before .before .before .end-of2 .ensures) (c .before .before .wide .ensures) (c .before .cover .ensures) (not-true (c .before .cover .result) (c .if6 .taken))
 
 add-i-2 : tie.Need-add-i-2 Inv-loop μ-loop
-add-i-2 c = let long = name-inside (c .before .before .before .before .before .before .before .before .before .before .before .before .before .before .before .before .before .before .pre .0) ((named (c .before .before .before .before .before) (c .before .before .before .before .if4 .left)) (c .before .before .before .before .before .before .before .before .before .before .before .before .before .before .before .before .before .before .pre .0)) in omega arith
+add-i-2 c = let a = c .before .before .before .before .before .before .before .before .before .before .before .before .before .before .before .before .before .before .pre .0 in offset-fits (name-inside a (named (c .before .before .before .before .before) a)) (a .reads .patternLimits .most)
 
 loop-less-4 : tie.Need-loop-less-4 Inv-loop μ-loop
-loop-less-4 c = let t = (c .before .before .before .before .before .before .before .before .before) in left-on (turn t) (full t) (c .before .before .before .end-of2 .result) (end-inside (c .before .before .before .before .before .before .before .before .before .before .before .before .before .before .before .before .before .before .pre .0) ((named (c .before .before .before .before .before) (c .before .before .before .before .if4 .left)) (c .before .before .before .before .before .before .before .before .before .before .before .before .before .before .before .before .before .before .pre .0)) (c .before .before .before .end-of2 .ensures) .0)
+loop-less-4 c =
+    let a = c .before .before .before .before .before .before .before .before .before .before .before .before .before .before .before .before .before .before .pre .0 in
+    left-on (turn (c .before .before .before .before .before .before .before .before .before)) (full (c .before .before .before .before .before .before .before .before .before)) (c .before .before .before .before .end-of2 .result) (end-inside a (named (c .before .before .before .before .before) a) (c .before .before .before .before .end-of2 .ensures) .0)
 
 loop-again-4 : tie.Need-loop-again-4 Inv-loop μ-loop
-loop-again-4 c = turn-named (turn (c .before .before .before .before .before .before .before .before .before)) (named (c .before .before .before .before .before) (c .before .before .before .before .if4 .left)) (c .before .before .before .end-of2 .ensures) (c .before .before .before .before .before .wide .ensures) (c .before .cover .ensures) (not-false (c .before .cover .result) (c .if6 .left))
+loop-again-4 c = turn-named (turn (c .before .before .before .before .before .before .before .before .before)) (named (c .before .before .before .before .before)) (c .before .before .before .before .end-of2 .ensures) (c .before .before .wide .ensures) (c .before .cover .ensures) (not-false (c .before .cover .result) (c .if6 .left))
 
 loop-less-5 : tie.Need-loop-less-5 Inv-loop μ-loop
-loop-less-5 c = left-on (turn (c .before)) (full (c .before)) (c .before .before .before .before .before .loop .j) (omega arith)
+loop-less-5 c = left-on (turn (c .before)) (full (c .before)) (c .before .before .before .before .before .loop .j) (le-refl _)
 
 loop-again-5 : tie.Need-loop-again-5 Inv-loop μ-loop
 loop-again-5 c = turn-gap (turn (c .before)) (λ e. c .if2 .left (ap (λ n. n % 2) (c .before .before .before .places-due .ensures) ∙ e))
@@ -216,10 +216,8 @@ walk-spec =
     end-of-requires
     loop-less-2
     loop-again-2
-    shared-slice-read-wide
-    wide-requires
+    shared-slice-read-b
     shared-slice-read-if5
-    shared-slice-read-if5-2
     returns
     add-frame
     shared-slice-read-frame
@@ -234,7 +232,9 @@ walk-spec =
     loop-less-3
     loop-again-3
     end-of-requires-2
+    wide-requires
     sub-cover
+    sub-cover-2
     cover-requires
     returns-2
     add-i-2

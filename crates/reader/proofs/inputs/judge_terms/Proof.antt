@@ -1,7 +1,6 @@
 -- `reader::inputs::judge_terms` meets its contract.
 use mathlib.Core.Path.{sym, ap, _∙_}
 use denote.Ref.{now}
-use borrow.Author.Needs.{needs}
 use Rattle.wire.specs.Checks.{checkedTerm}
 use Rattle.signature.specs.Tables.{vocabularyIn}
 use Rattle.reader.specs.Answers.{termNumbers}
@@ -17,22 +16,10 @@ whole c =
     (sym (ap termNumbers (c .enum-told .given .1)) ∙ c .before .before .read .ensures)
 
 read-requires : tie.Need-read-requires
-read-requires c κs = search needs
+read-requires c κs = c .before .before .before .pre
 
 enum-known-why : tie.Need-enum-known-why
-enum-known-why c = search needs
-
-enum-known-why-2 : tie.Need-enum-known-why-2
-enum-known-why-2 c = search needs
-
-enum-told : tie.Need-enum-told
-enum-told c = search needs
-
-shared-slice-read-judge-situation : tie.Need-shared-slice-read-judge-situation
-shared-slice-read-judge-situation c = whole (c .before) .some
-
-judge-situation-requires : tie.Need-judge-situation-requires
-judge-situation-requires c κs = search needs
+enum-known-why c = c .match .keys1
 
 returns : tie.Need-returns
 returns c =
@@ -41,11 +28,23 @@ returns c =
     (vocabulary-never (c .before .why .given .0 .0) (checkedTerm (vocabularyIn (now (a .v))) (now (a .p)))
     (sym (ap termNumbers (c .before .why .given .1)) ∙ c .before .before .before .read .ensures))
 
+enum-known-why-2 : tie.Need-enum-known-why-2
+enum-known-why-2 c = c .match .keys2
+
 returns-2 : tie.Need-returns-2
 returns-2 c =
     let a = c .before .before .before .before .before .before .before .args in
     pattern-refused (vocabularyIn (now (a .v))) (now (a .p)) (now (a .s)) (c .before .why2 .given .0 .0)
     (sym (ap termNumbers (c .before .why2 .given .1)) ∙ c .before .before .before .read .ensures)
+
+enum-told : tie.Need-enum-told
+enum-told c = c .match .keys3
+
+shared-slice-read-judge-situation : tie.Need-shared-slice-read-judge-situation
+shared-slice-read-judge-situation c = whole (c .before) .some
+
+judge-situation-requires : tie.Need-judge-situation-requires
+judge-situation-requires c κs = c .before .before .before .before .before .before .before .pre
 
 returns-3 : tie.Need-returns-3
 returns-3 c = c .judge-situation .ensures ∙ pattern-accepted (whole (c .before .before)) (now (c .before .before .before .before .before .before .before .before .args .s))
@@ -56,10 +55,10 @@ judge-terms-spec =
     (tie.spec
     read-requires
     enum-known-why
+    returns
     enum-known-why-2
+    returns-2
     enum-told
     shared-slice-read-judge-situation
     judge-situation-requires
-    returns
-    returns-2
     returns-3)

@@ -2,7 +2,6 @@
 use mathlib.Core.Path.{_∙_}
 use native.Mathlib.Omega.{arith}
 use denote.Ref.{now}
-use borrow.Author.Needs.{needs}
 use Rattle.signature.specs.Tables.{vocabularyIn}
 use Rattle.reader.proofs.Tables.{kind-count, some-bytes}
 use Rattle.reader.proofs.Roots.{reply-short, reply-long, reply-kind, reply-read}
@@ -16,7 +15,7 @@ returns-2 : tie.Need-returns-2
 returns-2 c = reply-long (vocabularyIn (now (c .before .before .before .before .args .v))) (now (c .before .before .before .before .args .t)) (c .if2 .taken)
 
 shared-slice-read-kind : tie.Need-shared-slice-read-kind
-shared-slice-read-kind c = search needs
+shared-slice-read-kind c = let long = c .before .before .if1 .left in omega arith
 
 shared-slice-read-if3 : tie.Need-shared-slice-read-if3
 shared-slice-read-if3 c =
@@ -32,7 +31,7 @@ returns-3 c =
     reply-kind (vocabularyIn (now (a .v))) (now (a .t)) (c .before .before .before .before .if1 .left) (c .before .before .before .if2 .left) (omega (arith, c .if3 .taken))
 
 read-root-requires : tie.Need-read-root-requires
-read-root-requires c κs = search needs
+read-root-requires c κs = (c .before .before .before .before .before .before .before .pre, (c .before .before .before .before .if1 .left, c .before .before .before .if2 .left))
 
 returns-4 : tie.Need-returns-4
 returns-4 c =

@@ -2,19 +2,21 @@
 use mathlib.Core.Path.{_≡_, sym, ap, _∙_}
 use mathlib.Core.List.{[]}
 use Prim.Native.Nat.{_-_, _≤_}
-use native.Mathlib.Omega.{arith}
+use native.Mathlib.Nat.{le-refl, le-trans, lt-of-lt-of-le}
+use mir.Facts.{fits-8-16}
 use denote.Ref.{now}
+use lib.Dec.{lit<, lit≤}
 use lib.ListN.{getD, drop}
-use borrow.Author.Needs.{needs}
+use borrow.Author.Needs.{scaled-fits}
 use Rattle.wire.proofs.Scan.{run}
 use Rattle.signature.specs.Tables.{vocabularyIn}
 use Rattle.reader.specs.Frames.{kindsIn, frameDue}
 use Rattle.reader.specs.Nodes.{tallyOf, answerOf}
 use Rattle.reader.specs.declared.term.Node.{Node as Answer}
 use Rattle.reader.proofs.Tables.{tabled, few-words, word-framed}
-use Rattle.reader.proofs.Standing.{Stood, stood}
+use Rattle.reader.proofs.Standing.{Stood, stood, stood-room}
 use Rattle.reader.proofs.Scanning.{Scanning, scanning-begins, scanning-ends}
-use Rattle.reader.proofs.Turns.{turn-leave, Turn, turn-pass, turn-limit, kind-inside, Place, kindDue, place-refused, place-clash, place-name, place-word, leftOf, left-leave, left-pass, left-name, left-word}
+use Rattle.reader.proofs.Turns.{top-slot, top-kinds, at-fits, count-fits, turn-leave, Turn, turn-pass, kind-inside, Place, next-slot, level-fits, kindDue, place-refused, place-clash, place-name, place-word, leftOf, left-leave, left-pass, left-name, left-word}
 use Rattle.reader.proofs.term.read_places.Statement.{statement}
 use Rattle.reader.proofs.term.read_places.Tie as tie
 
@@ -45,42 +47,41 @@ turn c = record {
 
 -- The written place at which a node is read.
 place : (c : tie.After-node-at Inv-loop μ-loop) →
-    let l = c .before .before .before .before .before .before .before .before .before .loop in
-    let a = c .before .before .before .before .before .before .before .before .before .before .before .before .args in
+    let l = c .before .before .before .before .before .before .before .before .loop in
+    let a = c .before .before .before .before .before .before .before .before .before .before .before .args in
     let v = now (a .v) in
     let t = now (a .t) in
     Place v t (vocabularyIn v) (run (vocabularyIn v) (frameDue v 2 (a .root)) [] (tallyOf 1 1) (drop 3 t))
-    (l .names) (l .frames) (l .at) (l .count) (l .deepest) (l .depth) (c .before .before .before .before .before .before .passed .result)
+    (l .names) (l .frames) (l .at) (l .count) (l .deepest) (l .depth) (c .before .before .before .before .before .passed .result)
 place c = record {
-  turn = turn (c .before .before .before .before .before .before);
-  odd = c .before .before .before .before .before .if2 .taken;
-  room = c .before .before .before .before .if3 .left;
+  turn = turn (c .before .before .before .before .before);
+  odd = c .before .before .before .before .if2 .taken;
 }
 
 standing : (c : tie.After-node-at Inv-loop μ-loop) {y : Answer} → c .node-at .result ≡ y →
-    let l = c .before .before .before .before .before .before .before .before .before .loop in
-    let a = c .before .before .before .before .before .before .before .before .before .before .before .before .args in
-    Stood (vocabularyIn (now (a .v))) (a .words) (now (a .maps)) (kindDue (now (a .v)) (getD (l .frames) (l .depth - 1) 0)) (l .at) (drop (l .at) (now (a .t))) y
+    let l = c .before .before .before .before .before .before .before .before .loop in
+    let a = c .before .before .before .before .before .before .before .before .before .before .before .args in
+    Stood (vocabularyIn (now (a .v))) (l .depth) (a .words) (now (a .maps)) (kindDue (now (a .v)) (getD (l .frames) (l .depth - 1) 0)) (l .at) (drop (l .at) (now (a .t))) y
 standing c e =
-    let s = c .before .before .before .before .before .before .before .before .before .before .before .before in
+    let s = c .before .before .before .before .before .before .before .before .before .before .before in
     stood (now (s .args .t)) (c .node-at .ensures) (tabled (s .pre .0)) e
 
 array-write-frames : tie.Need-array-write-frames Inv-loop μ-loop
-array-write-frames c = search needs
+array-write-frames c = lit< tt
 
 loop-holds : tie.Need-loop-holds Inv-loop μ-loop
 loop-holds c =
-    let s = c .before .before in
+    let s = (c .before .before) in
     scanning-begins (now (s .args .v)) (now (s .args .t)) (vocabularyIn (now (s .args .v))) (s .args .root) (s .pre .1 .0) (s .pre .1 .1 .0)
 
 sub-top : tie.Need-sub-top Inv-loop μ-loop
-sub-top c = search needs
+sub-top c = c .loop-test .taken
 
 mul-due : tie.Need-mul-due Inv-loop μ-loop
-mul-due c = search needs
+mul-due c = scaled-fits _ 32 8 (top-slot (c .before .loop .inv) (c .loop-test .taken)) (lit< tt)
 
 array-read-due : tie.Need-array-read-due Inv-loop μ-loop
-array-read-due c = search needs
+array-read-due c = top-slot (c .before .loop .inv) (c .loop-test .taken)
 
 loop-less : tie.Need-loop-less Inv-loop μ-loop
 loop-less c =
@@ -91,134 +92,107 @@ loop-again : tie.Need-loop-again Inv-loop μ-loop
 loop-again c = turn-leave (c .before .before .loop .inv) (c .before .loop-test .taken) (c .if1 .taken)
 
 passed-requires : tie.Need-passed-requires Inv-loop μ-loop
-passed-requires c κs =
-    let l = c .before .before .loop in
-    let some = c .before .loop-test .taken in
-    omega (arith, l .inv .sound (l .depth - 1) (omega arith) .small)
+passed-requires c κs = top-kinds (c .before .before .loop .inv) (c .before .loop-test .taken)
 
 mul-frames : tie.Need-mul-frames Inv-loop μ-loop
-mul-frames c = search needs
+mul-frames c = scaled-fits _ 32 8 (top-slot (c .before .before .before .loop .inv) (c .before .before .loop-test .taken)) (lit< tt)
 
 array-write-frames-2 : tie.Need-array-write-frames-2 Inv-loop μ-loop
-array-write-frames-2 c = search needs
-
-at-limit-requires : tie.Need-at-limit-requires Inv-loop μ-loop
-at-limit-requires c κs = search needs
-
-returns : tie.Need-returns Inv-loop μ-loop
-returns c =
-    let t = now (c .before .before .before .before .before .before .before .before .before .args .t) in
-    c .at-limit .ensures ∙ ap (answerOf t) (turn-limit (turn (c .before .before .before)) (c .before .before .if2 .taken) (c .before .if3 .taken))
+array-write-frames-2 c = top-slot (c .before .before .before .loop .inv) (c .before .before .loop-test .taken)
 
 shared-slice-read-kind : tie.Need-shared-slice-read-kind Inv-loop μ-loop
-shared-slice-read-kind c = kind-inside (turn (c .before .before .before)) (c .before .before .if2 .taken)
+shared-slice-read-kind c = kind-inside (turn (c .before .before)) (c .before .if2 .taken)
 
 add-most : tie.Need-add-most Inv-loop μ-loop
-add-most c = search needs
+add-most c = level-fits (c .before .before .before .before .before .loop .inv .shallow)
 
 most-requires : tie.Need-most-requires Inv-loop μ-loop
-most-requires c κs = search needs
+most-requires c κs = tt
 
 sub-node-at : tie.Need-sub-node-at Inv-loop μ-loop
-sub-node-at c = search needs
+sub-node-at c = c .before .before .before .before .before .before .loop .inv .inside
 
 part-node-at-start : tie.Need-part-node-at-start Inv-loop μ-loop
-part-node-at-start c = search needs
+part-node-at-start c = c .before .before .before .before .before .before .loop .inv .inside
 
 part-node-at-end : tie.Need-part-node-at-end Inv-loop μ-loop
-part-node-at-end c = search needs
+part-node-at-end c = le-refl _
 
 node-at-requires : tie.Need-node-at-requires Inv-loop μ-loop
-node-at-requires c κs =
-    let inside = c .before .before .before .before .before .before .before .before .loop .inv .inside in
-    let small = c .before .before .before .before .before .before .before .before .before .before .before .pre .1 .1 .1 in
-    (omega arith, few (c .before .before .before .before .before .before .before .before .before .before))
+node-at-requires c κs = (le-trans (c .before .before .before .before .before .before .before .loop .inv .inside) (c .before .before .before .before .before .before .before .before .before .before .pre .1 .1 .1), few (c .before .before .before .before .before .before .before .before .before))
 
 enum-known-why : tie.Need-enum-known-why Inv-loop μ-loop
-enum-known-why c = search needs
+enum-known-why c = c .match .keys1
 
-returns-2 : tie.Need-returns-2 Inv-loop μ-loop
-returns-2 c =
-    let n = (c .before .before .before) in
-    place-refused (place n) (standing n (c .before .why .given .1))
+returns : tie.Need-returns Inv-loop μ-loop
+returns c = place-refused (place (c .before .before .before)) (standing (c .before .before .before) (c .before .why .given .1))
 
 enum-known-n : tie.Need-enum-known-n Inv-loop μ-loop
-enum-known-n c = search needs
+enum-known-n c = c .match .keys2
 
 mul-clashes : tie.Need-mul-clashes Inv-loop μ-loop
-mul-clashes c = let known = standing (c .before .before .before) (c .before .n .given .1) .inside .known in omega arith
+mul-clashes c = scaled-fits _ 64 2 (standing (c .before .before .before) (c .before .n .given .1) .inside .known) (lit< tt)
 
 array-read-clashes : tie.Need-array-read-clashes Inv-loop μ-loop
 array-read-clashes c = standing (c .before .before .before) (c .before .n .given .1) .inside .known
 
 clashes-requires : tie.Need-clashes-requires Inv-loop μ-loop
-clashes-requires c κs = search needs
+clashes-requires c κs = tt
 
-returns-3 : tie.Need-returns-3 Inv-loop μ-loop
-returns-3 c =
-    let n = (c .before .before .before .before .before) in
-    place-clash (place n) (standing n (c .before .before .before .n .given .1)) (sym (c .before .clashes .ensures) ∙ c .if4 .taken)
+returns-2 : tie.Need-returns-2 Inv-loop μ-loop
+returns-2 c = place-clash (place (c .before .before .before .before .before)) (standing (c .before .before .before .before .before) (c .before .before .before .n .given .1)) (sym (c .before .clashes .ensures) ∙ c .if3 .taken)
 
 cast-names : tie.Need-cast-names Inv-loop μ-loop
-cast-names c =
-    let l = c .before .before .before .before .before .before .before .before .before .before .before .before .before .before .loop in
-    let bytes = c .before .before .before .before .before .before .before .before .before .before .before .before .before .before .before .before .shared-slice-known .given in
-    omega (arith, bytes (kindsIn (getD (l .frames) (l .depth - 1) 0)))
+cast-names c = fits-8-16 (c .before .before .before .before .before .before .before .before .before .before .before .before .before .before .before .shared-slice-known .given (kindsIn (getD (c .before .before .before .before .before .before .before .before .before .before .before .before .before .loop .frames) (c .before .before .before .before .before .before .before .before .before .before .before .before .before .loop .depth - 1) 0)))
 
 mul-names : tie.Need-mul-names Inv-loop μ-loop
-mul-names c = let known = standing (c .before .before .before .before .before) (c .before .before .before .n .given .1) .inside .known in omega arith
+mul-names c = scaled-fits _ 64 2 (standing (c .before .before .before .before .before) (c .before .before .before .n .given .1) .inside .known) (lit< tt)
 
 array-write-names : tie.Need-array-write-names Inv-loop μ-loop
 array-write-names c = standing (c .before .before .before .before .before) (c .before .before .before .n .given .1) .inside .known
 
 add-at : tie.Need-add-at Inv-loop μ-loop
-add-at c = search needs
+add-at c = at-fits (c .before .before .before .before .before .before .before .before .before .before .before .before .before .loop .inv) (c .before .before .before .before .before .before .before .before .before .before .before .before .before .before .before .before .pre .1 .1 .1) 1 (lit≤ tt)
 
 loop-less-2 : tie.Need-loop-less-2 Inv-loop μ-loop
 loop-less-2 c = left-name (place (c .before .before .before .before .before))
 
 loop-again-2 : tie.Need-loop-again-2 Inv-loop μ-loop
 loop-again-2 c =
-    let n = (c .before .before .before .before .before) in
-    let l = c .before .before .before .before .before .before .before .before .before .before .before .before .before .before .loop in
-    let bytes = c .before .before .before .before .before .before .before .before .before .before .before .before .before .before .before .before .shared-slice-known .given in
-    place-name (place n) (c .before .before .before .before .before .before .before .most .ensures) (standing n (c .before .before .before .n .given .1)) (bytes (kindsIn (getD (l .frames) (l .depth - 1) 0)) .fits)
-    (sym (c .before .clashes .ensures) ∙ c .if4 .left)
+    place-name (place (c .before .before .before .before .before)) (c .before .before .before .before .before .before .before .most .ensures) (standing (c .before .before .before .before .before) (c .before .before .before .n .given .1))
+    (c .before .before .before .before .before .before .before .before .before .before .before .before .before .before .before .shared-slice-known .given (kindsIn (getD (c .before .before .before .before .before .before .before .before .before .before .before .before .before .loop .frames) (c .before .before .before .before .before .before .before .before .before .before .before .before .before .loop .depth - 1) 0)) .fits) (sym (c .before .clashes .ensures) ∙ c .if3 .left)
 
 enum-known-f : tie.Need-enum-known-f Inv-loop μ-loop
-enum-known-f c = search needs
+enum-known-f c = c .match .keys3
 
 word-frame-requires : tie.Need-word-frame-requires Inv-loop μ-loop
-word-frame-requires c κs =
-    let known = standing (c .before .before .before) (c .before .f .given .1) .inside .known in
-    omega (arith, few (c .before .before .before .before .before .before .before .before .before .before .before .before .before .before))
+word-frame-requires c κs = lt-of-lt-of-le (standing (c .before .before .before) (c .before .f .given .1) .inside .known) (few (c .before .before .before .before .before .before .before .before .before .before .before .before .before))
 
 mul-frames-2 : tie.Need-mul-frames-2 Inv-loop μ-loop
-mul-frames-2 c = search needs
+mul-frames-2 c = scaled-fits _ 32 8 (next-slot (stood-room (standing (c .before .before .before .before) (c .before .before .f .given .1)) (λ e. e))) (lit< tt)
 
 array-write-frames-3 : tie.Need-array-write-frames-3 Inv-loop μ-loop
-array-write-frames-3 c = search needs
+array-write-frames-3 c = next-slot (stood-room (standing (c .before .before .before .before) (c .before .before .f .given .1)) (λ e. e))
 
 add-depth : tie.Need-add-depth Inv-loop μ-loop
-add-depth c = search needs
+add-depth c = level-fits (c .before .before .before .before .before .before .before .before .before .before .before .before .loop .inv .shallow)
 
 add-count : tie.Need-add-count Inv-loop μ-loop
-add-count c = search needs
+add-count c = count-fits (c .before .before .before .before .before .before .before .before .before .before .before .before .loop .inv) (c .before .before .before .before .before .before .before .before .before .before .before .before .before .before .before .pre .1 .1 .1)
 
 add-at-2 : tie.Need-add-at-2 Inv-loop μ-loop
-add-at-2 c = search needs
+add-at-2 c = at-fits (c .before .before .before .before .before .before .before .before .before .before .before .before .loop .inv) (c .before .before .before .before .before .before .before .before .before .before .before .before .before .before .before .pre .1 .1 .1) 2 (lit≤ tt)
 
 loop-less-3 : tie.Need-loop-less-3 Inv-loop μ-loop
 loop-less-3 c =
-    let n = (c .before .before .before .before) in
-    left-word (place n) (standing n (c .before .before .f .given .1) .inside .long) (c .word-frame .result)
+    let stands = standing (c .before .before .before .before) (c .before .before .f .given .1) in
+    left-word (place (c .before .before .before .before)) (stood-room stands (λ e. e)) (stands .inside .long) (c .word-frame .result)
 
 loop-again-3 : tie.Need-loop-again-3 Inv-loop μ-loop
 loop-again-3 c =
-    let n = (c .before .before .before .before) in
-    let known = (c .before .before .before .before .before .before .before .before .before .before .before .before .before .before .before) in
-    let stands = standing n (c .before .before .f .given .1) in
-    place-word (place n) (c .before .before .before .before .before .before .most .ensures) stands
+    let known = (c .before .before .before .before .before .before .before .before .before .before .before .before .before .before) in
+    let stands = standing (c .before .before .before .before) (c .before .before .f .given .1) in
+    place-word (place (c .before .before .before .before)) (c .before .before .before .before .before .before .most .ensures) stands
     (word-framed (known .before .pre .0) (λ i. known .shared-slice-known .given i .fits) (stands .inside) (c .word-frame .ensures))
 
 loop-less-4 : tie.Need-loop-less-4 Inv-loop μ-loop
@@ -228,12 +202,10 @@ loop-again-4 : tie.Need-loop-again-4 Inv-loop μ-loop
 loop-again-4 c = turn-pass (turn (c .before)) (c .if2 .left)
 
 finish-requires : tie.Need-finish-requires Inv-loop μ-loop
-finish-requires c κs = search needs
+finish-requires c κs = c .before .loop .inv .inside
 
-returns-4 : tie.Need-returns-4 Inv-loop μ-loop
-returns-4 c =
-    let t = now (c .before .before .before .before .before .args .t) in
-    c .finish .ensures ∙ ap (answerOf t) (scanning-ends (c .before .before .loop .inv) (c .before .loop-test .left))
+returns-3 : tie.Need-returns-3 Inv-loop μ-loop
+returns-3 c = c .finish .ensures ∙ ap (answerOf (now (c .before .before .before .before .before .args .t))) (scanning-ends (c .before .before .loop .inv) (c .before .loop-test .left))
 
 pub read-places-spec : {M : Type 1} → statement M
 read-places-spec =
@@ -251,8 +223,6 @@ read-places-spec =
     passed-requires
     mul-frames
     array-write-frames-2
-    at-limit-requires
-    returns
     shared-slice-read-kind
     add-most
     most-requires
@@ -261,12 +231,12 @@ read-places-spec =
     part-node-at-end
     node-at-requires
     enum-known-why
-    returns-2
+    returns
     enum-known-n
     mul-clashes
     array-read-clashes
     clashes-requires
-    returns-3
+    returns-2
     cast-names
     mul-names
     array-write-names
@@ -285,4 +255,4 @@ read-places-spec =
     loop-less-4
     loop-again-4
     finish-requires
-    returns-4)
+    returns-3)

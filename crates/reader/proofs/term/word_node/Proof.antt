@@ -1,6 +1,6 @@
 -- `reader::term::word_node` meets its contract.
+use native.Mathlib.Omega.{arith}
 use denote.Ref.{now}
-use borrow.Author.Needs.{needs}
 use Rattle.reader.proofs.Standing.{word-differs, word-ends, word-stray, word-stands}
 use Rattle.reader.proofs.term.word_node.Statement.{statement}
 use Rattle.reader.proofs.term.word_node.Tie as tie
@@ -12,7 +12,7 @@ returns c =
     word-differs (a .word) (a .result) (a .map) (a .kind) (a .at) (now (a .rest)) (pre .1) (pre .2) (c .if1 .taken)
 
 add-t11 : tie.Need-add-t11
-add-t11 c = search needs
+add-t11 c = let small = c .before .before .pre .0 in record { fits = omega arith }
 
 returns-2 : tie.Need-returns-2
 returns-2 c =
@@ -21,10 +21,10 @@ returns-2 c =
     word-ends (a .word) (a .result) (a .map) (a .kind) (a .at) (now (a .rest)) (pre .1) (pre .2) (c .before .if1 .left) (c .if2 .taken)
 
 shared-slice-read-written : tie.Need-shared-slice-read-written
-shared-slice-read-written c = search needs
+shared-slice-read-written c = c .before .if2 .left
 
 add-t15 : tie.Need-add-t15
-add-t15 c = search needs
+add-t15 c = let small = c .before .before .before .before .pre .0 in record { fits = omega arith }
 
 returns-3 : tie.Need-returns-3
 returns-3 c =
