@@ -3,10 +3,10 @@
 use mathlib.Core.Path.{_≡_, refl, sym, ap, ap₂, subst, subst₂, _∙_}
 use mathlib.Core.Bool.{Bool, true, false, cond}
 use mathlib.Core.List.{List, [], _∷_, _++_, map}
-use Prim.Native.Nat.{ℕ, zero, suc, _+_, _*_, _-_, _<_, _≤_, min}
+use Prim.Native.Nat.{ℕ, suc, _+_, _*_, _-_, _<_, _≤_, min}
 use native.Mathlib.Omega.{arith}
-use lib.Dec.{leb, lit<}
-use lib.ListN.{length, getD, take, drop, replicate, length-append, length-drop, length-map, length-replicate}
+use lib.Dec.{leb}
+use lib.ListN.{length, getD, take, drop, replicate, length-append, length-map, length-replicate}
 use borrow.Author.Tests.{leb-true}
 use Rattle.terms.specs.Lists.{All}
 use Rattle.terms.specs.Term.{Term}
@@ -23,7 +23,7 @@ use Rattle.wire.proofs.Text.{decimal-short, hexadecimal-length}
 use Rattle.wire.proofs.Levels.{deepest-bytes}
 use Rattle.wire.proofs.Entries.{entries-are-good}
 use Rattle.wire.proofs.EntriesRead.{GoodKinded}
-use Rattle.wire.proofs.EntryCut.{cut, cut-entries}
+use Rattle.wire.proofs.EntryCut.{cut-entries}
 use Rattle.wire.proofs.Listed.{linear-in}
 use Rattle.wire.proofs.VocabulariesInverse.{vocabularies-inverse}
 use Rattle.report.specs.Prints.{Prints}

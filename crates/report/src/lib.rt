@@ -1,6 +1,6 @@
 // The text that document 01's program `leftovers` prints for its standard input.
 ghost use mathlib.Core.Path.{_≡_};
-ghost use mathlib.Core.List.{_∷_, [], _++_};
+ghost use mathlib.Core.List.{_++_};
 ghost use Prim.Native.Nat.{_+_, _≤_, _<_, min};
 ghost use lib.ListN.{length};
 ghost use Rattle.signature.specs.Answers.{vocabularyRefused};
@@ -174,9 +174,9 @@ fn put_lines(listing: &[u8], n: usize, text: &mut [u8], at: usize) -> usize
     let mut next = at;
     while i < n {
         let to = from + entry_size(&listing[from..]);
-        i += 1;
-        next = put_line(i, &listing[from..to], text, next);
+        next = put_line(i + 1, &listing[from..to], text, next);
         from = to;
+        i += 1;
     }
     next
 }

@@ -5,18 +5,18 @@
 --   cut n l         n entries off the front of l
 --   cut-entries     whole patterns one behind the other are cut into these patterns
 --
-use mathlib.Core.Path.{_≡_, refl, sym, ap, ap₂, subst, _∙_}
-use mathlib.Core.Bool.{Bool, true, false, not, cond, true≢false}
+use mathlib.Core.Path.{_≡_, refl, ap, ap₂, subst, _∙_}
+use mathlib.Core.Bool.{Bool, true, false, not, cond}
 use mathlib.Core.List.{List, [], _∷_, _++_, map, append-assoc}
-use Prim.Native.Nat.{ℕ, zero, suc, _+_, _*_, _<_, _≤_}
+use Prim.Native.Nat.{ℕ, zero, suc, _+_, _<_, _≤_}
 use native.Mathlib.Omega.{arith}
 use lib.Dec.{ltb}
 use lib.ListN.{length, take, drop, length-append}
 use lib.Seq.{take-at, drop-at}
-use borrow.Author.Tests.{lt-ltb, le-ltb, ltb-true, ltb-false}
+use borrow.Author.Tests.{lt-ltb, le-ltb}
 use Rattle.terms.specs.Lists.{All}
 use Rattle.terms.specs.Term.{Term, any, var, app, Terms, nil, cons, Sorted, SortedAll}
-use Rattle.wire.specs.Map.{writeMap, flags, bit, ones, isOpen, writtenFlags}
+use Rattle.wire.specs.Map.{flags, bit, ones, isOpen, writtenFlags}
 use Rattle.wire.specs.Vocabulary.{Vocabulary, InOrder, signature, word, mapOf}
 use Rattle.wire.specs.Written.{firstNameByte, writtenMap, encodeAt, encodeAll, encodeRoot, encodeTerm}
 use Rattle.wire.specs.Reading.{Kinded}

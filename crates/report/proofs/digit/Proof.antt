@@ -1,3 +1,4 @@
+-- `report::digit` meets its contract.
 use lib.Dec.{ltb}
 use native.Mathlib.Omega.{arith}
 use mathlib.Core.Path.{_∙_, sym}
@@ -6,22 +7,16 @@ use Rattle.wire.proofs.Cond.{cond-true, cond-false}
 use borrow.Author.Needs.{needs}
 use Rattle.report.proofs.digit.Statement.{statement}
 use Rattle.report.proofs.digit.Tie as tie
-use Rattle.report.proofs.digit.Reads as reads
-use Rattle.report.proofs.digit.Lts as lts
 
--- src/lib.rt:107:17
 add-result : tie.Need-add-result
 add-result c = search needs
 
--- src/lib.rt:107:33
 add-result-2 : tie.Need-add-result-2
 add-result-2 c = search needs
 
--- src/lib.rt:103:1
 returns : tie.Need-returns
 returns c = sym (cond-true (ltb (c .before .args .d) 10) _ _ (lt-ltb _ _ (c .if1 .taken)))
 
--- src/lib.rt:103:1
 returns-2 : tie.Need-returns-2
 returns-2 c = sym (cond-false (ltb (c .before .args .d) 10) _ _ (le-ltb _ _ (c .if1 .left)) ∙ omega arith)
 

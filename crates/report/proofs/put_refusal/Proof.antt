@@ -1,52 +1,56 @@
+-- `report::put_refusal` meets its contract.
 use denote.Ref.{now}
 use Rattle.report.proofs.Lines.{refusal-number-room, refusal-input-room, refusal-place-room, refusal-put}
 use borrow.Author.Needs.{needs}
 use Rattle.report.proofs.put_refusal.Statement.{statement}
 use Rattle.report.proofs.put_refusal.Tie as tie
-use Rattle.report.proofs.put_refusal.Reads as reads
-use Rattle.report.proofs.put_refusal.Lts as lts
-use Rattle.report.proofs.put.Reads as put-reads
-use Rattle.report.proofs.put_number.Reads as put-number-reads
 
--- src/lib.rt:203:17
 slice-aggregate-put : tie.Need-slice-aggregate-put
 slice-aggregate-put c = search needs
 
--- src/lib.rt:203:9
 put-requires : tie.Need-put-requires
 put-requires c κs = search needs
 
--- src/lib.rt:204:30
 slice-aggregate-put-number : tie.Need-slice-aggregate-put-number
 slice-aggregate-put-number c = search needs
 
--- src/lib.rt:204:9
 put-number-requires : tie.Need-put-number-requires
-put-number-requires c κs = refusal-number-room (c .before .before .before .before .before .before .before .before .args .why .line) (c .before .before .before .before .before .before .before .before .args .why .input) (c .before .before .before .before .before .before .before .before .args .why .place) (now (c .before .before .before .before .before .before .before .before .args .text)) (search needs, search needs, search needs) (c .before .before .before .before .before .before .before .before .pre) (c .before .before .before .before .put .ensures)
+put-number-requires c κs =
+    let at-put = c .before .before .before .before in
+    let start = at-put .before .before .before .before in
+    refusal-number-room (start .args .why .line) (start .args .why .input) (start .args .why .place) (now (start .args .text)) (search needs, search needs, search needs) (start .pre) (at-put .put .ensures)
 
--- src/lib.rt:205:31
 slice-aggregate-put-number-2 : tie.Need-slice-aggregate-put-number-2
 slice-aggregate-put-number-2 c = search needs
 
--- src/lib.rt:205:9
 put-number-requires-2 : tie.Need-put-number-requires-2
-put-number-requires-2 c κs = refusal-input-room (c .before .before .before .before .before .before .before .before .before .before .before .before .before .args .why .line) (c .before .before .before .before .before .before .before .before .before .before .before .before .before .args .why .input) (c .before .before .before .before .before .before .before .before .before .before .before .before .before .args .why .place) (now (c .before .before .before .before .before .before .before .before .before .before .before .before .before .args .text)) (search needs, search needs, search needs) (c .before .before .before .before .before .before .before .before .before .before .before .before .before .pre) (c .before .before .before .before .before .before .before .before .before .put .ensures) (c .before .before .before .before .put-number .ensures)
+put-number-requires-2 c κs =
+    let at-put-number = c .before .before .before .before in
+    let at-put = at-put-number .before .before .before .before .before in
+    let start = at-put .before .before .before .before in
+    refusal-input-room (start .args .why .line) (start .args .why .input) (start .args .why .place) (now (start .args .text)) (search needs, search needs, search needs) (start .pre) (at-put .put .ensures) (at-put-number .put-number .ensures)
 
--- src/lib.rt:206:23
 slice-aggregate-put-number-3 : tie.Need-slice-aggregate-put-number-3
 slice-aggregate-put-number-3 c = search needs
 
--- src/lib.rt:206:5
 put-number-requires-3 : tie.Need-put-number-requires-3
-put-number-requires-3 c κs = refusal-place-room (c .before .before .before .before .before .before .before .before .before .before .before .before .before .before .before .before .before .before .args .why .line) (c .before .before .before .before .before .before .before .before .before .before .before .before .before .before .before .before .before .before .args .why .input) (c .before .before .before .before .before .before .before .before .before .before .before .before .before .before .before .before .before .before .args .why .place) (now (c .before .before .before .before .before .before .before .before .before .before .before .before .before .before .before .before .before .before .args .text)) (search needs, search needs, search needs) (c .before .before .before .before .before .before .before .before .before .before .before .before .before .before .before .before .before .before .pre) (c .before .before .before .before .before .before .before .before .before .before .before .before .before .before .put .ensures) (c .before .before .before .before .before .before .before .before .before .put-number .ensures) (c .before .before .before .before .put-number2 .ensures)
+put-number-requires-3 c κs =
+    let at-put-number2 = c .before .before .before .before in
+    let at-put-number = at-put-number2 .before .before .before .before .before in
+    let at-put = at-put-number .before .before .before .before .before in
+    let start = at-put .before .before .before .before in
+    refusal-place-room (start .args .why .line) (start .args .why .input) (start .args .why .place) (now (start .args .text)) (search needs, search needs, search needs) (start .pre) (at-put .put .ensures) (at-put-number .put-number .ensures) (at-put-number2 .put-number2 .ensures)
 
--- src/lib.rt:196:1
 same-length : tie.Need-same-length
 same-length c = search needs
 
--- src/lib.rt:196:1
 returns : tie.Need-returns
-returns c = refusal-put (c .before .before .before .before .before .before .before .before .before .before .before .before .before .before .before .before .before .before .before .before .before .args .why .line) (c .before .before .before .before .before .before .before .before .before .before .before .before .before .before .before .before .before .before .before .before .before .args .why .input) (c .before .before .before .before .before .before .before .before .before .before .before .before .before .before .before .before .before .before .before .before .before .args .why .place) (now (c .before .before .before .before .before .before .before .before .before .before .before .before .before .before .before .before .before .before .before .before .before .args .text)) (search needs, search needs, search needs) (c .before .before .before .before .before .before .before .before .before .before .before .before .before .before .before .before .before .before .before .before .before .pre) (c .before .before .before .before .before .before .before .before .before .before .before .before .before .before .before .before .before .put .ensures) (c .before .before .before .before .before .before .before .before .before .before .before .before .put-number .ensures) (c .before .before .before .before .before .before .before .put-number2 .ensures) (c .before .before .put-number3 .ensures)
+returns c =
+    let at-put-number2 = c .before .before .before .before .before .before .before in
+    let at-put-number = at-put-number2 .before .before .before .before .before in
+    let at-put = at-put-number .before .before .before .before .before in
+    let start = at-put .before .before .before .before in
+    refusal-put (start .args .why .line) (start .args .why .input) (start .args .why .place) (now (start .args .text)) (search needs, search needs, search needs) (start .pre) (at-put .put .ensures) (at-put-number .put-number .ensures) (at-put-number2 .put-number2 .ensures) (c .before .before .put-number3 .ensures)
 
 pub put-refusal-spec : {M : Type 1} → statement M
 put-refusal-spec =

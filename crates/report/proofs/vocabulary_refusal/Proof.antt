@@ -1,81 +1,61 @@
+-- `report::vocabulary_refusal` meets its contract.
 use mathlib.Core.Path.{_∙_, sym, ap}
 use Rattle.signature.specs.Answers.{vocabularyRefused}
 use borrow.Author.Needs.{needs}
 use Rattle.report.proofs.vocabulary_refusal.Statement.{statement}
 use Rattle.report.proofs.vocabulary_refusal.Tie as tie
-use Rattle.report.proofs.vocabulary_refusal.Reads as reads
-use Rattle.report.proofs.vocabulary_refusal.Lts as lts
-use Rattle.report.proofs.refuse.Reads as refuse-reads
 
--- src/lib.rt:50:36
 enum-told : tie.Need-enum-told
 enum-told c = search needs
 
--- src/lib.rt:50:36
 refuse-requires : tie.Need-refuse-requires
 refuse-requires c κs = search needs
 
--- src/lib.rt:51:41
 enum-told-2 : tie.Need-enum-told-2
 enum-told-2 c = search needs
 
--- src/lib.rt:51:41
 refuse-requires-2 : tie.Need-refuse-requires-2
 refuse-requires-2 c κs = search needs
 
--- src/lib.rt:52:33
 enum-known-why : tie.Need-enum-known-why
 enum-known-why c = search needs
 
--- src/lib.rt:52:39
 refuse-requires-3 : tie.Need-refuse-requires-3
 refuse-requires-3 c κs = search needs
 
--- src/lib.rt:53:39
 enum-known-why-2 : tie.Need-enum-known-why-2
 enum-known-why-2 c = search needs
 
--- src/lib.rt:53:45
 refuse-requires-4 : tie.Need-refuse-requires-4
 refuse-requires-4 c κs = search needs
 
--- src/lib.rt:54:38
 enum-known-why-3 : tie.Need-enum-known-why-3
 enum-known-why-3 c = search needs
 
--- src/lib.rt:54:44
 refuse-requires-5 : tie.Need-refuse-requires-5
 refuse-requires-5 c κs = search needs
 
--- src/lib.rt:55:38
 enum-known-why-4 : tie.Need-enum-known-why-4
 enum-known-why-4 c = search needs
 
--- src/lib.rt:55:44
 refuse-requires-6 : tie.Need-refuse-requires-6
 refuse-requires-6 c κs = search needs
 
--- src/lib.rt:46:1
 returns : tie.Need-returns
 returns c = c .refuse .ensures ∙ sym (ap vocabularyRefused (c .before .enum-told .given .1))
 
--- src/lib.rt:46:1
 returns-2 : tie.Need-returns-2
 returns-2 c = c .refuse2 .ensures ∙ sym (ap vocabularyRefused (c .before .enum-told2 .given .1))
 
--- src/lib.rt:46:1
 returns-3 : tie.Need-returns-3
 returns-3 c = c .refuse3 .ensures ∙ sym (ap vocabularyRefused (c .before .before .why .given .1))
 
--- src/lib.rt:46:1
 returns-4 : tie.Need-returns-4
 returns-4 c = c .refuse4 .ensures ∙ sym (ap vocabularyRefused (c .before .before .why2 .given .1))
 
--- src/lib.rt:46:1
 returns-5 : tie.Need-returns-5
 returns-5 c = c .refuse5 .ensures ∙ sym (ap vocabularyRefused (c .before .before .why3 .given .1))
 
--- src/lib.rt:46:1
 returns-6 : tie.Need-returns-6
 returns-6 c = c .refuse6 .ensures ∙ sym (ap vocabularyRefused (c .before .before .why4 .given .1))
 

@@ -1,0 +1,144 @@
+//! The archive's calls in the form of the reference's: slices in, three numbers out.
+//!
+//! The functions of the archive are called as they are, with nothing of the Rust binding between.
+
+pub mod terms;
+pub mod timing;
+
+pub use reference::Reply;
+
+/// What stands in a reply before the archive writes it.
+const UNWRITTEN: Reply = [u64::MAX; 3];
+
+pub mod archive {
+    use super::{Reply, UNWRITTEN};
+    use std::ptr;
+
+    extern "C" {
+        fn pheasantry_check_vocabulary(v: *const u8, v_length: usize, reply: *mut u64);
+        fn pheasantry_check_term(
+            v: *const u8,
+            v_length: usize,
+            t: *const u8,
+            t_length: usize,
+            reply: *mut u64,
+        );
+        fn pheasantry_match(
+            v: *const u8,
+            v_length: usize,
+            p: *const u8,
+            p_length: usize,
+            s: *const u8,
+            s_length: usize,
+            table: *mut u16,
+            table_length: usize,
+            reply: *mut u64,
+        );
+        fn pheasantry_part(
+            v: *const u8,
+            v_length: usize,
+            p: *const u8,
+            p_length: usize,
+            s: *const u8,
+            s_length: usize,
+            name: u64,
+            reply: *mut u64,
+        );
+        fn pheasantry_list(
+            v: *const u8,
+            v_length: usize,
+            p: *const u8,
+            p_length: usize,
+            out: *mut u8,
+            out_length: usize,
+            reply: *mut u64,
+        );
+    }
+
+    /// The pointer of a slice; null where there is nothing to point to, which the header allows.
+    fn pointer(slice: &[u8]) -> *const u8 {
+        if slice.is_empty() {
+            ptr::null()
+        } else {
+            slice.as_ptr()
+        }
+    }
+
+    // SAFETY, for all five: pointers and lengths are those of slices that live through the call, or
+    // null and 0, and what is written is borrowed for the call alone.
+
+    pub fn check_vocabulary(v: &[u8]) -> Reply {
+        let mut reply = UNWRITTEN;
+        unsafe { pheasantry_check_vocabulary(pointer(v), v.len(), reply.as_mut_ptr()) };
+        reply
+    }
+
+    pub fn check_term(v: &[u8], t: &[u8]) -> Reply {
+        let mut reply = UNWRITTEN;
+        unsafe {
+            pheasantry_check_term(pointer(v), v.len(), pointer(t), t.len(), reply.as_mut_ptr())
+        };
+        reply
+    }
+
+    pub fn match_pattern(v: &[u8], p: &[u8], s: &[u8], table: &mut [u16]) -> Reply {
+        let mut reply = UNWRITTEN;
+        let to = if table.is_empty() {
+            ptr::null_mut()
+        } else {
+            table.as_mut_ptr()
+        };
+        unsafe {
+            pheasantry_match(
+                pointer(v),
+                v.len(),
+                pointer(p),
+                p.len(),
+                pointer(s),
+                s.len(),
+                to,
+                table.len(),
+                reply.as_mut_ptr(),
+            )
+        };
+        reply
+    }
+
+    pub fn part(v: &[u8], p: &[u8], s: &[u8], name: u64) -> Reply {
+        let mut reply = UNWRITTEN;
+        unsafe {
+            pheasantry_part(
+                pointer(v),
+                v.len(),
+                pointer(p),
+                p.len(),
+                pointer(s),
+                s.len(),
+                name,
+                reply.as_mut_ptr(),
+            )
+        };
+        reply
+    }
+
+    pub fn list(v: &[u8], p: &[u8], out: &mut [u8]) -> Reply {
+        let mut reply = UNWRITTEN;
+        let to = if out.is_empty() {
+            ptr::null_mut()
+        } else {
+            out.as_mut_ptr()
+        };
+        unsafe {
+            pheasantry_list(
+                pointer(v),
+                v.len(),
+                pointer(p),
+                p.len(),
+                to,
+                out.len(),
+                reply.as_mut_ptr(),
+            )
+        };
+        reply
+    }
+}

@@ -1,0 +1,140 @@
+//! Check, match, part and list over vocabularies and terms given as bytes.
+#![forbid(unsafe_code)]
+
+pub mod generate;
+mod listing;
+mod matching;
+mod program;
+mod term;
+mod vocabulary;
+
+use matching::Pass;
+use term::{Stack, CHECK, SHORT};
+use vocabulary::Words;
+
+/// Accepted: `[0, a, b]`. Refused: `[number, input, place]`.
+pub type Reply = [u64; 3];
+
+/// Calls the function with tables sized for the vocabulary's number of words
+/// and for the longest term.
+macro_rules! sized {
+    ($vocabulary:expr, $longest:expr, $function:ident ( $($argument:expr),* )) => {
+        match $vocabulary {
+            [_, 0..=16, ..] if $longest <= SHORT => {
+                $function::<16, 72>($vocabulary, $($argument),*)
+            }
+            [_, 0..=16, ..] => $function::<16, 264>($vocabulary, $($argument),*),
+            _ => $function::<128, 264>($vocabulary, $($argument),*),
+        }
+    };
+}
+
+/// Checks a vocabulary; accepted is `[0, 0, 0]`.
+pub fn check_vocabulary(vocabulary: &[u8]) -> Reply {
+    match vocabulary::scan(vocabulary, |_, _| ()) {
+        Ok(_) => [0, 0, 0],
+        Err(refusal) => refusal,
+    }
+}
+
+/// Checks a term under a vocabulary; accepted is `[0, words, deepest level]`.
+pub fn check_term(vocabulary: &[u8], term: &[u8]) -> Reply {
+    sized!(vocabulary, term.len(), check_term_sized(term)).unwrap_or_else(|refusal| refusal)
+}
+
+fn check_term_sized<const W: usize, const S: usize>(
+    vocabulary: &[u8],
+    term: &[u8],
+) -> Result<Reply, Reply> {
+    let mut words = Words::<W>::new();
+    words.fill(vocabulary)?;
+    let mut stack = Stack::<S>::new();
+    let reading = term::read::<W, S, CHECK>(&words, term, 1, &mut stack, &[0; 16])?;
+    Ok([0, reading.words as u64, reading.deepest as u64])
+}
+
+/// Matches a pattern with a complete situation; accepted is `[0, 1, 0]` for
+/// yes, with the table filled, and `[0, 0, 0]` for no.
+pub fn match_pattern(
+    vocabulary: &[u8],
+    pattern: &[u8],
+    situation: &[u8],
+    table: &mut [u16],
+) -> Reply {
+    let longest = pattern.len().max(situation.len());
+    sized!(vocabulary, longest, match_sized(pattern, situation, table))
+        .unwrap_or_else(|refusal| refusal)
+}
+
+fn match_sized<const W: usize, const S: usize>(
+    vocabulary: &[u8],
+    pattern: &[u8],
+    situation: &[u8],
+    table: &mut [u16],
+) -> Result<Reply, Reply> {
+    let mut words = Words::<W>::new();
+    words.fill(vocabulary)?;
+    let mut pass = Pass::<S>::new();
+    let yes = pass.both(&words, pattern, situation);
+    if !yes {
+        pass.apart(&words, pattern, situation)?;
+    }
+    let Ok(table) = <&mut [u16; 128]>::try_from(table) else {
+        return Err([19, 3, 0]);
+    };
+    if yes {
+        *table = pass.found;
+    }
+    Ok([0, yes as u64, 0])
+}
+
+/// The part of the situation that a name covers, as `[0, offset, length]`, or
+/// `[0, 0, 0]` for the empty part.
+pub fn part(vocabulary: &[u8], pattern: &[u8], situation: &[u8], name: u64) -> Reply {
+    if name > 63 {
+        return [0, 0, 0];
+    }
+    let longest = pattern.len().max(situation.len());
+    sized!(
+        vocabulary,
+        longest,
+        part_sized(pattern, situation, name as usize)
+    )
+    .unwrap_or([0, 0, 0])
+}
+
+fn part_sized<const W: usize, const S: usize>(
+    vocabulary: &[u8],
+    pattern: &[u8],
+    situation: &[u8],
+    name: usize,
+) -> Result<Reply, Reply> {
+    let mut words = Words::<W>::new();
+    words.fill(vocabulary)?;
+    let mut pass = Pass::<S>::new();
+    if !pass.both(&words, pattern, situation) {
+        return Ok([0, 0, 0]);
+    }
+    let at = 2 * (name & 63);
+    Ok([0, pass.found[at] as u64, pass.found[at + 1] as u64])
+}
+
+/// Lists the leftovers of a pattern; accepted is `[0, entries, bytes]`.
+pub fn list(vocabulary: &[u8], pattern: &[u8], out: &mut [u8]) -> Reply {
+    sized!(vocabulary, pattern.len(), list_sized(pattern, out)).unwrap_or_else(|refusal| refusal)
+}
+
+fn list_sized<const W: usize, const S: usize>(
+    vocabulary: &[u8],
+    pattern: &[u8],
+    out: &mut [u8],
+) -> Result<Reply, Reply> {
+    let mut words = Words::<W>::new();
+    words.fill(vocabulary)?;
+    listing::list::<W, S>(&words, pattern, out)
+}
+
+/// The bytes that the program `leftovers` prints for this standard input.
+pub fn leftovers(input: &[u8]) -> Vec<u8> {
+    program::leftovers(input)
+}

@@ -1,0 +1,216 @@
+//! Generated cases: how often each reply occurs, and the same replies from
+//! the plain version.
+
+mod plain;
+
+use reference::generate::Gen;
+use std::collections::HashMap;
+
+#[test]
+fn every_reply_occurs() {
+    let mut gen = Gen::new(1);
+    let mut seen: HashMap<(&str, u64), usize> = HashMap::new();
+    let (mut yes, mut no, mut listed, mut repeated, mut instance) = (0, 0, 0, 0, 0);
+    let (mut bytes, mut largest) = (0, 0);
+    let cases = 100_000;
+    for _ in 0..cases {
+        let case = gen.case();
+        let v = &case.vocabulary;
+        let mut count = |call, number| *seen.entry((call, number)).or_default() += 1usize;
+        count("vocabulary", reference::check_vocabulary(v)[0]);
+        count("term", reference::check_term(v, &case.pattern)[0]);
+        let mut table = vec![case.table_fill; case.table_len];
+        let reply = reference::match_pattern(v, &case.pattern, &case.situation, &mut table);
+        count("match", reply[0]);
+        if reply[0] == 0 && reply[1] == 1 {
+            yes += 1;
+        }
+        if reply[0] == 0 && reply[1] == 0 {
+            no += 1;
+        }
+        let reply = reference::part(v, &case.pattern, &case.situation, case.name);
+        assert_eq!(reply[0], 0);
+        instance += (reply[2] != 0) as usize;
+        let mut out = vec![case.out_fill; case.out_len];
+        let reply = reference::list(v, &case.pattern, &mut out);
+        count("list", reply[0]);
+        repeated += (reply[0] == 18) as usize;
+        if reply[0] == 0 {
+            listed += 1;
+            bytes += reply[2];
+            largest = largest.max(reply[2]);
+        }
+    }
+    let mut rows: Vec<_> = seen.iter().collect();
+    rows.sort();
+    for ((call, number), times) in rows {
+        println!("{call} {number}: {times}");
+    }
+    println!("yes {yes}, no {no}, parts {instance}, listed {listed}, repeated {repeated}");
+    println!("listed bytes {bytes}, largest {largest}");
+    let of = |call, number| seen.get(&(call, number)).copied().unwrap_or(0);
+    for number in 1..=6 {
+        assert!(of("vocabulary", number) >= 100, "{number}");
+    }
+    for number in 7..=15 {
+        assert!(of("term", number) >= 100, "term {number}");
+        assert!(
+            of("match", number) > of("term", number),
+            "situation {number}"
+        );
+    }
+    for number in [16, 17, 19] {
+        assert!(of("match", number) >= 500, "{number}");
+    }
+    for number in [18, 20] {
+        assert!(of("list", number) >= 2000, "{number}");
+    }
+    assert!(yes >= 30_000 && no >= 15_000 && listed >= 40_000 && repeated >= 8_000);
+    assert!(instance >= 10_000);
+}
+
+/// How often a property holds, over a number of cases.
+#[test]
+fn boundaries_occur() {
+    let mut gen = Gen::new(3);
+    let mut times: HashMap<&str, usize> = HashMap::new();
+    for _ in 0..100_000 {
+        let case = gen.case();
+        let (v, pattern, situation) = (&case.vocabulary, &case.pattern, &case.situation);
+        let mut count = |what, holds: bool| *times.entry(what).or_default() += holds as usize;
+        count("table of 0", case.table_len == 0);
+        count("table of 127", case.table_len == 127);
+        count("table of 129", case.table_len == 129);
+        count("name above 63", case.name > 63);
+        if reference::check_vocabulary(v)[0] != 0 {
+            count("17 kinds", v.first() == Some(&17));
+            count("97 words", v.get(1) == Some(&97));
+            count("962 bytes", v.len() == 962);
+            count("970 bytes", v.len() == 970);
+            continue;
+        }
+        count("1 kind", v[0] == 1);
+        count("16 kinds", v[0] == 16);
+        count("1 word", v[1] == 1);
+        count("96 words", v[1] == 96);
+        count("900 bytes or more", v.len() >= 900);
+        count("954 bytes", v.len() == 954);
+        let reply = reference::check_term(v, pattern);
+        count("pattern 4097", pattern.len() == 4097);
+        count("pattern 1", pattern.len() == 1);
+        if reply[0] == 10 {
+            count("level 33", true);
+        }
+        if reply[0] != 0 {
+            continue;
+        }
+        count("pattern 2", pattern.len() == 2);
+        count("pattern 3", pattern.len() == 3);
+        count("pattern 4095", pattern.len() == 4095);
+        count("pattern 4096", pattern.len() == 4096);
+        count("pattern 1000 or more", pattern.len() >= 1000);
+        count("level 31", reply[2] == 31);
+        count("level 32", reply[2] == 32);
+        let reply = reference::match_pattern(v, pattern, situation, &mut [0; 128]);
+        count(
+            "no, over 1000",
+            reply == [0, 0, 0] && situation.len() > 1000,
+        );
+        count(
+            "yes, over 1000",
+            reply == [0, 1, 0] && situation.len() > 1000,
+        );
+        count("yes, 4095", reply == [0, 1, 0] && situation.len() == 4095);
+        count("yes, both over 1000", {
+            reply == [0, 1, 0] && situation.len() > 1000 && pattern.len() > 1000
+        });
+        let reply = reference::list(v, pattern, &mut []);
+        count("18", reply[0] == 18);
+        count("18 and yes", {
+            reply[0] == 18
+                && reference::match_pattern(v, pattern, situation, &mut [0; 128]) == [0, 1, 0]
+        });
+        count("18 and no", {
+            reply[0] == 18
+                && reference::match_pattern(v, pattern, situation, &mut [0; 128]) == [0, 0, 0]
+        });
+        if reply[0] == 20 {
+            let exact = reply[2] as usize;
+            count("exact", case.out_len == exact);
+            count("one less", case.out_len + 1 == exact);
+            count("one more", case.out_len == exact + 1);
+            count("no space", case.out_len == 0);
+            count("much more", case.out_len > exact + 50_000);
+            count(
+                "exact, over 100000",
+                case.out_len == exact && exact > 100_000,
+            );
+        }
+    }
+    let mut rows: Vec<_> = times.into_iter().collect();
+    rows.sort();
+    for (what, times) in rows {
+        println!("{what}: {times}");
+        assert!(times >= 10, "{what}: {times}");
+    }
+}
+
+#[test]
+fn same_as_plain() {
+    same(2, 30_000);
+}
+
+#[test]
+#[ignore = "takes minutes"]
+fn same_as_plain_many() {
+    for seed in 100..104 {
+        same(seed, 30_000);
+    }
+}
+
+fn same(seed: u64, cases: usize) {
+    let mut gen = Gen::new(seed);
+    for _ in 0..cases {
+        let case = gen.case();
+        let (v, pattern, situation) = (&case.vocabulary, &case.pattern, &case.situation);
+        assert_eq!(reference::check_vocabulary(v), plain::check_vocabulary(v));
+        assert_eq!(
+            reference::check_term(v, pattern),
+            plain::check_term(v, pattern)
+        );
+        assert_eq!(
+            reference::check_term(v, situation),
+            plain::check_term(v, situation)
+        );
+        let mut one = vec![case.table_fill; case.table_len];
+        let mut two = one.clone();
+        assert_eq!(
+            reference::match_pattern(v, pattern, situation, &mut one),
+            plain::match_pattern(v, pattern, situation, &mut two),
+            "{case:?}"
+        );
+        assert_eq!(one, two);
+        for name in [case.name, 0, 63, 64] {
+            assert_eq!(
+                reference::part(v, pattern, situation, name),
+                plain::part(v, pattern, situation, name),
+            );
+        }
+        if reference::list(v, pattern, &mut [])[2] > 1 << 15 {
+            continue;
+        }
+        let mut one = vec![case.out_fill; case.out_len];
+        let mut two = one.clone();
+        assert_eq!(
+            reference::list(v, pattern, &mut one),
+            plain::list(v, pattern, &mut two),
+            "{case:?}"
+        );
+        assert_eq!(one, two);
+        let input = gen.input(&case);
+        assert_eq!(
+            reference::leftovers(&input),
+            plain::program(&input).into_bytes()
+        );
+    }
+}

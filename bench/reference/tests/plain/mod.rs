@@ -1,0 +1,388 @@
+//! A slow and plain version of each call, over trees.
+
+use reference::Reply;
+use std::collections::HashMap;
+
+pub struct Word {
+    pub result: u8,
+    pub places: Vec<Option<u8>>,
+}
+
+pub struct Vocabulary {
+    pub kinds: u8,
+    pub words: Vec<Word>,
+}
+
+#[derive(Clone, PartialEq, Debug)]
+pub enum Tree {
+    Any,
+    Name(u8),
+    /// A word and what is written at each of its eight possible places.
+    Word(u8, Vec<Option<Tree>>),
+}
+
+/// A term with where it stands in the bytes it was read from.
+pub struct Read {
+    pub tree: Tree,
+    pub start: usize,
+    pub end: usize,
+    pub below: Vec<Option<Read>>,
+}
+
+pub fn vocabulary(bytes: &[u8]) -> Result<Vocabulary, Reply> {
+    if bytes.len() < 2 || bytes[0] < 1 || bytes[0] > 16 {
+        return Err([1, 0, 0]);
+    }
+    if bytes[1] < 1 || bytes[1] > 96 {
+        return Err([2, 0, 1]);
+    }
+    let kinds = bytes[0];
+    let mut at = 2;
+    let byte = |at: &mut usize, kind: bool| -> Result<u8, Reply> {
+        let Some(&byte) = bytes.get(*at) else {
+            return Err([3, 0, *at as u64]);
+        };
+        if kind && byte >= kinds {
+            return Err([4, 0, *at as u64]);
+        }
+        *at += 1;
+        Ok(byte)
+    };
+    let mut words = Vec::new();
+    for _ in 0..bytes[1] {
+        let result = byte(&mut at, true)?;
+        let map = byte(&mut at, false)?;
+        let mut places = vec![None; 8];
+        for (bit, place) in places.iter_mut().enumerate() {
+            if map >> bit & 1 == 1 {
+                *place = Some(byte(&mut at, true)?);
+            }
+        }
+        words.push(Word { result, places });
+    }
+    if at < bytes.len() {
+        return Err([5, 0, at as u64]);
+    }
+    let mut inhabited = vec![false; kinds as usize];
+    for _ in 0..kinds {
+        for word in &words {
+            if word
+                .places
+                .iter()
+                .flatten()
+                .all(|&kind| inhabited[kind as usize])
+            {
+                inhabited[word.result as usize] = true;
+            }
+        }
+    }
+    if let Some(kind) = inhabited.iter().position(|&yes| !yes) {
+        return Err([6, 0, kind as u64]);
+    }
+    Ok(Vocabulary { kinds, words })
+}
+
+struct Reader<'a> {
+    v: &'a Vocabulary,
+    bytes: &'a [u8],
+    input: u64,
+    names: HashMap<u8, u8>,
+    words: u64,
+    deepest: u64,
+    gap: Option<usize>,
+    second: Option<usize>,
+}
+
+impl Reader<'_> {
+    fn term(&mut self, at: usize, kind: u8, level: u64) -> Result<Read, Reply> {
+        let refuse = |number, at: usize| Err([number, self.input, at as u64]);
+        let Some(&byte) = self.bytes.get(at) else {
+            return refuse(9, at);
+        };
+        if level == 33 {
+            return refuse(10, at);
+        }
+        self.deepest = self.deepest.max(level);
+        if (128..=191).contains(&byte) {
+            let name = byte - 128;
+            if let Some(&earlier) = self.names.get(&name) {
+                if earlier != kind {
+                    return refuse(13, at);
+                }
+                self.second = self.second.or(Some(at));
+            }
+            self.names.insert(name, kind);
+            self.gap = self.gap.or(Some(at));
+            return Ok(Read {
+                tree: Tree::Name(name),
+                start: at,
+                end: at + 1,
+                below: vec![],
+            });
+        }
+        if byte == 255 && level == 1 {
+            self.gap = self.gap.or(Some(at));
+            return Ok(Read {
+                tree: Tree::Any,
+                start: at,
+                end: at + 1,
+                below: vec![],
+            });
+        }
+        let Some(word) = self.v.words.get(byte as usize) else {
+            return refuse(11, at);
+        };
+        if word.result != kind {
+            return refuse(12, at);
+        }
+        let Some(&map) = self.bytes.get(at + 1) else {
+            return refuse(9, at + 1);
+        };
+        for bit in 0..8 {
+            let written = map >> bit & 1 == 1;
+            if written && word.places[bit].is_none() {
+                return refuse(14, at + 1);
+            }
+            if !written && word.places[bit].is_some() {
+                self.gap = self.gap.or(Some(at + 1));
+            }
+        }
+        self.words += 1;
+        let mut end = at + 2;
+        let mut below = Vec::new();
+        for bit in 0..8 {
+            below.push(if map >> bit & 1 == 1 {
+                let read = self.term(end, word.places[bit].unwrap(), level + 1)?;
+                end = read.end;
+                Some(read)
+            } else {
+                None
+            });
+        }
+        let terms = below
+            .iter()
+            .map(|read| read.as_ref().map(|read| read.tree.clone()));
+        Ok(Read {
+            tree: Tree::Word(byte, terms.collect()),
+            start: at,
+            end,
+            below,
+        })
+    }
+}
+
+struct Term {
+    read: Read,
+    words: u64,
+    deepest: u64,
+    gap: Option<usize>,
+    second: Option<usize>,
+}
+
+fn term(v: &Vocabulary, bytes: &[u8], input: u64) -> Result<Term, Reply> {
+    if bytes.len() < 2 || bytes.len() > 4096 {
+        return Err([7, input, 0]);
+    }
+    if bytes[0] >= v.kinds {
+        return Err([8, input, 0]);
+    }
+    let mut reader = Reader {
+        v,
+        bytes,
+        input,
+        names: HashMap::new(),
+        words: 0,
+        deepest: 0,
+        gap: None,
+        second: None,
+    };
+    let read = reader.term(1, bytes[0], 1)?;
+    if read.end < bytes.len() {
+        return Err([15, input, read.end as u64]);
+    }
+    Ok(Term {
+        read,
+        words: reader.words,
+        deepest: reader.deepest,
+        gap: reader.gap,
+        second: reader.second,
+    })
+}
+
+pub fn check_vocabulary(bytes: &[u8]) -> Reply {
+    match vocabulary(bytes) {
+        Ok(_) => [0, 0, 0],
+        Err(refusal) => refusal,
+    }
+}
+
+pub fn check_term(v: &[u8], bytes: &[u8]) -> Reply {
+    let both = vocabulary(v).and_then(|v| term(&v, bytes, 1));
+    both.map_or_else(|refusal| refusal, |term| [0, term.words, term.deepest])
+}
+
+type Parts = HashMap<u8, (Tree, u16, u16)>;
+
+fn fits(pattern: &Tree, read: &Read, parts: &mut Parts) -> bool {
+    match pattern {
+        Tree::Any => true,
+        Tree::Name(name) => match parts.get(name) {
+            Some((tree, _, _)) => *tree == read.tree,
+            None => {
+                let part = (
+                    read.tree.clone(),
+                    read.start as u16,
+                    (read.end - read.start) as u16,
+                );
+                parts.insert(*name, part);
+                true
+            }
+        },
+        Tree::Word(word, terms) => {
+            let Tree::Word(other, _) = read.tree else {
+                return false;
+            };
+            *word == other
+                && terms
+                    .iter()
+                    .zip(&read.below)
+                    .all(|(term, read)| match (term, read) {
+                        (None, _) => true,
+                        (Some(term), Some(read)) => fits(term, read, parts),
+                        (Some(_), None) => false,
+                    })
+        }
+    }
+}
+
+fn parts(
+    v: &[u8],
+    pattern: &[u8],
+    situation: &[u8],
+    length: usize,
+) -> Result<Option<Parts>, Reply> {
+    let v = vocabulary(v)?;
+    let one = term(&v, pattern, 1)?;
+    let two = term(&v, situation, 2)?;
+    if let Some(gap) = two.gap {
+        return Err([16, 2, gap as u64]);
+    }
+    if pattern[0] != situation[0] {
+        return Err([17, 2, 0]);
+    }
+    if length != 128 {
+        return Err([19, 3, 0]);
+    }
+    let mut parts = HashMap::new();
+    Ok(fits(&one.read.tree, &two.read, &mut parts).then_some(parts))
+}
+
+pub fn match_pattern(v: &[u8], pattern: &[u8], situation: &[u8], table: &mut [u16]) -> Reply {
+    match parts(v, pattern, situation, table.len()) {
+        Err(refusal) => refusal,
+        Ok(None) => [0, 0, 0],
+        Ok(Some(parts)) => {
+            for name in 0..64u8 {
+                let part = parts.get(&name).map_or((0, 0), |part| (part.1, part.2));
+                table[2 * name as usize] = part.0;
+                table[2 * name as usize + 1] = part.1;
+            }
+            [0, 1, 0]
+        }
+    }
+}
+
+pub fn part(v: &[u8], pattern: &[u8], situation: &[u8], name: u64) -> Reply {
+    if let (Ok(Some(parts)), Ok(name)) = (parts(v, pattern, situation, 128), u8::try_from(name)) {
+        if let Some(part) = parts.get(&name) {
+            return [0, part.1 as u64, part.2 as u64];
+        }
+    }
+    [0, 0, 0]
+}
+
+/// The listing of a term, in order.
+fn leftovers(v: &Vocabulary, tree: &Tree) -> Vec<Tree> {
+    let mut list = Vec::new();
+    if let Tree::Word(word, terms) = tree {
+        let kind = v.words[*word as usize].result;
+        for (number, other) in v.words.iter().enumerate() {
+            if other.result == kind && number != *word as usize {
+                list.push(Tree::Word(number as u8, vec![None; 8]));
+            }
+        }
+        for (bit, term) in terms.iter().enumerate() {
+            for entry in term.iter().flat_map(|term| leftovers(v, term)) {
+                let mut places = vec![None; 8];
+                places[..bit].clone_from_slice(&terms[..bit]);
+                places[bit] = Some(entry);
+                list.push(Tree::Word(*word, places));
+            }
+        }
+    }
+    list
+}
+
+fn write(tree: &Tree, out: &mut Vec<u8>) {
+    match tree {
+        Tree::Any => out.push(255),
+        Tree::Name(name) => out.push(128 + name),
+        Tree::Word(word, terms) => {
+            out.push(*word);
+            let bits = terms.iter().enumerate().filter(|(_, term)| term.is_some());
+            out.push(bits.map(|(bit, _)| 1u8 << bit).sum());
+            terms.iter().flatten().for_each(|term| write(term, out));
+        }
+    }
+}
+
+pub fn entries(v: &[u8], pattern: &[u8]) -> Result<Vec<Vec<u8>>, Reply> {
+    let v = vocabulary(v)?;
+    let read = term(&v, pattern, 1)?;
+    if let Some(second) = read.second {
+        return Err([18, 1, second as u64]);
+    }
+    let entries = leftovers(&v, &read.read.tree);
+    Ok(entries
+        .iter()
+        .map(|entry| {
+            let mut bytes = vec![pattern[0]];
+            write(entry, &mut bytes);
+            bytes
+        })
+        .collect())
+}
+
+pub fn list(v: &[u8], pattern: &[u8], out: &mut [u8]) -> Reply {
+    let entries = match entries(v, pattern) {
+        Ok(entries) => entries,
+        Err(refusal) => return refusal,
+    };
+    let whole = entries.concat();
+    if whole.len() > out.len() {
+        return [20, 3, whole.len() as u64];
+    }
+    out[..whole.len()].copy_from_slice(&whole);
+    [0, entries.len() as u64, whole.len() as u64]
+}
+
+pub fn program(input: &[u8]) -> String {
+    let input: Vec<u8> = input.iter().copied().take(65_536).collect();
+    let mut v = vec![];
+    let mut pattern = vec![];
+    if input.len() >= 2 {
+        let length = input[0] as usize * 256 + input[1] as usize;
+        v = input[2..].iter().copied().take(length).collect();
+        pattern = input[2..].iter().copied().skip(length).collect();
+    }
+    let reply = list(&v, &pattern, &mut vec![0; 65_536]);
+    if reply[0] != 0 {
+        return format!("refused {} {} {}\n", reply[0], reply[1], reply[2]);
+    }
+    let mut text = format!("leftovers {}\n", reply[1]);
+    for (number, entry) in entries(&v, &pattern).unwrap().iter().enumerate() {
+        let hex: String = entry.iter().map(|byte| format!("{byte:02x}")).collect();
+        text += &format!("{} {}\n", number + 1, hex);
+    }
+    text
+}
