@@ -9,6 +9,7 @@
 --   Covered                     what noting a name's part does to the spans, and its answer
 --   InputsRead p s              inputs that the bytes p and s write
 --   found o                     there is a filling
+--   WalkedOver x after r        the same of given inputs
 --   Walked p s after r          r tells whether there is a filling, and the spans are those of match's table
 --
 use mathlib.Core.Path.{_≡_}

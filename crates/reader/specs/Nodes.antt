@@ -3,6 +3,7 @@
 --   numberOf why, placeOf why    a refusal's number and place
 --   Tabled W n results maps      the first n entries of the tables are W's result kinds and place maps
 --   nodeOf W at rest x           what x says that stands at the front of the bytes rest, which begin at an offset
+--   WordInside, NameInside, PlaceInside    a word, a name or a place that x names is there
 --   Inside n maps at rest x      what x names is there
 --   Limited at rest x            x is the fault where level 33 begins
 --   NodeAt                       x is what stands where a term of kind s is due below so many words, no names seen

@@ -14,7 +14,7 @@ use Rattle.terms.specs.Signature.{Symbol}
 use Rattle.terms.specs.Inhabited.{covered, joined}
 use Rattle.terms.proofs.First.{least-first, nowhere-first}
 use Rattle.terms.proofs.Occurs.{missing}
-use Rattle.terms.proofs.Inhabited.{joined-occurs}
+use Rattle.terms.proofs.Inhabited.{joined-stays, closed-stays, joined-occurs}
 use Rattle.wire.specs.VocabularyLines.{byteAt}
 use Rattle.signature.specs.declared.Missing.the-variants.{Kind, Nothing}
 use Rattle.signature.specs.Loading.{Marks, Markable, Covers, FirstMissing}
@@ -101,3 +101,7 @@ marks-joined marked l s c marks = record { size = rw length-set (marks .size); e
 
 pub marks-stay : (marked l : List ℕ) (s : Symbol) → covered (s .arguments) l ≡ false → Marks marked l → Marks marked (joined s l)
 marks-stay marked l s c marks = record { size = marks .size; each = λ k b. rw (joined-occurs, c) (marks .each k b) }
+
+-- A symbol whose result kind has its mark.
+pub marks-had : (marked l : List ℕ) (s : Symbol) → s .result < 16 → (getD marked (s .result) 0 ≡ 0 → ⊥) → Marks marked l → Marks marked (joined s l)
+marks-had marked l s b h marks = rw (joined-stays s l (closed-stays s l (λ c. marked-occurs marked l marks (s .result) b h))) marks

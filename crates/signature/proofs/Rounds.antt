@@ -4,23 +4,30 @@
 --   Reached v n kinds round m     the kinds that so many rounds reach are marked in m
 --
 use mathlib.Core.Path.{_≡_, refl, sym, _∙_, ap}
-use mathlib.Core.Bool.{Bool, true, false}
+use mathlib.Core.Bool.{Bool, true, false, not}
 use mathlib.Core.List.{List, [], _∷_, _++_}
+use mathlib.Core.Option.{none}
 use Prim.Native.Nat.{ℕ, _+_, _<_, _≤_}
 use native.Mathlib.Numerals.{add-one}
 use native.Mathlib.Omega.{arith}
 use lib.Count
 use lib.ListN.{length, getD, take, drop, set, replicate, length-map, List·getD-map}
 use lib.Seq.{take-suc, take-all, getD-take, getD-drop}
-use Rattle.terms.specs.Signature.{Symbol, noSymbol}
+use borrow.Author.Tests.{not-false}
+use Rattle.terms.specs.Lists.{occurs}
+use Rattle.terms.specs.Signature.{Symbol, Signature, noSymbol}
 use Rattle.terms.specs.Inhabited.{covered, joined, grow, reached, firstEmpty}
 use Rattle.terms.proofs.All.{all-at}
+use Rattle.terms.proofs.First.{firstOf, first-nowhere, nowhere-first}
+use Rattle.terms.proofs.Inhabited.{reached-mono}
+use Rattle.terms.proofs.Occurs.{missing}
 use Rattle.wire.specs.Vocabulary.{Word, noWord, symbolOf, signature}
 use Rattle.wire.specs.VocabularyLines.{byteAt}
 use Rattle.wire.proofs.Map.{ones-count}
 use Rattle.signature.specs.declared.Missing.{Missing}
+use Rattle.signature.specs.declared.Missing.the-variants.{Nothing}
 use Rattle.signature.specs.Loading.{recordsIn, vocabularyOf, Entry, Filled, Marks, Markable, Covers, symbolsIn, Grows, foundKind, FirstMissing}
-use Rattle.signature.proofs.Marking.{marks-none, marks-joined, marks-stay}
+use Rattle.signature.proofs.Marking.{marks-none, marks-joined, marks-stay, marks-had}
 
 -- An entry of the tables, as the marking reads it.
 module _ (v : List ℕ) (o r m : ℕ) (w : Word) (entry : Entry v o r m w) where
@@ -81,8 +88,7 @@ module _ (v : List ℕ) (n : ℕ) (o r m : List ℕ) (filled : Filled v n o r m)
     pub turn-result : byteAt v 0 ≤ 16 → getD r w 0 < 16
     turn-result = result-markable v _ _ _ _ (filled .entries w b)
 
-  module _ (w : ℕ) (b : w < n) (before after : List ℕ) (marked : Marked v n w before after)
-      (t : Bool) (covers : Covers v (getD o w 0 + 2) (Count.ones (getD m w 0)) after t) where
+  module _ (w : ℕ) (b : w < n) (before after : List ℕ) (marked : Marked v n w before after) where
     here : Symbol
     here = symbolOf (getD (recordsIn v n) w noWord)
 
@@ -90,25 +96,37 @@ module _ (v : List ℕ) (n : ℕ) (o r m : List ℕ) (filled : Filled v n o r m)
     unfolding here
     grown l = grow-more (symbolsIn v n) w l (omega (arith, symbol-count)) ∙ rw (symbol-is w)
 
-    is-covered : (l : List ℕ) → Marks before l → t ≡ covered (here .arguments) (grow (take w (symbolsIn v n)) l)
+    pub marked-had : byteAt v 0 ≤ 16 → (k : ℕ) → k ≡ getD r w 0 → (getD after k 0 ≡ 0 → ⊥) →
+        (next : List ℕ) → next ≡ after → Marked v n (w + 1) before next
     unfolding here
-    is-covered l h =
-        entry-covers v (getD o w 0) (getD r w 0) (getD m w 0) (getD (recordsIn v n) w noWord) (filled .entries w b)
-        after (grow (take w (symbolsIn v n)) l) t covers (marked .marks l h)
+    marked-had few k d had next s =
+        let e : k ≡ here .result = d ∙ filled .entries w b .result in
+        record {
+          passed = omega arith;
+          marks = λ l h. rw (grown l, s)
+              (marks-had after (grow (take w (symbolsIn v n)) l) here (omega (arith, turn-result w b few)) (rw e at had) (marked .marks l h));
+        }
 
-    pub marked-joined : t ≡ true → (k : ℕ) → k ≡ getD r w 0 → (next : List ℕ) → next ≡ set after k 1 → Marked v n (w + 1) before next
-    unfolding here
-    marked-joined e k d next s = record {
-      passed = omega arith;
-      marks = λ l h. rw (grown l, s, d, filled .entries w b .result)
-          (marks-joined after (grow (take w (symbolsIn v n)) l) here (sym (is-covered l h) ∙ e) (marked .marks l h));
-    }
+    module _ (t : Bool) (covers : Covers v (getD o w 0 + 2) (Count.ones (getD m w 0)) after t) where
+      is-covered : (l : List ℕ) → Marks before l → t ≡ covered (here .arguments) (grow (take w (symbolsIn v n)) l)
+      unfolding here
+      is-covered l h =
+          entry-covers v (getD o w 0) (getD r w 0) (getD m w 0) (getD (recordsIn v n) w noWord) (filled .entries w b)
+          after (grow (take w (symbolsIn v n)) l) t covers (marked .marks l h)
 
-    pub marked-stay : t ≡ false → (next : List ℕ) → next ≡ after → Marked v n (w + 1) before next
-    marked-stay e next s = record {
-      passed = omega arith;
-      marks = λ l h. rw (grown l, s) (marks-stay after (grow (take w (symbolsIn v n)) l) here (sym (is-covered l h) ∙ e) (marked .marks l h));
-    }
+      pub marked-joined : t ≡ true → (k : ℕ) → k ≡ getD r w 0 → (next : List ℕ) → next ≡ set after k 1 → Marked v n (w + 1) before next
+      unfolding here
+      marked-joined e k d next s = record {
+        passed = omega arith;
+        marks = λ l h. rw (grown l, s, d, filled .entries w b .result)
+            (marks-joined after (grow (take w (symbolsIn v n)) l) here (sym (is-covered l h) ∙ e) (marked .marks l h));
+      }
+
+      pub marked-stay : t ≡ false → (next : List ℕ) → next ≡ after → Marked v n (w + 1) before next
+      marked-stay e next s = record {
+        passed = omega arith;
+        marks = λ l h. rw (grown l, s) (marks-stay after (grow (take w (symbolsIn v n)) l) here (sym (is-covered l h) ∙ e) (marked .marks l h));
+      }
 
 -- Round by round.
 
@@ -128,3 +146,16 @@ pub reached-all : (v : List ℕ) (n kinds round : ℕ) (marked : List ℕ) (r : 
 reached-all v n kinds round marked r reach h k first =
     let e : round ≡ byteAt v 0 = omega (arith, reach .passed) in
     rw (k, e) at (first (reached (signature (vocabularyOf v n)) round) (reach .marks))
+
+-- Where no kind is missing, none is after further rounds.
+
+still-none : (S : Signature) (n m kinds : ℕ) → n ≤ m → firstOf (missing (reached S n)) 0 kinds ≡ none → firstOf (missing (reached S m)) 0 kinds ≡ none
+still-none S n m kinds h e =
+    nowhere-first (missing (reached S m)) 0 kinds λ j lo hi.
+    ap not (reached-mono S n m h j (not-false (occurs j (reached S n)) (first-nowhere (missing (reached S n)) 0 kinds e j lo hi)))
+
+pub reached-early : (v : List ℕ) (n kinds round : ℕ) (marked : List ℕ) (r : Missing) → Reached v n kinds round marked →
+    kinds ≡ byteAt v 0 → FirstMissing kinds marked r → r ≡ Nothing → foundKind Nothing ≡ firstEmpty (signature (vocabularyOf v n))
+reached-early v n kinds round marked r reach k first e =
+    let S : Signature = signature (vocabularyOf v n) in
+    sym (rw k at (still-none S round kinds kinds (reach .passed) (sym (first (reached S round) (reach .marks)) ∙ ap foundKind e)))

@@ -3,16 +3,23 @@
 --   Empty r                no word is loaded, and the tables hold zeros
 --   Refuses why r          what refuse answers: this refusal, and nothing loaded
 --   kindsGot v at r        what read_kinds answers of the kind bytes at an offset, as a Got
+--   KindsInside            the place that read_kinds names lies within v
 --   KindsRead              it is what readKinds gives, and lies within v
+--   wordAt v at n          the word whose record stands at an offset, with n places
 --   wordGot v at r         what read_word answers of the record there, as a Got
+--   WordInside             the place that read_word names lies within v
 --   RecordRead             it is what readWord gives, lies within v and is sound
+--   wordsIn g              the words that were read; none where reading stopped
 --   recordsIn v n          the words of the first n records of v, where they are in order
 --   vocabularyOf v n       v's kind count and these words
 --   checksIn v n           lines 3 to 6 of v, which has n records
+--   checksReply v n        the reply of these lines
 --   Entry v o r m w        the word w stands in v at the offset o, with result kind r and place map m
 --   Filled v n o r m       the n records of v are in order, end v and stand in the tables o, r and m, zeros behind them
 --   WordsLoaded v n r      what read_words answers: the reply of lines 3 to 5 and nothing loaded, or filled tables
 --   Marks m l              the kinds that are marked in m are those of l
+--   Markable v at n        the n kind bytes from an offset on have a mark
+--   symbolsIn v n          the symbols of the first n records
 --   Covers, Grows, FirstMissing    what covered, mark_round and first_missing answer, for any such l
 --   foundKind r            the kind that is found, where there is one
 --   Checked v n r          what inhabited answers: the reply of lines 3 to 6, with filled tables where v is accepted

@@ -1,5 +1,6 @@
 -- Tables: what loading a vocabulary gives; the contract of `load` cites it.
 --
+--   acceptedIn r        the vocabulary of a reading; one without words where it refuses
 --   vocabularyIn v      the vocabulary that the bytes v write; one without words where they are refused
 --   offsetsIn v         the offsets of its words' records, in order
 --   resultsIn v         its words' result kinds, in order

@@ -161,7 +161,7 @@ fn covered(v: &[u8], at: usize, n: usize, marked: &[u8; 16]) -> bool
     true
 }
 
-// One round: marks the result kind of every word whose places' kinds are marked.
+// One round: marks the result kind of every word whose places' kinds are marked. A word of a marked kind adds nothing.
 fn mark_round<'a>(
     v: &[u8],
     words: usize,
@@ -177,10 +177,13 @@ fn mark_round<'a>(
 {
     let mut w = 0;
     while w < words {
-        let at = offsets[w] as usize;
-        let n = u8::count_ones(maps[w]);
-        if covered(v, at + 2, n as usize, marked) {
-            marked[wide(results[w])] = 1;
+        let kind = wide(results[w]);
+        if marked[kind] == 0 {
+            let at = offsets[w] as usize;
+            let n = u8::count_ones(maps[w]);
+            if covered(v, at + 2, n as usize, marked) {
+                marked[kind] = 1;
+            }
         }
         w += 1;
     }
@@ -201,7 +204,8 @@ fn first_missing(kinds: usize, marked: &[u8; 16]) -> Missing
     Missing::Nothing
 }
 
-// The lowest kind without complete situations: as many rounds as there are kinds reach all others.
+// The lowest kind without complete situations: as many rounds as there are kinds reach all others. A round takes no
+// mark away, so the rounds end where every kind is marked.
 fn empty_kind<'a>(
     v: &[u8],
     kinds: usize,
@@ -220,6 +224,12 @@ fn empty_kind<'a>(
     let mut round = 0;
     while round < kinds {
         mark_round(v, words, offsets, results, maps, &mut marked);
+        match first_missing(kinds, &marked) {
+            Missing::Nothing => {
+                return Missing::Nothing;
+            }
+            Missing::Kind(_) => {}
+        }
         round += 1;
     }
     first_missing(kinds, &marked)

@@ -17,7 +17,8 @@
 --   someOpen ts                     one of ts is an open place
 --   orElse o p                      the first of two places that may be missing
 --   gapFrom W t at, gapAll W ts at  the first gap of what begins at the offset `at`
---   firstGap W t                    the place of its first name, 255 or short map (document 01, line 16)
+--   firstGap W t                    the place of its first name, 255 or short map (document 01, line 16); `FirstGapIsExact`
+--                                   (Situation) fixes it, so the three above can be passed over
 --   nameOffsetFrom W t n at, nameOffsetAll W ts n at   where the name n first stands in what begins at the offset `at`
 --   nameOffset W t n                where the name n first stands in the term t
 --

@@ -2,7 +2,7 @@
 use Prim.Native.Nat.{_-_}
 use native.Mathlib.Omega.{arith}
 use borrow.Author.Needs.{needs}
-use Rattle.signature.proofs.Rounds.{Reached, reached-none, reached-more, reached-all}
+use Rattle.signature.proofs.Rounds.{Reached, reached-none, reached-more, reached-all, reached-early}
 use Rattle.signature.proofs.empty_kind.Statement.{statement}
 use Rattle.signature.proofs.empty_kind.Tie as tie
 
@@ -20,6 +20,24 @@ mark-round-requires c κs =
     let pre = c .before .before .before .before .pre in
     (pre .0, (omega arith, pre .1 .1 .1))
 
+first-missing-requires : tie.Need-first-missing-requires Inv-loop μ-loop
+first-missing-requires c κs = search needs
+
+enum-told : tie.Need-enum-told Inv-loop μ-loop
+enum-told c = search needs
+
+returns : tie.Need-returns Inv-loop μ-loop
+returns c =
+    let called = c .before .before .before .before in
+    let turn = called .before .before in
+    let found = c .before .before .first-missing in
+    reached-early _ _ _ _ _ (found .result)
+    (reached-more _ _ _ _ _ _ (turn .before .loop .inv) (turn .loop-test .taken) (called .mark-round .ensures))
+    (turn .before .before .before .pre .1 .1 .0) (found .ensures) (c .enum-told .given .1)
+
+enum-told-2 : tie.Need-enum-told-2 Inv-loop μ-loop
+enum-told-2 c = search needs
+
 add-round : tie.Need-add-round Inv-loop μ-loop
 add-round c = search needs
 
@@ -27,16 +45,19 @@ loop-less : tie.Need-loop-less Inv-loop μ-loop
 loop-less c = search needs
 
 loop-again : tie.Need-loop-again Inv-loop μ-loop
-loop-again c = reached-more _ _ _ _ _ _ (c .before .before .before .loop .inv) (c .before .before .loop-test .taken) (c .mark-round .ensures)
+loop-again c =
+    let called = c .before .before .before .before in
+    let turn = called .before .before in
+    reached-more _ _ _ _ _ _ (turn .before .loop .inv) (turn .loop-test .taken) (called .mark-round .ensures)
 
-first-missing-requires : tie.Need-first-missing-requires Inv-loop μ-loop
-first-missing-requires c κs = search needs
+first-missing-requires-2 : tie.Need-first-missing-requires-2 Inv-loop μ-loop
+first-missing-requires-2 c κs = search needs
 
-returns : tie.Need-returns Inv-loop μ-loop
-returns c =
+returns-2 : tie.Need-returns-2 Inv-loop μ-loop
+returns-2 c =
     let left = c .before .before in
-    reached-all _ _ _ _ _ (c .first-missing .result) (left .before .loop .inv) (left .loop-test .left) (left .before .before .before .pre .1 .1 .0)
-    (c .first-missing .ensures)
+    reached-all _ _ _ _ _ (c .first-missing2 .result) (left .before .loop .inv) (left .loop-test .left) (left .before .before .before .pre .1 .1 .0)
+    (c .first-missing2 .ensures)
 
 pub empty-kind-spec : {M : Type 1} → statement M
 empty-kind-spec =
@@ -46,8 +67,12 @@ empty-kind-spec =
     μ-loop
     loop-holds
     mark-round-requires
+    first-missing-requires
+    enum-told
+    returns
+    enum-told-2
     add-round
     loop-less
     loop-again
-    first-missing-requires
-    returns)
+    first-missing-requires-2
+    returns-2)

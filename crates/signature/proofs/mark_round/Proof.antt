@@ -3,7 +3,7 @@ use mathlib.Core.Logic.{⊎-elim}
 use Prim.Native.Nat.{_-_}
 use native.Mathlib.Omega.{arith}
 use borrow.Author.Needs.{needs}
-use Rattle.signature.proofs.Rounds.{Marked, marked-none, marked-all, marked-joined, marked-stay, turn-inside, turn-markable, turn-result}
+use Rattle.signature.proofs.Rounds.{Marked, marked-none, marked-all, marked-had, marked-joined, marked-stay, turn-inside, turn-markable, turn-result}
 use Rattle.signature.proofs.mark_round.Statement.{statement}
 use Rattle.signature.proofs.mark_round.Tie as tie
 
@@ -16,6 +16,18 @@ abbrev μ-loop : tie.MeasureT-loop
 loop-holds : tie.Need-loop-holds Inv-loop μ-loop
 loop-holds c = marked-none _ _ _
 
+element-copy-out-wide : tie.Need-element-copy-out-wide Inv-loop μ-loop
+element-copy-out-wide c = search needs
+
+wide-requires : tie.Need-wide-requires Inv-loop μ-loop
+wide-requires c κs = search needs
+
+element-copy-out-if1 : tie.Need-element-copy-out-if1 Inv-loop μ-loop
+element-copy-out-if1 c =
+    let turn = c .before .before in
+    let pre = turn .before .before .before .pre in
+    omega (arith, c .wide .ensures, turn-result _ _ _ _ _ (pre .1 .1) _ (turn .loop-test .taken) (pre .1 .0))
+
 mul-at : tie.Need-mul-at Inv-loop μ-loop
 mul-at c = omega arith
 
@@ -24,7 +36,7 @@ element-copy-out-at c = search needs
 
 cast-at : tie.Need-cast-at Inv-loop μ-loop
 cast-at c =
-    let turn = c .before in
+    let turn = c .before .before .before .before .before in
     omega (arith, turn-inside _ _ _ _ _ (turn .before .before .before .pre .1 .1) _ (turn .loop-test .taken))
 
 element-copy-out-n : tie.Need-element-copy-out-n Inv-loop μ-loop
@@ -32,33 +44,28 @@ element-copy-out-n c = search needs
 
 add-covered : tie.Need-add-covered Inv-loop μ-loop
 add-covered c =
-    let turn = c .before .before in
+    let turn = c .before .before .before .before .before .before in
     omega (arith, turn-inside _ _ _ _ _ (turn .before .before .before .pre .1 .1) _ (turn .loop-test .taken))
 
 cast-covered : tie.Need-cast-covered Inv-loop μ-loop
 cast-covered c =
-    let turn = c .before .before in
+    let turn = c .before .before .before .before .before .before in
     omega (arith, turn-inside _ _ _ _ _ (turn .before .before .before .pre .1 .1) _ (turn .loop-test .taken))
 
 covered-requires : tie.Need-covered-requires Inv-loop μ-loop
 covered-requires c κs =
-    let turn = c .before .before .before in
+    let turn = c .before .before .before .before .before .before .before in
     let pre = turn .before .before .before .pre in (
       turn-inside _ _ _ _ _ (pre .1 .1) _ (turn .loop-test .taken),
       turn-markable _ _ _ _ _ (pre .1 .1) _ (turn .loop-test .taken) (pre .1 .0),
     )
 
-element-copy-out-wide : tie.Need-element-copy-out-wide Inv-loop μ-loop
-element-copy-out-wide c = search needs
-
-wide-requires : tie.Need-wide-requires Inv-loop μ-loop
-wide-requires c κs = search needs
-
 element-write-marked : tie.Need-element-write-marked Inv-loop μ-loop
 element-write-marked c =
-    let turn = c .before .before .before .before .before .before .before in
+    let found = c .before .before .before .before .before .before .before in
+    let turn = found .before .before in
     let pre = turn .before .before .before .pre in
-    omega (arith, c .wide .ensures, turn-result _ _ _ _ _ (pre .1 .1) _ (turn .loop-test .taken) (pre .1 .0))
+    omega (arith, found .wide .ensures, turn-result _ _ _ _ _ (pre .1 .1) _ (turn .loop-test .taken) (pre .1 .0))
 
 add-w : tie.Need-add-w Inv-loop μ-loop
 add-w c = search needs
@@ -68,13 +75,17 @@ loop-less c = search needs
 
 loop-again : tie.Need-loop-again Inv-loop μ-loop
 loop-again c =
-    let turn = c .before .before .before .before .before in
-    let filled = turn .before .before .before .pre .1 .1 in
+    let found = c .before .before in
+    let turn = found .before .before in
+    let pre = turn .before .before .before .pre in
+    let taken = turn .loop-test .taken in
     let inv = turn .before .loop .inv in
-    let covers = c .before .covered .ensures in
+    let kind = found .wide .ensures in
     ⊎-elim
-    (λ w. marked-joined _ _ _ _ _ filled _ (turn .loop-test .taken) _ _ inv _ covers (w .0 .taken) _ (w .2 .ensures) _ (w .3))
-    (λ w. marked-stay _ _ _ _ _ filled _ (turn .loop-test .taken) _ _ inv _ covers (w .0 .left) _ (w .1))
+    (λ w. marked-joined _ _ _ _ _ (pre .1 .1) _ taken _ _ inv _ (w .4 .ensures) (w .5 .taken) _ kind _ (w .6))
+    (⊎-elim
+    (λ w. marked-stay _ _ _ _ _ (pre .1 .1) _ taken _ _ inv _ (w .4 .ensures) (w .5 .left) _ (w .6))
+    (λ w. marked-had _ _ _ _ _ (pre .1 .1) _ taken _ _ inv (pre .1 .0) _ kind (w .0 .left) _ (w .1)))
     (c .if1 .came)
 
 returns : tie.Need-returns Inv-loop μ-loop
@@ -87,6 +98,9 @@ mark-round-spec =
     Inv-loop
     μ-loop
     loop-holds
+    element-copy-out-wide
+    wide-requires
+    element-copy-out-if1
     mul-at
     element-copy-out-at
     cast-at
@@ -94,8 +108,6 @@ mark-round-spec =
     add-covered
     cast-covered
     covered-requires
-    element-copy-out-wide
-    wide-requires
     element-write-marked
     add-w
     loop-less
