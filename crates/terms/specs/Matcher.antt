@@ -1,5 +1,7 @@
 -- Matcher: the filling that turns a pattern into a ground term, found from left to right.
 --
+-- This file is an algorithm. MatcherIsExact fixes what it finds: an auditor may take it on its word.
+--
 --   withOpen f g        the filling f with g given to one more open place
 --   withName f n g      the filling f with g given to the variable n, which f does not bind yet
 --   matchName n g f     f with what the variable n asks added, where it can cover g

@@ -18,6 +18,7 @@ pub mod WordsRead
 pub mod VocabularyRead
 pub mod VocabulariesInverse
 pub mod VocabularyRefusals
+pub mod VocabularyMore
 -- On terms: writing and reading them.
 pub mod Node
 pub mod WriteRead
@@ -41,13 +42,16 @@ pub mod SituationRefusals
 -- On matching.
 pub mod GroundBytes
 pub mod Inputs
+pub mod CheckPromises
 pub mod MatchRefusals
 pub mod Pending
 pub mod Spans
 pub mod SpanTable
 pub mod Matching
+pub mod PartTable
 -- On listing.
 pub mod Repeats
+pub mod NameOffsets
 pub mod LinearRefusals
 pub mod EntryLevels
 pub mod EntriesRead
@@ -59,6 +63,7 @@ pub mod EntryWalk
 pub mod EntryCut
 -- On the text that the program prints.
 pub mod Text
+pub mod Printed
 -- All of it.
 pub mod Starred
 pub mod Theorems

@@ -81,7 +81,7 @@ pattern-read v p W x bv bp e f =
     }
 
 -- A pattern that is accepted is read again.
-read-pattern : (v p : List ℕ) (W : Vocabulary) (s : ℕ) (t : Term) → IsBytes v → IsBytes p → Pattern v p W s t →
+pub read-pattern : (v p : List ℕ) (W : Vocabulary) (s : ℕ) (t : Term) → IsBytes v → IsBytes p → Pattern v p W s t →
     (readVocabulary v ≡ accept W) × (checkedLinear W p ≡ accept (kinded s t))
 read-pattern v p W s t bv bp h = (
   vocabularies-inverse v W bv .1 (h .vocabulary, h .written),
@@ -116,7 +116,6 @@ pattern-listed v p out W s t bv bp h =
 
 -- Where the entries are written, they are as many and as long as answered.
 record Answer (out : List ℕ) (n : ℕ) (b : List ℕ) (n′ m : ℕ) (after : List ℕ) : Type 0 where
-  fits : length b ≤ length out
   count : n ≡ n′
   size : length b ≡ m
   written : after ≡ b ++ drop (length b) out
@@ -137,30 +136,8 @@ answer-of out n b n′ m e = go (leb (length b) (length out)) refl e
   where
     go : (c : Bool) → leb (length b) (length out) ≡ c → intoIf c out n b .reply ≡ accepted (n′ ∷ m ∷ []) →
         Answer out n b n′ m (intoIf c out n b .out)
-    go true h e = record { fits = leb-true (length b) (length out) h; count = cc; size = cc; written = refl }
+    go true h e = record { count = cc; size = cc; written = refl }
     go false h e = absurd (not-accepted 20 3 (length b) (n′ ∷ m ∷ []) e)
-
--- An answer comes of a vocabulary and a pattern that are accepted.
-answered-pattern : (v p out : List ℕ) (n m : ℕ) → IsBytes v → IsBytes p → listed v p out .reply ≡ accepted (n ∷ m ∷ []) →
-    (W : Vocabulary) × (s : ℕ) × (t : Term) × Pattern v p W s t × (length (entriesBytes W (entriesOf W s t)) ≤ length out)
-answered-pattern v p out n m bv bp e = vocabulary (readVocabulary v) refl e
-  where
-    pattern : (W : Vocabulary) → readVocabulary v ≡ accept W → (r : Reading Kinded) → checkedLinear W p ≡ r →
-        listedPattern W out r .reply ≡ accepted (n ∷ m ∷ []) →
-        (W : Vocabulary) × (s : ℕ) × (t : Term) × Pattern v p W s t × (length (entriesBytes W (entriesOf W s t)) ≤ length out)
-    pattern W q (refuse i at) f e = absurd (not-accepted i 1 at (n ∷ m ∷ []) e)
-    pattern W q (accept x) f e = (
-      W,
-      x .kind,
-      x .term,
-      pattern-read v p W x bv bp q f,
-      answer-of out (length (entriesOf W (x .kind) (x .term))) (entriesBytes W (entriesOf W (x .kind) (x .term))) n m e .fits,
-    )
-
-    vocabulary : (r : Reading Vocabulary) → readVocabulary v ≡ r → listedVocabulary p out r .reply ≡ accepted (n ∷ m ∷ []) →
-        (W : Vocabulary) × (s : ℕ) × (t : Term) × Pattern v p W s t × (length (entriesBytes W (entriesOf W s t)) ≤ length out)
-    vocabulary (refuse i at) q e = absurd (not-accepted i 0 at (n ∷ m ∷ []) e)
-    vocabulary (accept W) q e = pattern W q (checkedLinear W p) refl e
 
 -- ---- the entries
 
@@ -222,24 +199,25 @@ module _ (v p : List ℕ) (W : Vocabulary) (s : ℕ) (t : Term) (h : Pattern v p
     represents = listing-represents (signature W) t s (h .pattern .sorted .sorted) (h .linear);
   }
 
--- ---- a refusal
-
-not-refused : (l : List ℕ) (n i q : ℕ) → accepted l ≡ refused n i q → ⊥
-not-refused l n i q e = let z : _≡_ {A = ℕ} 0 1 = cc in omega arith
+-- ---- a refusal or an answer
 
 module _ (v p out : List ℕ) (bv : IsBytes v) (bp : IsBytes p) where
-  -- What the refusal list is to decide on, where the reply is a refusal.
-  abbrev Decided : Reply → Type 0
-  Decided (accepted l) = Unit {0}
+  -- A vocabulary and a pattern that are accepted, with a listing that fits.
+  abbrev pub Listable : Type 0
+  Listable = (W : Vocabulary) × (s : ℕ) × (t : Term) × Pattern v p W s t × (length (entriesBytes W (entriesOf W s t)) ≤ length out)
+
+  -- What a reply comes of.
+  abbrev pub Decided : Reply → Type 0
+  Decided (accepted l) = Listable
   Decided (refused n i q) = ListRefusal v p out n i q
 
-  decided : Decided (listed v p out .reply)
+  pub decided : Decided (listed v p out .reply)
   decided = vocabulary (readVocabulary v) refl
     where
       room : (W : Vocabulary) (x : Kinded) → Pattern v p W (x .kind) (x .term) →
           (c : Bool) → leb (length (entriesBytes W (entriesOf W (x .kind) (x .term)))) (length out) ≡ c →
           Decided (intoIf c out (length (entriesOf W (x .kind) (x .term))) (entriesBytes W (entriesOf W (x .kind) (x .term))) .reply)
-      room W x h true e = tt
+      room W x h true e = (W, x .kind, x .term, h, leb-true (length (entriesBytes W (entriesOf W (x .kind) (x .term)))) (length out) e)
       room W x h false e = noRoom W (x .kind) (x .term) h (leb-false (length (entriesBytes W (entriesOf W (x .kind) (x .term)))) (length out) e)
 
       pattern : (W : Vocabulary) → readVocabulary v ≡ accept W → (r : Reading Kinded) → checkedLinear W p ≡ r →
@@ -252,9 +230,6 @@ module _ (v p out : List ℕ) (bv : IsBytes v) (bp : IsBytes p) where
       vocabulary : (r : Reading Vocabulary) → readVocabulary v ≡ r → Decided (listedVocabulary p out r .reply)
       vocabulary (refuse n q) e = ofVocabulary n q (vocabulary-refusals v bv .given n q .0 e)
       vocabulary (accept W) e = pattern W e (checkedLinear W p) refl
-
-  refuses : (n i q : ℕ) → listed v p out .reply ≡ refused n i q → ListRefusal v p out n i q
-  refuses n i q e = subst Decided e decided
 
   refused-by : {n i q : ℕ} → ListRefusal v p out n i q → listed v p out .reply ≡ refused n i q
   refused-by (ofVocabulary n q d) = ap (λ r. listedVocabulary p out r .reply) (vocabulary-refusals v bv .given n q .1 d)
@@ -270,9 +245,9 @@ pub list-keeps : ListKeeps
 list-keeps v p out bv bp = record {
   reply = refl;
   out = refl;
-  refuses = λ n i q. (refuses v p out bv bp n i q, refused-by v p out bv bp);
+  refuses = λ n i q. ((λ e. subst (Decided v p out bv bp) e (decided v p out bv bp)), refused-by v p out bv bp);
   answered = (
-    (λ a. answered-pattern v p out (a .0) (a .1) bv bp (a .2)),
+    (λ a. subst (Decided v p out bv bp) (a .2) (decided v p out bv bp)),
     (λ a.
         let W : Vocabulary = a .0 in
         let s : ℕ = a .1 in
@@ -285,7 +260,7 @@ list-keeps v p out bv bp = record {
         )),
   );
   entries = λ n m e.
-      let x = answered-pattern v p out n m bv bp e in
+      let x : Listable v p out bv bp = subst (Decided v p out bv bp) e (decided v p out bv bp) in
       let W : Vocabulary = x .0 in
       let s : ℕ = x .1 in
       let t : Term = x .2 in

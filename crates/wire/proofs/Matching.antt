@@ -26,10 +26,10 @@ use Rattle.wire.proofs.GroundBytes.{size-least, root-ground}
 use Rattle.wire.proofs.Spans.{covers-cut, span-value, span-absent}
 use Rattle.wire.proofs.SpanTable.{length-table, table-span}
 
-not-accepted : (n i q : ℕ) (l : List ℕ) → refused n i q ≡ accepted l → ⊥
+pub not-accepted : (n i q : ℕ) (l : List ℕ) → refused n i q ≡ accepted l → ⊥
 not-accepted n i q l e = let z : _≡_ {A = ℕ} 0 1 = cc in omega arith
 
-no-not-yes : no ≡ yes → ⊥
+pub no-not-yes : no ≡ yes → ⊥
 no-not-yes e = let z : _≡_ {A = ℕ} 0 1 = cc in omega arith
 
 -- ---- where match answers
@@ -181,7 +181,7 @@ part-keeps v p s n bv bp bs = record {
   reply = refl;
   value = λ x reads l o f filling fills.
       ap (λ j. cutOut s (spanWith n j)) (clear-is-reads v p s x bv bp bs .1 reads) ∙ part-value v p s x reads f filling fills n l o;
-  empty = kept (judged v p s) refl;
+  emptyOrCovered = kept (judged v p s) refl;
 }
   where
     kept : (j : Judged) → judged v p s ≡ j → PartKept v p s n (cutOut s (spanWith n j))

@@ -17,7 +17,7 @@ use Rattle.wire.specs.Written.{encodeAt}
 use Rattle.wire.specs.Listed.{Placed, placedFrom, placedAll, placed, noPlaced, RepeatedAt, repeatedIn}
 use Rattle.wire.proofs.Cond.{cond-true, cond-false}
 
-abbrev namesOf : List Placed → List ℕ
+abbrev pub namesOf : List Placed → List ℕ
 namesOf l = map (λ o. o .name) l
 
 -- ---- the names of a term
@@ -27,7 +27,7 @@ names-append [] m = refl
 names-append (o ∷ l) m = ap (λ z. o .name ∷ z) (names-append l m)
 
 mutual
-  placed-names : (W : Vocabulary) (t : Term) (at : ℕ) → namesOf (placedFrom W t at) ≡ names t
+  pub placed-names : (W : Vocabulary) (t : Term) (at : ℕ) → namesOf (placedFrom W t at) ≡ names t
   placed-names W any at = refl
   placed-names W (var n) at = refl
   placed-names W (app f ts) at = placed-names-all W ts (at + 1 + mapBytes)

@@ -22,18 +22,18 @@ module _ (W : Vocabulary) (t : Term) (g : Ground) where
 
   spans-at : (k from i j : ℕ) → i < k → j ≡ 2 * i →
       (getD (spansOf W t g (range from k)) j 0 ≡ span W t g (from + i) .offset)
-      × (getD (spansOf W t g (range from k)) (suc j) 0 ≡ span W t g (from + i) .length)
+      × (getD (spansOf W t g (range from k)) (suc j) 0 ≡ span W t g (from + i) .bytes)
   spans-at zero from i j l e = absurd (omega arith)
   spans-at (suc k) from zero zero l e =
       let same : from ≡ from + 0 = omega arith in
-      (ap (λ (c : ℕ). span W t g c .offset) same, ap (λ (c : ℕ). span W t g c .length) same)
+      (ap (λ (c : ℕ). span W t g c .offset) same, ap (λ (c : ℕ). span W t g c .bytes) same)
   spans-at (suc k) from zero (suc j) l e = absurd (omega arith)
   spans-at (suc k) from (suc i) zero l e = absurd (omega arith)
   spans-at (suc k) from (suc i) (suc zero) l e = absurd (omega arith)
   spans-at (suc k) from (suc i) (suc (suc j)) l e =
       let h = spans-at k (suc from) i j (omega arith) (omega arith) in
       let same : suc from + i ≡ from + suc i = omega arith in
-      (h .0 ∙ ap (λ (c : ℕ). span W t g c .offset) same, h .1 ∙ ap (λ (c : ℕ). span W t g c .length) same)
+      (h .0 ∙ ap (λ (c : ℕ). span W t g c .offset) same, h .1 ∙ ap (λ (c : ℕ). span W t g c .bytes) same)
 
   pub length-table : length (spanTable W t g) ≡ tableLength
   length-table = length-spans (range 0 nameCount) ∙ ap (λ (c : ℕ). 2 * c) (length-range 0 nameCount)
@@ -42,6 +42,6 @@ module _ (W : Vocabulary) (t : Term) (g : Ground) where
   table-span n l =
       let h = spans-at nameCount 0 n (2 * n) l refl in
       let same : 0 + n ≡ n = omega arith in
-      ap₂ {C = Span} (λ o k. record { offset = o; length = k })
+      ap₂ {C = Span} (λ o k. record { offset = o; bytes = k })
       (h .0 ∙ ap (λ (c : ℕ). span W t g c .offset) same)
-      (ap (λ (c : ℕ). getD (spansOf W t g (range 0 nameCount)) c 0) (add-one (2 * n)) ∙ h .1 ∙ ap (λ (c : ℕ). span W t g c .length) same)
+      (ap (λ (c : ℕ). getD (spansOf W t g (range 0 nameCount)) c 0) (add-one (2 * n)) ∙ h .1 ∙ ap (λ (c : ℕ). span W t g c .bytes) same)

@@ -46,11 +46,11 @@ abbrev mutual
 pub record Covers (W : Vocabulary) (s : List ℕ) (x : Span) (h : Ground) : Type 0 where
   pub behind : List ℕ
   pub stands : drop (x .offset) s ≡ encodeAt W (asTerm h) ++ behind
-  pub long : x .length ≡ size W h
+  pub long : x .bytes ≡ size W h
 
 pub covers-cut : (W : Vocabulary) (s : List ℕ) (x : Span) (h : Ground) → Covers W s x h → cutOut s x ≡ encodeAt W (asTerm h)
 covers-cut W s x h c =
-    ap (take (x .length)) (c .stands) ∙ take-at (encodeAt W (asTerm h)) (c .behind) (x .length) (sym (c .long))
+    ap (take (x .bytes)) (c .stands) ∙ take-at (encodeAt W (asTerm h)) (c .behind) (x .bytes) (sym (c .long))
 
 -- There is a span exactly where there is something covered, and it holds that.
 abbrev pub SpanHolds : Vocabulary → List ℕ → Option Span → Option Ground → Type 0
@@ -67,7 +67,7 @@ else-holds W s (some x) b none d h k = absurd h
 else-holds W s (some x) b (some g) d h k = h
 
 name-holds : (W : Vocabulary) (s : List ℕ) (c : Bool) (g : Ground) (at : ℕ) (r : List ℕ) → drop at s ≡ encodeAt W (asTerm g) ++ r →
-    SpanHolds W s (cond c (some (record { offset = at; length = size W g })) none) (cond c (some g) none)
+    SpanHolds W s (cond c (some (record { offset = at; bytes = size W g })) none) (cond c (some g) none)
 name-holds W s true g at r e = record { behind = r; stands = e; long = refl }
 name-holds W s false g at r e = tt
 

@@ -2,13 +2,14 @@
 --
 --   digit-below               a digit below 10
 --   decimal-one, decimal-more the digits of a number below 10, and of one that is not
---   decimal-is-exact          the digits of a number stand for it, and no zero stands in front
+--   decimal-is-exact          the digits of a number stand for it, with no needless zero in front
 --   decimal-short             how many digits a number has at most
 --   hexadecimal-length        two digits a byte
 --
 use mathlib.Core.Path.{_≡_, refl, sym, ap, _∙_, subst}
 use mathlib.Core.Bool.{Bool, true, false, true≢false, false≢true}
 use mathlib.Core.List.{List, [], _∷_, _++_}
+use mathlib.Core.Logic.{_⊎_, inl, inr}
 use Prim.Native.Nat.{ℕ, zero, suc, _+_, _*_, _-_, _/_, _%_, _^_, _<_, _≤_}
 use native.Mathlib.Nat.{pow-suc}
 use native.Mathlib.Omega.{arith}
@@ -94,8 +95,13 @@ all-digits =
     subst (All IsDigit) (sym (decimal-more most n h))
     (all-append IsDigit (decimalIn most (n / 10)) (digit (n % 10) ∷ []) tenth (digit-is (n % 10) (omega arith), tt)))
 
+-- 0 is one digit; every other number begins with another.
+front-is : (n : ℕ) → (length (decimal n) ≡ 1) ⊎ (49 ≤ getD (decimal n) 0 0)
+front-is zero = inl refl
+front-is (suc n) = inr (first-is (suc (suc n)) (suc n) (omega arith) (omega arith))
+
 pub decimal-is-exact : DecimalIsExact
-decimal-is-exact n = (value-is (suc n) n (omega arith), all-digits (suc n) n (omega arith), first-is (suc n) n (omega arith))
+decimal-is-exact n = (value-is (suc n) n (omega arith), all-digits (suc n) n (omega arith), front-is n)
 
 -- ---- how long the texts are
 

@@ -13,6 +13,7 @@ pub mod VocabularyLines
 pub mod TermLines
 pub mod Situation
 pub mod Matching
+pub mod CheckPromises
 pub mod Listed
 pub mod Text
 pub mod Printed

@@ -4,8 +4,9 @@
 --   placedFrom, placedAll    the names of a term that begins at an offset, from left to right
 --   placed W t               the names of a term with its kind byte
 --   noPlaced                 what is read off a list that has no such entry
+--   NamedAt l n q            q is the earliest byte at which the name n stands
 --   RepeatedAt l q           q is the earliest byte at which a name stands for the second time
---   repeatedIn seen l        the same found from left to right
+--   repeatedIn seen l        the same found from left to right: an algorithm, which LinearRefusals fixes
 --   PatternLine W b n q      line n, of 7 to 15 and 18, fits the bytes b of a pattern to be listed
 --   linearOf, linearIn       line 18, once the term is read
 --   checkedLinear W b        reading a pattern to be listed
@@ -13,7 +14,7 @@
 --   entriesBytes W l         whole patterns, each directly behind the one before it
 --   entriesOf W s t          the entries of a pattern, each with its kind
 --   Listed                   a reply, and the lent slice after the call
---   listedInto, listedPattern, listedVocabulary    the parts of the next, in the order in which they are judged
+--   listedVocabulary, listedPattern, listedInto    the parts of the next, in the order in which they are judged
 --   listed v p out           the reply of list, and the lent slice after it
 --   readEntry, readEntries   whole patterns read off the front of some bytes
 --   EntriesInverse           so many are read off bytes exactly where the bytes are their writings
@@ -21,6 +22,8 @@
 --   Entries                  demand 3 of the entries that stand in the lent slice
 --   ListRefusal v p out      the number, input and place that the refusal list decides on: lines 1 to 15, 18 and 20
 --   ListPromise              what list promises of its reply and the lent slice
+--   NameOffsetExact W t n    nameOffset gives the earliest byte of the name n in t, and none where n is no name of t
+--   NameOffsetIsFirst        nameOffset is exact for every term and name
 --   PatternIsOne             the bytes write one vocabulary and one pattern only
 --   LinearRefusals           checkedLinear refuses by these lines
 --   ListKeeps                the definitions keep the promise
@@ -34,14 +37,14 @@ use Prim.Native.Nat.{ℕ, zero, suc, _+_, _<_, _≤_}
 use lib.Dec.{leb, ltb}
 use lib.ListN.{length, getD, take, drop}
 use Rattle.terms.specs.Lists.{All, occurs}
-use Rattle.terms.specs.Term.{Term, any, var, app, Terms, nil, cons, Ground, SortedG, Linear}
+use Rattle.terms.specs.Term.{Term, any, var, app, Terms, nil, cons, Ground, SortedG, names, Linear}
 use Rattle.terms.specs.Filling.{Fits}
 use Rattle.terms.specs.Listing.{listing, FitsExactlyOne}
 use Rattle.terms.specs.Substitution.{withVariables, Represents}
 use Rattle.wire.specs.Reply.{Reply, accepted, refused, Reading, accept, refuse, IsBytes}
 use Rattle.wire.specs.Map.{mapBytes}
 use Rattle.wire.specs.Vocabulary.{Vocabulary, signature, InOrder, encodeVocabulary}
-use Rattle.wire.specs.Written.{encodeAt, encodeTerm, GoodTerm}
+use Rattle.wire.specs.Written.{encodeAt, encodeTerm, GoodTerm, nameOffset}
 use Rattle.wire.specs.Reading.{Got, got, stop, andThen, readTerm, readVocabulary, Kinded}
 use Rattle.wire.specs.Checks.{checkedTerm, GoodVocabulary}
 use Rattle.wire.specs.Refusals.{Decides, RefusesBy}
@@ -69,6 +72,14 @@ placed W t = placedFrom W t 1
 
 abbrev pub noPlaced : Placed
 noPlaced = record { name = 0; offset = 0 }
+
+-- Of all occurrences of the name n, the one at q is the first.
+pub record NamedAt (l : List Placed) (n q : ℕ) : Type 0 where
+  pub index : ℕ
+  pub below : index < length l
+  pub here : getD l index noPlaced .offset ≡ q
+  pub named : getD l index noPlaced .name ≡ n
+  pub first : (j : ℕ) → j < index → getD l j noPlaced .name ≡ n → ⊥
 
 -- Of all occurrences of names that stood before, the one at q is the first.
 pub record RepeatedAt (l : List Placed) (q : ℕ) : Type 0 where
@@ -147,7 +158,7 @@ readEntries W zero b = got [] b
 readEntries W (suc n) b =
     andThen (readEntry W b) (λ k r. andThen (readEntries W n r) (λ ks r′. got (k ∷ ks) r′))
 
--- They are read off exactly the bytes that are their writings: these can be split in one way only.
+-- They are read off exactly the bytes that are their writings: these can be split into so many in one way only.
 abbrev pub EntriesInverse : Type 0
 EntriesInverse =
     (W : Vocabulary) (n : ℕ) (b : List ℕ) (l : List Kinded) → InOrder W → IsBytes b →
@@ -210,6 +221,13 @@ pub record ListPromise (v p before after : List ℕ) (r : Reply) : Type 0 where
   -- Demand 3, about the bytes that stand in the lent slice after the call, wherever the reply is no refusal.
   pub entries : (n m : ℕ) → r ≡ accepted (n ∷ m ∷ []) →
       (W : Vocabulary) × (s : ℕ) × (t : Term) × Pattern v p W s t × Entries W s t p n m after
+
+pub record NameOffsetExact (W : Vocabulary) (t : Term) (n : ℕ) : Type 0 where
+  pub found : (q : ℕ) → (nameOffset W t n ≡ some q) ↔ NamedAt (placed W t) n q
+  pub missed : (nameOffset W t n ≡ none) ↔ (occurs n (names t) ≡ false)
+
+abbrev pub NameOffsetIsFirst : Type 0
+NameOffsetIsFirst = (W : Vocabulary) (t : Term) (n : ℕ) → NameOffsetExact W t n
 
 -- No other vocabulary and pattern are meant.
 abbrev pub PatternIsOne : Type 0

@@ -27,6 +27,7 @@
 --   MatchPromise             what match promises of its reply and table
 --   PartPromise              what part promises of its reply
 --   MatchKeeps, PartKeeps    the definitions keep these promises
+--   PartIsTable              part's span is the one that match's table gives the name
 --
 use mathlib.Core.Path.{_≡_}
 use mathlib.Core.Bool.{true, false, cond, _&&_}
@@ -91,10 +92,10 @@ size W g = length (encodeAt W (asTerm g))
 
 pub record Span : Type 0 where
   pub offset : ℕ
-  pub length : ℕ
+  pub bytes : ℕ
 
 abbrev pub noSpan : Span
-noSpan = record { offset = 0; length = 0 }
+noSpan = record { offset = 0; bytes = 0 }
 
 -- The first of two spans that may be missing.
 abbrev pub spanElse : Option Span → Option Span → Option Span
@@ -106,7 +107,7 @@ spanElse none o = o
 abbrev mutual
   pub spanFrom : Vocabulary → Term → Ground → ℕ → ℕ → Option Span
   spanFrom W any g n at = none
-  spanFrom W (var m) g n at = cond (eqb n m) (some (record { offset = at; length = size W g })) none
+  spanFrom W (var m) g n at = cond (eqb n m) (some (record { offset = at; bytes = size W g })) none
   spanFrom W (app f ts) (gapp h gs) n at = spanAll W ts gs n (at + 1 + mapBytes)
 
   pub spanAll : Vocabulary → Terms → Grounds → ℕ → ℕ → Option Span
@@ -126,7 +127,7 @@ span W t g n = orNoSpan (spanFrom W t g n 1)
 -- "at 2n the offset .., at 2n + 1 its length", for each n of ns.
 abbrev pub spansOf : Vocabulary → Term → Ground → List ℕ → List ℕ
 spansOf W t g [] = []
-spansOf W t g (n ∷ ns) = span W t g n .offset ∷ span W t g n .length ∷ spansOf W t g ns
+spansOf W t g (n ∷ ns) = span W t g n .offset ∷ span W t g n .bytes ∷ spansOf W t g ns
 
 abbrev pub spanTable : Vocabulary → Term → Ground → List ℕ
 spanTable W t g = spansOf W t g (range 0 nameCount)
@@ -158,7 +159,7 @@ matched v p s table = matchedWith table (judged v p s)
 
 -- "that very part of the lent situation": the bytes s from a span's offset on, as many as it is long.
 abbrev pub cutOut : List ℕ → Span → List ℕ
-cutOut s x = take (x .length) (drop (x .offset) s)
+cutOut s x = take (x .bytes) (drop (x .offset) s)
 
 abbrev pub spanFound : Inputs → ℕ → Option Filling → Span
 spanFound x n none = noSpan
@@ -196,7 +197,7 @@ pub record Reads (v p s : List ℕ) (x : Inputs) : Type 0 where
 
 -- The table's span of a name.
 abbrev pub spanIn : List ℕ → ℕ → Span
-spanIn table n = record { offset = getD table (2 * n) 0; length = getD table (2 * n + 1) 0 }
+spanIn table n = record { offset = getD table (2 * n) 0; bytes = getD table (2 * n + 1) 0 }
 
 -- Each name of the pattern has the part that the filling f gives it; other names have 0 and 0.
 pub record SpansOf (x : Inputs) (s : List ℕ) (f : Filling) (table : List ℕ) : Type 0 where
@@ -243,7 +244,7 @@ pub record PartPromise (v p s : List ℕ) (n : ℕ) (r : List ℕ) : Type 0 wher
       IsFilling (signature (x .vocabulary)) (x .pattern) (x .kind) f → fill (x .pattern) f ≡ x .situation →
       r ≡ encodeAt (x .vocabulary) (asTerm (valueOf (f .named) n))
   -- "A covered part has at least 2 bytes, so empty is never ambiguous."
-  pub empty : (r ≡ []) ⊎ ((2 ≤ length r) × ((x : Inputs) × Reads v p s x × (occurs n (names (x .pattern)) ≡ true) ×
+  pub emptyOrCovered : (r ≡ []) ⊎ ((2 ≤ length r) × ((x : Inputs) × Reads v p s x × (occurs n (names (x .pattern)) ≡ true) ×
       Fits (signature (x .vocabulary)) (x .pattern) (x .kind) (x .situation)))
 
 abbrev pub MatchKeeps : Type 0
@@ -253,3 +254,11 @@ MatchKeeps =
 
 abbrev pub PartKeeps : Type 0
 PartKeeps = (v p s : List ℕ) (n : ℕ) → IsBytes v → IsBytes p → IsBytes s → PartPromise v p s n (partOf v p s n)
+
+-- "the same pattern and situation and a name, and the answer is that very part"; "It is empty if match, given a table of the
+-- right length, would not say yes, .. or its number is above 63."
+abbrev pub PartIsTable : Type 0
+PartIsTable =
+    (v p s table : List ℕ) (n : ℕ) → length table ≡ tableLength →
+    (matched v p s table .reply ≡ yes → n < nameCount → partSpan v p s n ≡ spanIn (matched v p s table .table) n) ×
+    ((matched v p s table .reply ≡ yes → ⊥) ⊎ (nameCount ≤ n) → partSpan v p s n ≡ noSpan)

@@ -8,15 +8,17 @@
 --   waitUpFree     wait(up, free) under A
 --   pairTwice      pair(n0, n0) under C
 --   lent           a table of 128 numbers before the call
+--   line s         a line of text, with the newline behind it
 --   StarredHold    every row holds
 --
 use mathlib.Core.Path.{_≡_}
 use mathlib.Core.List.{List, [], _∷_, _++_}
 use Prim.Native.Nat.{ℕ}
+use Prim.Native.String.{String}
 use lib.ListN.{replicate}
 use Rattle.terms.specs.Lists.{All}
 use Rattle.wire.specs.Reply.{Reply, accepted, refused}
-use Rattle.wire.specs.Checks.{vocabularyReply, termReply}
+use Rattle.wire.specs.Checks.{vocabularyReply}
 use Rattle.wire.specs.Matching.{matched, yes, no, tableLength}
 use Rattle.wire.specs.Listed.{listed}
 use Rattle.wire.specs.Text.{ascii}
@@ -24,7 +26,6 @@ use Rattle.wire.specs.Printed.{printed}
 
 pub data Call : Type 0 where
   checkVocabulary : List ℕ → Call
-  checkTerm : List ℕ → List ℕ → Call
   matchPattern : List ℕ → List ℕ → List ℕ → List ℕ → Call
   list : List ℕ → List ℕ → List ℕ → Call
   leftovers : List ℕ → Call
@@ -35,7 +36,6 @@ pub data Outcome : Type 0 where
 
 abbrev pub outcome : Call → Outcome
 outcome (checkVocabulary v) = answers (vocabularyReply v) []
-outcome (checkTerm v t) = answers (termReply v t) []
 outcome (matchPattern v p s table) = answers (matched v p s table .reply) (matched v p s table .table)
 outcome (list v p out) = answers (listed v p out .reply) (listed v p out .out)
 outcome (leftovers b) = prints (printed b)
@@ -66,12 +66,15 @@ pairTwice = 0x00 ∷ 0x02 ∷ 0x03 ∷ 0x80 ∷ 0x80 ∷ []
 abbrev pub lent : List ℕ
 lent = replicate tableLength 7
 
+abbrev pub line : String → List ℕ
+line s = ascii s ++ (10 ∷ [])
+
 abbrev pub starred : List Row
 starred =
     -- "A, wait(up, free) .. With `00 10` and A in front, the program prints whole:"
     record {
       call = leftovers (0x00 ∷ 0x10 ∷ (A ++ waitUpFree));
-      outcome = prints (ascii "leftovers 3\n1 000500\n2 0000010200\n3 00000301000400\n");
+      outcome = prints (line "leftovers 3" ++ (line "1 000500" ++ (line "2 0000010200" ++ line "3 00000301000400")));
     }
     -- "A, wait(up, free), `00 00 03 01 00 03 00`: 3 entries, 15 bytes." "Bytes behind the last entry stay unchanged."
     ∷ record {

@@ -1,25 +1,31 @@
 -- Text: text in ASCII, and numbers as text.
 --
 --   ascii s              the codes of a text's characters
+--   newline              what ends a line
 --   digit d              the code of a digit, 0 to 9 and then a to f
 --   decimalIn, decimal   a number in decimal
 --   hexadecimal l        bytes in lowercase hexadecimal without gaps
 --   valueFrom, value     the number that decimal digits stand for
---   DecimalIsExact       a number in decimal is of digits that stand for it, and no zero stands in front
+--   DecimalIsExact       a number in decimal is of digits that stand for it, with no needless zero in front
 --
 use mathlib.Core.Path.{_≡_}
 use mathlib.Core.Bool.{true, false, cond}
 use mathlib.Core.List.{List, [], _∷_, _++_}
+use mathlib.Core.Logic.{_⊎_}
 use Prim.Native.Nat.{ℕ, zero, suc, _+_, _*_, _-_, _/_, _%_, _≤_}
 use Prim.Native.Char.{code}
 use Prim.Native.String.{String, [] as nothing, _∷_ as _then_}
 use lib.Dec.{ltb}
-use lib.ListN.{getD}
+use lib.ListN.{length, getD}
 use Rattle.terms.specs.Lists.{All}
 
 abbrev pub ascii : String → List ℕ
 ascii nothing = []
 ascii (c then s) = code c ∷ ascii s
+
+-- "a newline (byte 10)"
+abbrev pub newline : List ℕ
+newline = 10 ∷ []
 
 abbrev pub digit : ℕ → ℕ
 digit d = cond (ltb d 10) (code "0" + d) (code "a" + (d - 10))
@@ -45,7 +51,8 @@ valueFrom n (c ∷ l) = valueFrom (10 * n + (c - code "0")) l
 abbrev pub value : List ℕ → ℕ
 value l = valueFrom 0 l
 
+-- "in decimal": at least one digit, and a 0 in front only where it is the whole number.
 abbrev pub DecimalIsExact : Type 0
 DecimalIsExact =
     (n : ℕ) → (value (decimal n) ≡ n) × All (λ c. (code "0" ≤ c) × (c ≤ code "9")) (decimal n) ×
-    (1 ≤ n → code "1" ≤ getD (decimal n) 0 0)
+    ((length (decimal n) ≡ 1) ⊎ (code "1" ≤ getD (decimal n) 0 0))

@@ -20,7 +20,8 @@
 --   firstGap W t                    the place of its first name, 255 or short map (document 01, line 16); `FirstGapIsExact`
 --                                   (Situation) fixes it, so the three above can be passed over
 --   nameOffsetFrom W t n at, nameOffsetAll W ts n at   where the name n first stands in what begins at the offset `at`
---   nameOffset W t n                where the name n first stands in the term t
+--   nameOffset W t n                where the name n first stands in the term t; `NameOffsetIsFirst` (Listed) fixes it, so the two
+--                                   above can be passed over
 --
 use mathlib.Core.Bool.{Bool, true, false, _&&_, _||_, cond}
 use mathlib.Core.List.{List, [], _∷_, _++_}

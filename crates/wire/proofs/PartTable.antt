@@ -1,0 +1,76 @@
+-- PartTable: part's span is the one that match's table gives the name.
+use mathlib.Core.Path.{_≡_, refl, sym, ap, _∙_, subst}
+use mathlib.Core.Bool.{Bool, true, false, cond, _&&_}
+use mathlib.Core.List.{List}
+use mathlib.Core.Logic.{_⊎_, inl, inr}
+use mathlib.Core.Option.{Option, some, none}
+use Prim.Native.Nat.{ℕ, _<_, _≤_}
+use lib.Dec.{eqb, ltb}
+use lib.ListN.{length}
+use borrow.Author.Tests.{eq-eqb, lt-ltb, le-ltb}
+use Rattle.terms.specs.Lists.{occurs}
+use Rattle.terms.specs.Term.{names}
+use Rattle.terms.specs.Filling.{Filling}
+use Rattle.terms.specs.Matcher.{matcher}
+use Rattle.wire.specs.Written.{nameCount}
+use Rattle.wire.specs.Matching.{Inputs, Judged, clear, refusal, judged, tableLength, Span, orNoSpan, noSpan, span, spanIn, Matched, yes, verdict, matchedWith, matched, spanFound, spanWith, PartIsTable}
+use Rattle.wire.proofs.Cond.{cond-true, choice}
+use Rattle.wire.proofs.Matching.{not-accepted, no-not-yes}
+use Rattle.wire.proofs.Spans.{span-absent}
+use Rattle.wire.proofs.SpanTable.{table-span}
+
+-- What a match that says yes, and one that does not, have to do with the span x of a name n.
+abbrev Tied : ℕ → Matched → Span → Type 0
+Tied n m x = (m .reply ≡ yes → n < nameCount → x ≡ spanIn (m .table) n) × ((m .reply ≡ yes → ⊥) ⊎ (nameCount ≤ n) → x ≡ noSpan)
+
+module _ (x : Inputs) (n : ℕ) where
+  abbrev here : Span
+  here = span (x .vocabulary) (x .pattern) (x .situation) n
+
+  -- A name below 64 has its span, whether it stands in the pattern or not.
+  low-span : n < nameCount → cond (ltb n nameCount && occurs n (names (x .pattern))) here noSpan ≡ here
+  low-span low =
+      ap (λ b. cond (b && occurs n (names (x .pattern))) here noSpan) (lt-ltb n nameCount low) ∙ go (occurs n (names (x .pattern))) refl
+    where
+      go : (b : Bool) → occurs n (names (x .pattern)) ≡ b → cond b here noSpan ≡ here
+      go true q = refl
+      go false q = sym (ap orNoSpan (span-absent (x .vocabulary) (x .pattern) (x .situation) n 1 q))
+
+  verdict-tied : (table : List ℕ) (o : Option Filling) → Tied n (verdict table x o) (spanFound x n o)
+  verdict-tied table none = ((λ e low. absurd (no-not-yes e)), (λ h. refl))
+  verdict-tied table (some f) = (
+    (λ e low. low-span low ∙ sym (table-span (x .vocabulary) (x .pattern) (x .situation) n low)),
+    high,
+  )
+    where
+      high : (yes ≡ yes → ⊥) ⊎ (nameCount ≤ n) → spanFound x n (some f) ≡ noSpan
+      high (inl h) = absurd (h refl)
+      high (inr h) = ap (λ b. cond (b && occurs n (names (x .pattern))) here noSpan) (le-ltb n nameCount h)
+
+pub part-is-table : PartIsTable
+part-is-table v p s table n long = go (judged v p s)
+  where
+    go : (j : Judged) → Tied n (matchedWith table j) (spanWith n j)
+    go (refusal m i q) = ((λ e low. absurd (not-accepted m i q _ e)), (λ h. refl))
+    go (clear x) =
+        let o = matcher (x .pattern) (x .situation) in
+        subst (λ m. Tied n m (spanFound x n o)) (sym (cond-true (eqb (length table) tableLength) _ _ (eq-eqb (length table) tableLength long)))
+        (verdict-tied x n table o)
+
+-- Where match does not say yes, the table is as it was.
+pub yes-or-kept : (v p s table : List ℕ) →
+    (matched v p s table .reply ≡ yes) ⊎ ((matched v p s table .reply ≡ yes → ⊥) × (matched v p s table .table ≡ table))
+yes-or-kept v p s table = go (judged v p s)
+  where
+    Kept : Matched → Type 0
+    Kept m = (m .reply ≡ yes) ⊎ ((m .reply ≡ yes → ⊥) × (m .table ≡ table))
+
+    answer : (x : Inputs) (o : Option Filling) → Kept (verdict table x o)
+    answer x (some f) = inl refl
+    answer x none = inr (no-not-yes, refl)
+
+    go : (j : Judged) → Kept (matchedWith table j)
+    go (refusal n i q) = inr (not-accepted n i q _, refl)
+    go (clear x) =
+        choice Kept (eqb (length table) tableLength) _ _ (λ e. answer x (matcher (x .pattern) (x .situation)))
+        (λ e. inr (not-accepted 19 3 0 _, refl))

@@ -1,0 +1,113 @@
+-- VocabularyMore: a vocabulary of more than 962 bytes is refused, and bytes put behind it change neither number nor place.
+use mathlib.Core.Path.{_≡_, refl, sym, ap, subst, _∙_}
+use mathlib.Core.Bool.{Bool, true, false, cond}
+use mathlib.Core.List.{List, [], _∷_, _++_}
+use Prim.Native.Nat.{ℕ, zero, suc, _+_, _*_, _/_, _%_, _<_, _≤_}
+use native.Mathlib.Omega.{arith}
+use lib.Dec.{eqb, ltb}
+use lib.ListN.{length, length-append}
+use borrow.Author.Tests.{ltb-true, ltb-false}
+use Rattle.wire.specs.Reply.{Reading, refuse, outside}
+use Rattle.wire.specs.Map.{mapBits, flagsIn, flags, bit, ones}
+use Rattle.wire.specs.Vocabulary.{Word, Vocabulary, mostKinds, mostWords}
+use Rattle.wire.specs.Reading.{Got, got, stop, andThen, offset, readKinds, readWord, readWords, lines5and6, readVocabulary}
+use Rattle.wire.specs.Printed.{mostVocabulary, AcceptedIsShort}
+use Rattle.wire.proofs.Outside.{outside-false}
+
+-- ---- what is read off a front does not depend on the bytes x behind it
+
+-- The second reading is the first with x behind the rest, of which at least n bytes are left.
+abbrev Same : {A : Type 0} → ℕ → List ℕ → Got A → Got A → Type 0
+Same n x (got a r) g = (n ≤ length r) × (g ≡ got a (r ++ x))
+Same n x (stop m r) g = g ≡ stop m (r ++ x)
+
+then-same : {A B : Type 0} (n m : ℕ) (x : List ℕ) (k : A → List ℕ → Got B) (g h : Got A) → Same n x g h →
+    ((a : A) (r : List ℕ) → n ≤ length r → Same m x (k a r) (k a (r ++ x))) → Same m x (andThen g k) (andThen h k)
+then-same n m x k (got a r) h (left, e) more = subst (λ z. Same m x (k a r) (andThen z k)) (sym e) (more a r left)
+then-same n m x k (stop i r) h e more = ap (λ z. andThen z k) e
+
+kinds-same : (k n j : ℕ) (l x : List ℕ) → n + j ≤ length l → Same j x (readKinds k n l) (readKinds k n (l ++ x))
+kinds-same k zero j l x h = (omega arith, refl)
+kinds-same k (suc n) j [] x h = absurd (omega arith)
+kinds-same k (suc n) j (b ∷ l) x h = go (ltb b k) (kinds-same k n j l x (omega arith))
+  where
+    go : (t : Bool) → Same j x (readKinds k n l) (readKinds k n (l ++ x)) →
+        Same j x (cond t (andThen (readKinds k n l) (λ ks r. got (b ∷ ks) r)) (stop 4 (b ∷ l)))
+        (cond t (andThen (readKinds k n (l ++ x)) (λ ks r. got (b ∷ ks) r)) (stop 4 (b ∷ (l ++ x))))
+    go true same = then-same j j x (λ ks r. got (b ∷ ks) r) (readKinds k n l) (readKinds k n (l ++ x)) same (λ ks r left. (left, refl))
+    go false same = refl
+
+ones-few : (d m : ℕ) → ones (flagsIn d m) ≤ d
+ones-few zero m = omega arith
+ones-few (suc d) m = go (eqb (m % 2) 1) (ones-few d (m / 2))
+  where
+    go : (b : Bool) → ones (flagsIn d (m / 2)) ≤ d → bit b + ones (flagsIn d (m / 2)) ≤ suc d
+    go true h = omega arith
+    go false h = omega arith
+
+-- A record has at most ten bytes: its result kind, its map and eight kinds.
+word-same : (k j : ℕ) (l x : List ℕ) → 10 + j ≤ length l → Same j x (readWord k l) (readWord k (l ++ x))
+word-same k j [] x h = absurd (omega arith)
+word-same k j (b ∷ []) x h = absurd (omega arith)
+word-same k j (b ∷ m ∷ l) x h = go (ltb b k) (ones (flags m)) (ones-few mapBits m)
+  where
+    read : ℕ → List ℕ → Got Word
+    read p l = andThen (readKinds k p l) (λ ks r. got (record { result = b; placeMap = m; kinds = ks }) r)
+
+    go : (t : Bool) (p : ℕ) → p ≤ mapBits →
+        Same j x (cond t (read p l) (stop 4 (b ∷ m ∷ l))) (cond t (read p (l ++ x)) (stop 4 (b ∷ m ∷ (l ++ x))))
+    go true p few =
+        then-same j j x (λ ks r. got (record { result = b; placeMap = m; kinds = ks }) r) (readKinds k p l) (readKinds k p (l ++ x))
+        (kinds-same k p j l x (omega arith)) (λ ks r left. (left, refl))
+    go false p few = refl
+
+words-same : (k n j : ℕ) (l x : List ℕ) → 10 * n + j ≤ length l → Same j x (readWords k n l) (readWords k n (l ++ x))
+words-same k zero j l x h = (omega arith, refl)
+words-same k (suc n) j l x h =
+    then-same (10 * n + j) j x (λ w r. andThen (readWords k n r) (λ ws r′. got (w ∷ ws) r′)) (readWord k l) (readWord k (l ++ x))
+    (word-same k (10 * n + j) l x (omega arith))
+    (λ w r left.
+    then-same j j x (λ ws r′. got (w ∷ ws) r′) (readWords k n r) (readWords k n (r ++ x)) (words-same k n j r x left)
+    (λ ws r′ left′. (left′, refl)))
+
+-- ---- vocabularies
+
+offset-same : (b r x : List ℕ) → offset (b ++ x) (r ++ x) ≡ offset b r
+offset-same b r x = omega (arith, length-append b x, length-append r x)
+
+-- Both are refused with one number and place.
+abbrev pub RefusedAlike : Reading Vocabulary → Reading Vocabulary → Type 0
+RefusedAlike g h = (n : ℕ) × (q : ℕ) × (g ≡ refuse n q) × (h ≡ refuse n q)
+
+lines-alike : (b x : List ℕ) (k : ℕ) (g h : Got (List Word)) → Same 1 x g h → RefusedAlike (lines5and6 b k g) (lines5and6 (b ++ x) k h)
+lines-alike b x k (stop n r) h e =
+    (n, offset b r, refl, ap (lines5and6 (b ++ x) k) e ∙ ap (refuse n) (offset-same b r x))
+lines-alike b x k (got ws []) h (left, e) = absurd (omega arith)
+lines-alike b x k (got ws (c ∷ r)) h (left, e) =
+    (5, offset b (c ∷ r), refl, ap (lines5and6 (b ++ x) k) e ∙ ap (refuse 5) (offset-same b (c ∷ r) x))
+
+-- Two counts and 96 records make at most 962 bytes, so in a longer vocabulary at least one byte is left behind them.
+pub refused-alike : (v x : List ℕ) → mostVocabulary < length v → RefusedAlike (readVocabulary v) (readVocabulary (v ++ x))
+refused-alike [] x h = absurd (omega arith)
+refused-alike (k ∷ []) x h = absurd (omega arith)
+refused-alike (k ∷ n ∷ l) x h = go (outside 1 mostKinds k) (outside 1 mostWords n) refl
+  where
+    go : (t u : Bool) → outside 1 mostWords n ≡ u →
+        RefusedAlike (cond t (refuse 1 0) (cond u (refuse 2 1) (lines5and6 (k ∷ n ∷ l) k (readWords k n l))))
+        (cond t (refuse 1 0) (cond u (refuse 2 1) (lines5and6 (k ∷ n ∷ (l ++ x)) k (readWords k n (l ++ x)))))
+    go true u e = (1, 0, refl, refl)
+    go false true e = (2, 1, refl, refl)
+    go false false e =
+        let few : n ≤ 96 = outside-false 1 mostWords n e .1 in
+        lines-alike (k ∷ n ∷ l) x k (readWords k n l) (readWords k n (l ++ x)) (words-same k n 1 l x (omega arith))
+
+pub accepted-is-short : AcceptedIsShort
+accepted-is-short v W e = go (ltb mostVocabulary (length v)) refl
+  where
+    go : (t : Bool) → ltb mostVocabulary (length v) ≡ t → length v ≤ mostVocabulary
+    go true t =
+        let alike = refused-alike v [] (ltb-true mostVocabulary (length v) t) in
+        let refused = alike .2 in
+        let z : _≡_ {A = ℕ} 0 1 = cc in
+        absurd (omega arith)
+    go false t = ltb-false mostVocabulary (length v) t
