@@ -3,8 +3,10 @@ pub mod Answers
 -- Its bytes, then its records, then the kinds that have complete situations, then all of it.
 pub mod KindBytes
 pub mod RecordBytes
-pub mod Padded
+pub mod Laid
 pub mod RecordsRead
 pub mod Marking
 pub mod Rounds
 pub mod VocabularyLoaded
+-- What the tables of an accepted vocabulary hold.
+pub mod Accepted

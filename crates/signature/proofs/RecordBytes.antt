@@ -6,6 +6,7 @@ use native.Mathlib.Omega.{arith}
 use lib.Count
 use lib.ListN.{length, take, drop, drop-of-length-le}
 use lib.Seq.{drop-cons}
+use borrow.Author.Count.{below-none}
 use borrow.Author.Tests.{lt-ltb, le-ltb}
 use Rattle.wire.specs.Map.{flags, ones}
 use Rattle.wire.specs.Vocabulary.{Word}
@@ -15,7 +16,10 @@ use Rattle.wire.proofs.Map.{ones-count}
 use Rattle.signature.specs.declared.WordRead.{WordRead}
 use Rattle.signature.specs.declared.WordRead.the-variants.{Whole, Ends, NoSuchKind}
 use Rattle.signature.specs.Loading.{KindsRead, RecordRead}
-use Rattle.signature.proofs.KindBytes.{SoundKinds, kinds-sound}
+use Rattle.signature.proofs.KindBytes.{SoundKinds, kinds-sound, kinds-read-whole}
+
+pub no-ones : (m : ℕ) → m ≡ 0 → Count.ones m ≡ 0
+no-ones m e = rw e (Count.ones-ones 0)
 
 -- The bytes from an offset on, where there are some.
 byte-cons : (v : List ℕ) (i j : ℕ) → suc i ≡ j → i < length v → drop i v ≡ byteAt v i ∷ drop j v
@@ -78,3 +82,7 @@ module _ (v : List ℕ) (at k : ℕ) where
     pub record-kinds : (r : WordRead) → KindsRead v (at + 2) (Count.ones (byteAt v (at + 1))) k r → RecordRead v at k r
     unfolding n
     record-kinds r read = behind-map r (rw (ones-count (byteAt v (at + 1)) small) at read)
+
+    -- A map of no places.
+    pub record-bare : byteAt v (at + 1) ≡ 0 → RecordRead v at k (Whole 0)
+    record-bare e = record-kinds (Whole 0) (rw (no-ones (byteAt v (at + 1)) e) (kinds-read-whole v (at + 2) k 0 (omega arith) (below-none _)))

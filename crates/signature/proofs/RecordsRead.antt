@@ -1,8 +1,8 @@
 -- RecordsRead: the records that are read so far stand in the tables, and what is left to read decides the rest.
 --
 --   prepend ws g             g with the words ws before its own
---   Tabled v n w at o r m    w of n records of v are read, up to the offset `at`, into the tables o, r and m, which
---                            hold zeros behind them
+--   Tabled v n w at          w of n records of v are read, up to the offset `at`, into the tables o, r and m; behind
+--                            their entries the tables are as before
 --
 use mathlib.Core.Path.{_≡_, refl, sym, _∙_, ap}
 use mathlib.Core.Bool.{Bool, true, false}
@@ -11,7 +11,7 @@ use Prim.Native.Nat.{ℕ, suc, _+_, _-_, _*_, _<_, _≤_}
 use native.Mathlib.Numerals.{add-one}
 use native.Mathlib.Decide.{ℕ-discrete}
 use native.Mathlib.Omega.{arith}
-use lib.ListN.{length, getD, take, drop, set, replicate, length-append, length-drop, length-map, drop-of-length-le, List·getD-append}
+use lib.ListN.{length, getD, take, drop, set, replicate, length-append, length-drop, length-map, length-set, drop-of-length-le, List·getD-append}
 use lib.Seq.{drop-cons, getD-set-same, getD-set-other, getD-at, length-take-le}
 use Rattle.terms.specs.Lists.{range}
 use Rattle.terms.proofs.Count.{length-range}
@@ -23,15 +23,14 @@ use Rattle.wire.specs.VocabularyLines.{byteAt, placesOf, recordAt}
 use Rattle.wire.proofs.Map.{length-flagsIn}
 use Rattle.wire.proofs.Records.{behind, behind-is, places-at, record-behind}
 use Rattle.signature.specs.Answers.{vocabularyRefused}
-use Rattle.signature.specs.Tables.{padded}
+use Rattle.signature.specs.Tables.{wordsUpTo, offsetsOf, resultsOf, mapsOf, Laid}
 use Rattle.signature.specs.declared.VocabularyRefusal.{VocabularyRefusal}
 use Rattle.signature.specs.declared.VocabularyRefusal.the-variants as R
 use Rattle.signature.specs.declared.VocabularyAnswer.the-variants.{Accepted, Refused}
-use Rattle.signature.specs.declared.Loaded.{Loaded}
 use Rattle.signature.specs.declared.WordRead.{WordRead}
 use Rattle.signature.specs.declared.WordRead.the-variants.{Whole, Ends, NoSuchKind}
-use Rattle.signature.specs.Loading.{Refuses, RecordRead, wordAt, checksReply, Entry, Filled, WordsLoaded}
-use Rattle.signature.proofs.Padded.{length-padded, padded-more, map-range-more}
+use Rattle.signature.specs.Loading.{RecordRead, wordAt, recordsIn, checksReply, Entry, Filled, Sized, WordsLoaded}
+use Rattle.signature.proofs.Laid.{laid-more, map-range-more}
 
 abbrev pub prepend : List Word → Got (List Word) → Got (List Word)
 prepend ws (got us r) = got (ws ++ us) r
@@ -64,7 +63,14 @@ module _ (k n : ℕ) (l : List ℕ) where
   words-stop : (m : ℕ) (r : List ℕ) → readWord k l ≡ stop m r → readWords k (suc n) l ≡ stop m r
   words-stop m r e = rw e
 
-pub record Tabled (v : List ℕ) (n w at : ℕ) (o r m : List ℕ) : Type 0 where
+  up-to-step : (x : Word) (r : List ℕ) → readWord k l ≡ got x r → wordsUpTo k (suc n) l ≡ x ∷ wordsUpTo k n r
+  up-to-step x r e = rw e
+
+  up-to-stop : (m : ℕ) (r : List ℕ) → readWord k l ≡ stop m r → wordsUpTo k (suc n) l ≡ []
+  up-to-stop m r e = rw e
+
+-- The tables o₀, r₀ and m₀ were lent.
+pub record Tabled (v : List ℕ) (n w at : ℕ) (o₀ r₀ m₀ o r m : List ℕ) : Type 0 where
   pub words : List Word
   pub passed : w ≤ n
   pub inside : at ≤ length v
@@ -73,12 +79,14 @@ pub record Tabled (v : List ℕ) (n w at : ℕ) (o r m : List ℕ) : Type 0 wher
   pub count : length words ≡ w
   pub left : readWords (byteAt v 0) n (drop 2 v) ≡ prepend words (readWords (byteAt v 0) (n - w) (drop at v))
   pub entries : (f : ℕ) → f < w → Entry v (getD o f 0) (getD r f 0) (getD m f 0) (getD words f noWord)
-  pub offsets : o ≡ padded (map (recordAt v) (range 0 w))
-  pub results : r ≡ padded (map (λ (x : Word). x .result) words)
-  pub maps : m ≡ padded (map (λ (x : Word). x .placeMap) words)
+  pub upTo : recordsIn v n ≡ words ++ wordsUpTo (byteAt v 0) (n - w) (drop at v)
+  pub holds : Laid v words o₀ r₀ m₀ o r m
+  pub sameOffsets : length o ≡ length o₀
+  pub sameResults : length r ≡ length r₀
+  pub sameMaps : length m ≡ length m₀
 
-pub tabled-none : (v : List ℕ) (n : ℕ) → 2 ≤ length v → Tabled v n 0 2 (replicate 96 0) (replicate 96 0) (replicate 96 0)
-tabled-none v n h = record {
+pub tabled-none : (v : List ℕ) (n : ℕ) (o r m : List ℕ) → 2 ≤ length v → Tabled v n 0 2 o r m o r m
+tabled-none v n o r m h = record {
   words = [];
   passed = omega arith;
   inside = h;
@@ -87,10 +95,29 @@ tabled-none v n h = record {
   count = refl;
   left = let e : n - 0 ≡ n = omega arith in rw e (prepend-none (readWords (byteAt v 0) n (drop 2 v)));
   entries = λ f b. absurd (omega arith);
-  offsets = refl;
-  results = refl;
-  maps = refl;
+  upTo = let e : n - 0 ≡ n = omega arith in rw e;
+  holds = record { offsets = refl; results = refl; maps = refl };
+  sameOffsets = refl;
+  sameResults = refl;
+  sameMaps = refl;
 }
+
+-- What loading the records answers.
+module _ {v : List ℕ} {n : ℕ} {o₀ r₀ m₀ o r m : List ℕ} where
+  loaded-refused : (why : VocabularyRefusal) → vocabularyRefused why ≡ checksReply v n → Laid v (recordsIn v n) o₀ r₀ m₀ o r m →
+      WordsLoaded v n o₀ r₀ m₀ o r m (Refused why)
+  loaded-refused why h holds = record {
+    refused = λ other d. let same : why ≡ other = cc in rw same at h;
+    filled = λ d. absurd (let z : _≡_ {A = ℕ} 0 1 = cc in omega arith);
+    holds = holds;
+  }
+
+  loaded-filled : Filled v n o r m → Laid v (recordsIn v n) o₀ r₀ m₀ o r m → WordsLoaded v n o₀ r₀ m₀ o r m Accepted
+  loaded-filled filled holds = record {
+    refused = λ why d. absurd (let z : _≡_ {A = ℕ} 0 1 = cc in omega arith);
+    filled = λ d. filled;
+    holds = holds;
+  }
 
 -- A map has eight places at most.
 ones-most : (fs : List Bool) → ones fs ≤ length fs
@@ -114,65 +141,111 @@ module _ (v : List ℕ) (at p : ℕ) (fits : at + 2 + p ≤ length v) (sound : W
   entry-at : Entry v at (byteAt v at) (byteAt v (at + 1)) (wordAt v at p)
   entry-at = record { result = refl; placeMap = refl; inside = rw place-count fits; kinds = rw place-count; sound = sound }
 
-module _ (v : List ℕ) (n w at : ℕ) (o r m : List ℕ) (tabled : Tabled v n w at o r m) where
+module _ (v : List ℕ) (n w at : ℕ) (o₀ r₀ m₀ o r m : List ℕ) (tabled : Tabled v n w at o₀ r₀ m₀ o r m) where
   -- The record at `at` is read next.
-  next : (l : List ℕ) → w < n → readWords (byteAt v 0) (n - w) l ≡ readWords (byteAt v 0) (suc (n - (w + 1))) l
-  next l b = ap (λ (i : ℕ). readWords (byteAt v 0) i l) (let e : n - w ≡ suc (n - (w + 1)) = omega arith in e)
+  one-more : w < n → n - w ≡ suc (n - (w + 1))
+  one-more b = omega arith
 
-  stopped : (i : ℕ) (rest : List ℕ) → w < n → stop i rest ≡ readWord (byteAt v 0) (drop at v) → readWords (byteAt v 0) n (drop 2 v) ≡ stop i rest
-  stopped i rest b e =
-      tabled .left ∙ ap (prepend (tabled .words)) (next (drop at v) b ∙ words-stop (byteAt v 0) (n - (w + 1)) (drop at v) i rest (sym e))
+  next-read : w < n → readWords (byteAt v 0) (n - w) (drop at v) ≡ readWords (byteAt v 0) (suc (n - (w + 1))) (drop at v)
+  next-read b = ap (λ (i : ℕ). readWords (byteAt v 0) i (drop at v)) (one-more b)
 
-  pub tabled-ends : w < n → RecordRead v at (byteAt v 0) Ends → vocabularyRefused (R.Ends (length v)) ≡ checksReply v n
-  tabled-ends b read = rw (stopped 3 [] b (read .reads)) (ap (refused 3 0) (omega arith))
+  next-words : w < n → wordsUpTo (byteAt v 0) (n - w) (drop at v) ≡ wordsUpTo (byteAt v 0) (suc (n - (w + 1))) (drop at v)
+  next-words b = ap (λ (i : ℕ). wordsUpTo (byteAt v 0) i (drop at v)) (one-more b)
 
-  pub tabled-unknown : (q : ℕ) → w < n → RecordRead v at (byteAt v 0) (NoSuchKind q) → vocabularyRefused (R.NoSuchKind q) ≡ checksReply v n
-  tabled-unknown q b read = rw (stopped 4 (drop q v) b (read .reads)) (ap (refused 4 0) (omega (arith, read .inside, length-drop q v)))
+  module _ (i : ℕ) (rest : List ℕ) (b : w < n) (e : stop i rest ≡ readWord (byteAt v 0) (drop at v)) where
+    stopped : readWords (byteAt v 0) n (drop 2 v) ≡ stop i rest
+    stopped = tabled .left ∙ ap (prepend (tabled .words)) (next-read b ∙ words-stop (byteAt v 0) (n - (w + 1)) (drop at v) i rest (sym e))
 
-  all : n ≤ w → readWords (byteAt v 0) n (drop 2 v) ≡ got (tabled .words) (drop at v)
-  all h =
-      let e : n - w ≡ 0 = omega arith in
-      tabled .left ∙ rw (e, append-nil)
+    stopped-words : recordsIn v n ≡ tabled .words
+    stopped-words =
+        tabled .upTo ∙ ap (λ l. tabled .words ++ l) (next-words b ∙ up-to-stop (byteAt v 0) (n - (w + 1)) (drop at v) i rest (sym e))
+        ∙ append-nil (tabled .words)
 
-  pub tabled-continues : n ≤ w → at < length v → vocabularyRefused (R.Continues at) ≡ checksReply v n
-  tabled-continues h b = rw (all h, drop-cons v at 0 b) (ap (refused 5 0) (omega (arith, length-drop (suc at) v)))
+  laid-as : recordsIn v n ≡ tabled .words → Laid v (recordsIn v n) o₀ r₀ m₀ o r m
+  laid-as e = rw e (tabled .holds)
 
-  pub tabled-filled : n ≤ w → length v ≤ at → Filled v n o r m
-  tabled-filled h b =
-      let e : n ≡ w = omega (arith, tabled .passed) in
-      let read : readWords (byteAt v 0) n (drop 2 v) ≡ got (tabled .words) [] = all h ∙ rw (drop-of-length-le v b) in
-      record {
-        read = rw read;
-        count = rw read (tabled .count ∙ sym e);
-        entries = λ f c. rw read (tabled .entries f (omega arith));
-        offsets = tabled .offsets ∙ ap (λ (i : ℕ). padded (map (recordAt v) (range 0 i))) (sym e);
-        results = rw read (tabled .results);
-        maps = rw read (tabled .maps);
-      }
+  ends-reply : (b : w < n) → RecordRead v at (byteAt v 0) Ends → vocabularyRefused (R.Ends (length v)) ≡ checksReply v n
+  ends-reply b read = rw (stopped 3 [] b (read .reads)) (ap (refused 3 0) (omega arith))
+
+  pub tabled-ends : w < n → RecordRead v at (byteAt v 0) Ends → WordsLoaded v n o₀ r₀ m₀ o r m (Refused (R.Ends (length v)))
+  tabled-ends b read = loaded-refused (R.Ends (length v)) (ends-reply b read) (laid-as (stopped-words 3 [] b (read .reads)))
+
+  unknown-reply : (q : ℕ) → w < n → RecordRead v at (byteAt v 0) (NoSuchKind q) → vocabularyRefused (R.NoSuchKind q) ≡ checksReply v n
+  unknown-reply q b read = rw (stopped 4 (drop q v) b (read .reads)) (ap (refused 4 0) (omega (arith, read .inside, length-drop q v)))
+
+  pub tabled-unknown : (q : ℕ) → w < n → RecordRead v at (byteAt v 0) (NoSuchKind q) → WordsLoaded v n o₀ r₀ m₀ o r m (Refused (R.NoSuchKind q))
+  tabled-unknown q b read = loaded-refused (R.NoSuchKind q) (unknown-reply q b read) (laid-as (stopped-words 4 (drop q v) b (read .reads)))
+
+  module _ (h : n ≤ w) where
+    none-left : n - w ≡ 0
+    none-left = omega arith
+
+    all : readWords (byteAt v 0) n (drop 2 v) ≡ got (tabled .words) (drop at v)
+    all = tabled .left ∙ rw (none-left, append-nil)
+
+    all-words : recordsIn v n ≡ tabled .words
+    all-words = tabled .upTo ∙ rw (none-left, append-nil)
+
+    continues-reply : at < length v → vocabularyRefused (R.Continues at) ≡ checksReply v n
+    continues-reply b = rw (all, drop-cons v at 0 b) (ap (refused 5 0) (omega (arith, length-drop (suc at) v)))
+
+    pub tabled-continues : at < length v → WordsLoaded v n o₀ r₀ m₀ o r m (Refused (R.Continues at))
+    tabled-continues b = loaded-refused (R.Continues at) (continues-reply b) (laid-as all-words)
+
+    filled : length v ≤ at → Filled v n o r m
+    filled b =
+        let e : n ≡ w = omega (arith, tabled .passed) in
+        record {
+          read = rw all-words (all ∙ rw (drop-of-length-le v b));
+          count = rw all-words (tabled .count ∙ sym e);
+          entries = λ f c. rw all-words (tabled .entries f (omega arith));
+        }
+
+    pub tabled-filled : length v ≤ at → WordsLoaded v n o₀ r₀ m₀ o r m Accepted
+    tabled-filled b = loaded-filled (filled b) (laid-as all-words)
+
+  -- The tables have an entry for the next record.
+  pub tabled-room : n ≤ 96 → Sized o₀ r₀ m₀ → w < n → (w < length o) × (w < length r) × (w < length m)
+  tabled-room few sized b = (
+    omega (arith, sized .offsets, tabled .sameOffsets),
+    omega (arith, sized .results, tabled .sameResults),
+    omega (arith, sized .maps, tabled .sameMaps),
+  )
 
   -- One record more.
-  module _ (few : n ≤ 96) (b : w < n) (p : ℕ) (read : RecordRead v at (byteAt v 0) (Whole p)) where
+  module _ (few : n ≤ 96) (sized : Sized o₀ r₀ m₀) (b : w < n) (p : ℕ) (read : RecordRead v at (byteAt v 0) (Whole p)) where
     room : w < 96
     room = omega arith
 
-    table-length : (table l : List ℕ) → table ≡ padded l → length l ≡ w → w < length table
-    table-length table l t e = rw (t, length-padded l (omega (arith, room))) room
+    offset-count : length (offsetsOf v (length (tabled .words))) ≡ w
+    offset-count = length-map (range 0 (length (tabled .words))) (recordAt v) ∙ length-range 0 (length (tabled .words)) ∙ tabled .count
 
-    offset-count : length (map (recordAt v) (range 0 w)) ≡ w
-    offset-count = length-map (range 0 w) (recordAt v) ∙ length-range 0 w
+    next-offsets : offsetsOf v (length (tabled .words)) ++ (at ∷ []) ≡ offsetsOf v (length (tabled .words ++ (wordAt v at p ∷ [])))
+    next-offsets =
+        let here : at ≡ recordAt v (length (tabled .words)) = tabled .start ∙ ap (recordAt v) (sym (tabled .count)) in
+        ap (λ (i : ℕ). offsetsOf v (length (tabled .words)) ++ (i ∷ [])) here ∙ map-range-more (recordAt v) (length (tabled .words))
+        ∙ ap (offsetsOf v) (sym (length-append (tabled .words) (wordAt v at p ∷ [])))
 
-    -- The table of a field of the words.
-    module _ (field : Word → ℕ) (table : List ℕ) (t : table ≡ padded (map field (tabled .words))) where
-      column-count : length (map field (tabled .words)) ≡ w
-      column-count = length-map (tabled .words) field ∙ tabled .count
+    -- The column of a field of the words.
+    column-count : (field : Word → ℕ) → length (map field (tabled .words)) ≡ w
+    column-count field = length-map (tabled .words) field ∙ tabled .count
 
-      column-length : w < length table
-      column-length = table-length table (map field (tabled .words)) t column-count
+    next-column : (field : Word → ℕ) → map field (tabled .words) ++ (field (wordAt v at p) ∷ []) ≡ map field (tabled .words ++ (wordAt v at p ∷ []))
+    next-column field = sym (map-append field (tabled .words) (wordAt v at p ∷ []))
 
-      column-more : set table w (field (wordAt v at p)) ≡ padded (map field (tabled .words ++ (wordAt v at p ∷ [])))
-      column-more =
-          padded-more table (map field (tabled .words)) _ w (field (wordAt v at p)) t column-count room
-          (sym (map-append field (tabled .words) (wordAt v at p ∷ [])))
+    next-laid : Laid v (tabled .words ++ (wordAt v at p ∷ [])) o₀ r₀ m₀ (set o w at) (set r w (byteAt v at)) (set m w (byteAt v (at + 1)))
+    next-laid =
+        let held = tabled .holds in
+        record {
+          offsets =
+              laid-more o₀ o (offsetsOf v (length (tabled .words))) _ w at (held .offsets) offset-count (omega (arith, room, sized .offsets)) next-offsets;
+          results =
+              laid-more r₀ r (resultsOf (tabled .words)) _ w (byteAt v at) (held .results) (column-count (λ x. x .result))
+              (omega (arith, room, sized .results)) (next-column (λ x. x .result));
+          maps =
+              laid-more m₀ m (mapsOf (tabled .words)) _ w (byteAt v (at + 1)) (held .maps) (column-count (λ x. x .placeMap))
+              (omega (arith, room, sized .maps)) (next-column (λ x. x .placeMap));
+        }
 
     next-entries : (f : ℕ) → f < w + 1 →
         Entry v (getD (set o w at) f 0) (getD (set r w (byteAt v at)) f 0) (getD (set m w (byteAt v (at + 1))) f 0)
@@ -183,14 +256,12 @@ module _ (v : List ℕ) (n w at : ℕ) (o r m : List ℕ) (tabled : Tabled v n w
             Entry v (getD (set o w at) f 0) (getD (set r w (byteAt v at)) f 0) (getD (set m w (byteAt v (at + 1))) f 0)
             (getD (tabled .words ++ (wordAt v at p ∷ [])) f noWord)
         go (yes e) =
-            let lo : w < length o = table-length o (map (recordAt v) (range 0 w)) (tabled .offsets) offset-count in
-            let lr : w < length r = column-length (λ x. x .result) r (tabled .results) in
-            let lm : w < length m = column-length (λ x. x .placeMap) m (tabled .maps) in
+            let inside = tabled-room few sized b in
             rw (
               e,
-              getD-set-same o w at 0 lo,
-              getD-set-same r w (byteAt v at) 0 lr,
-              getD-set-same m w (byteAt v (at + 1)) 0 lm,
+              getD-set-same o w at 0 (inside .0),
+              getD-set-same r w (byteAt v at) 0 (inside .1),
+              getD-set-same m w (byteAt v (at + 1)) 0 (inside .2),
               getD-at (tabled .words) (wordAt v at p) [] noWord w (tabled .count),
             )
             (entry-at v at p (read .inside .0) (read .inside .1))
@@ -205,7 +276,7 @@ module _ (v : List ℕ) (n w at : ℕ) (o r m : List ℕ) (tabled : Tabled v n w
             )
             (tabled .entries f old)
 
-    pub tabled-more : Tabled v n (w + 1) (at + 2 + p) (set o w at) (set r w (byteAt v at)) (set m w (byteAt v (at + 1)))
+    pub tabled-more : Tabled v n (w + 1) (at + 2 + p) o₀ r₀ m₀ (set o w at) (set r w (byteAt v at)) (set m w (byteAt v (at + 1)))
     tabled-more = record {
       words = tabled .words ++ (wordAt v at p ∷ []);
       passed = omega arith;
@@ -218,36 +289,16 @@ module _ (v : List ℕ) (n w at : ℕ) (o r m : List ℕ) (tabled : Tabled v n w
       left =
           tabled .left
           ∙ ap (prepend (tabled .words))
-          (next (drop at v) b ∙ words-step (byteAt v 0) (n - (w + 1)) (drop at v) (wordAt v at p) (drop (at + 2 + p) v) (sym (read .reads)))
+          (next-read b ∙ words-step (byteAt v 0) (n - (w + 1)) (drop at v) (wordAt v at p) (drop (at + 2 + p) v) (sym (read .reads)))
           ∙ prepend-more (tabled .words) (wordAt v at p) (readWords (byteAt v 0) (n - (w + 1)) (drop (at + 2 + p) v));
       entries = next-entries;
-      offsets =
-          padded-more o (map (recordAt v) (range 0 w)) _ w at (tabled .offsets) offset-count room
-          (ap (λ (i : ℕ). map (recordAt v) (range 0 w) ++ (i ∷ [])) (tabled .start) ∙ map-range-more (recordAt v) w);
-      results = column-more (λ x. x .result) r (tabled .results);
-      maps = column-more (λ x. x .placeMap) m (tabled .maps);
+      upTo =
+          tabled .upTo
+          ∙ ap (λ l. tabled .words ++ l)
+          (next-words b ∙ up-to-step (byteAt v 0) (n - (w + 1)) (drop at v) (wordAt v at p) (drop (at + 2 + p) v) (sym (read .reads)))
+          ∙ sym (append-assoc (tabled .words) (wordAt v at p ∷ []) (wordsUpTo (byteAt v 0) (n - (w + 1)) (drop (at + 2 + p) v)));
+      holds = next-laid;
+      sameOffsets = length-set o w at ∙ tabled .sameOffsets;
+      sameResults = length-set r w (byteAt v at) ∙ tabled .sameResults;
+      sameMaps = length-set m w (byteAt v (at + 1)) ∙ tabled .sameMaps;
     }
-
--- What loading the records answers.
-module _ (v : List ℕ) (n : ℕ) (r : Loaded) where
-  pub loaded-refused : (why : VocabularyRefusal) → Refuses why r → vocabularyRefused why ≡ checksReply v n → WordsLoaded v n r
-  loaded-refused why refuses h = record {
-    refused = λ other d. let e = refuses .answer in let same : why ≡ other = cc in rw same at h;
-    empty = λ other d. refuses .empty;
-    words = λ d. absurd (never d);
-    filled = λ d. absurd (never d);
-  }
-    where
-      never : r .answer ≡ Accepted → ⊥
-      never d = let e = refuses .answer in let z : _≡_ {A = ℕ} 0 1 = cc in omega arith
-
-  pub loaded-filled : r .answer ≡ Accepted → r .words ≡ n → Filled v n (r .offsets) (r .results) (r .maps) → WordsLoaded v n r
-  loaded-filled e h filled = record {
-    refused = λ why d. absurd (never why d);
-    empty = λ why d. absurd (never why d);
-    words = λ d. h;
-    filled = λ d. filled;
-  }
-    where
-      never : (why : VocabularyRefusal) → r .answer ≡ Refused why → ⊥
-      never why d = let z : _≡_ {A = ℕ} 0 1 = cc in omega arith

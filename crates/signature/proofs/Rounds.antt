@@ -26,7 +26,7 @@ use Rattle.wire.specs.VocabularyLines.{byteAt}
 use Rattle.wire.proofs.Map.{ones-count}
 use Rattle.signature.specs.declared.Missing.{Missing}
 use Rattle.signature.specs.declared.Missing.the-variants.{Nothing}
-use Rattle.signature.specs.Loading.{recordsIn, vocabularyOf, Entry, Filled, Marks, Markable, Covers, symbolsIn, Grows, foundKind, FirstMissing}
+use Rattle.signature.specs.Loading.{recordsIn, vocabularyOf, Entry, Filled, Marks, Markable, PlacesInside, PlacesCovered, symbolsIn, Grows, foundKind, FirstMissing}
 use Rattle.signature.proofs.Marking.{marks-none, marks-joined, marks-stay, marks-had}
 
 -- An entry of the tables, as the marking reads it.
@@ -49,7 +49,7 @@ module _ (v : List ℕ) (o r m : ℕ) (w : Word) (entry : Entry v o r m w) where
   result-markable : byteAt v 0 ≤ 16 → r < 16
   result-markable few = omega (arith, entry .result, entry .sound .result)
 
-  entry-covers : (marked l : List ℕ) (t : Bool) → Covers v (o + 2) (Count.ones m) marked t → Marks marked l → t ≡ covered (w .kinds) l
+  entry-covers : (marked l : List ℕ) (t : Bool) → PlacesCovered v o m marked t → Marks marked l → t ≡ covered (w .kinds) l
   entry-covers marked l t h marks = h l marks ∙ rw (places-counted, entry .kinds)
 
 grow-append : (ks ls : List Symbol) (l : List ℕ) → grow (ks ++ ls) l ≡ grow ls (grow ks l)
@@ -79,11 +79,11 @@ module _ (v : List ℕ) (n : ℕ) (o r m : List ℕ) (filled : Filled v n o r m)
 
   -- What the record of the word w asks of the marking.
   module _ (w : ℕ) (b : w < n) where
-    pub turn-inside : getD o w 0 + 2 + Count.ones (getD m w 0) ≤ length v
-    turn-inside = places-inside v _ _ _ _ (filled .entries w b)
-
-    pub turn-markable : byteAt v 0 ≤ 16 → Markable v (getD o w 0 + 2) (Count.ones (getD m w 0))
-    turn-markable = places-markable v _ _ _ _ (filled .entries w b)
+    pub turn-inside : byteAt v 0 ≤ 16 → PlacesInside v (getD o w 0) (getD m w 0)
+    turn-inside few = record {
+      inside = places-inside v _ _ _ _ (filled .entries w b);
+      markable = places-markable v _ _ _ _ (filled .entries w b) few;
+    }
 
     pub turn-result : byteAt v 0 ≤ 16 → getD r w 0 < 16
     turn-result = result-markable v _ _ _ _ (filled .entries w b)
@@ -107,7 +107,7 @@ module _ (v : List ℕ) (n : ℕ) (o r m : List ℕ) (filled : Filled v n o r m)
               (marks-had after (grow (take w (symbolsIn v n)) l) here (omega (arith, turn-result w b few)) (rw e at had) (marked .marks l h));
         }
 
-    module _ (t : Bool) (covers : Covers v (getD o w 0 + 2) (Count.ones (getD m w 0)) after t) where
+    module _ (t : Bool) (covers : PlacesCovered v (getD o w 0) (getD m w 0) after t) where
       is-covered : (l : List ℕ) → Marks before l → t ≡ covered (here .arguments) (grow (take w (symbolsIn v n)) l)
       unfolding here
       is-covered l h =

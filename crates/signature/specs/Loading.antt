@@ -1,7 +1,5 @@
 -- Loading: what the functions that load a vocabulary promise each other; no public contract cites it.
 --
---   Empty r                no word is loaded, and the tables hold zeros
---   Refuses why r          what refuse answers: this refusal, and nothing loaded
 --   kindsGot v at r        what read_kinds answers of the kind bytes at an offset, as a Got
 --   KindsInside            the place that read_kinds names lies within v
 --   KindsRead              it is what readKinds gives, and lies within v
@@ -9,57 +7,50 @@
 --   wordGot v at r         what read_word answers of the record there, as a Got
 --   WordInside             the place that read_word names lies within v
 --   RecordRead             it is what readWord gives, lies within v and is sound
---   wordsIn g              the words that were read; none where reading stopped
---   recordsIn v n          the words of the first n records of v, where they are in order
+--   recordsIn v n          the words of the first n records of v, up to the first that is not in order
 --   vocabularyOf v n       v's kind count and these words
 --   checksIn v n           lines 3 to 6 of v, which has n records
 --   checksReply v n        the reply of these lines
 --   Entry v o r m w        the word w stands in v at the offset o, with result kind r and place map m
---   Filled v n o r m       the n records of v are in order, end v and stand in the tables o, r and m, zeros behind them
---   WordsLoaded v n r      what read_words answers: the reply of lines 3 to 5 and nothing loaded, or filled tables
+--   Filled v n o r m       the n records of v are in order, end v and stand in the tables o, r and m
+--   Sized o r m            the tables o, r and m have 96 entries each
+--   WordsLoaded v n        what read_words does: it answers the reply of lines 3 to 5, or fills the tables; they hold the
+--                          words up to the first record that is not in order
 --   Marks m l              the kinds that are marked in m are those of l
 --   Markable v at n        the n kind bytes from an offset on have a mark
+--   Covers                 what covered answers, for any such l
+--   PlacesInside v o m     the places of the record at an offset, whose map is m, lie within v and have a mark
+--   PlacesCovered          what places_covered answers of them
 --   symbolsIn v n          the symbols of the first n records
---   Covers, Grows, FirstMissing    what covered, mark_round and first_missing answer, for any such l
+--   Grows, FirstMissing    what mark_round and first_missing answer, for any such l
 --   foundKind r            the kind that is found, where there is one
---   Checked v n r          what inhabited answers: the reply of lines 3 to 6, with filled tables where v is accepted
---                          and nothing loaded where it is refused
+--   Checked v n r          what inhabited answers: the reply of lines 3 to 6
 --
 use mathlib.Core.Path.{_≡_}
 use mathlib.Core.Bool.{Bool, not}
 use mathlib.Core.List.{List, [], map}
 use mathlib.Core.Option.{Option, some, none}
 use Prim.Native.Nat.{ℕ, _+_, _<_, _≤_}
+use lib.Count
 use lib.Dec.{eqb}
-use lib.ListN.{length, getD, take, drop, replicate}
+use lib.ListN.{length, getD, take, drop}
 use Rattle.terms.specs.Lists.{occurs, range, keep}
 use Rattle.terms.specs.Signature.{Symbol}
 use Rattle.terms.specs.Inhabited.{covered, grow, first}
+use Rattle.wire.specs.Map.{mapBytes}
 use Rattle.wire.specs.Reply.{Reply, Reading, accept, replyOf}
 use Rattle.wire.specs.Vocabulary.{Word, Vocabulary, noWord, symbolOf, mostWords, WordInOrder}
 use Rattle.wire.specs.Reading.{Got, got, stop, readKinds, readWord, readWords, lines5and6}
-use Rattle.wire.specs.VocabularyLines.{byteAt, recordAt}
+use Rattle.wire.specs.VocabularyLines.{byteAt}
 use Rattle.signature.specs.Answers.{vocabularyRefused, vocabularyNumbers}
-use Rattle.signature.specs.Tables.{padded}
+use Rattle.signature.specs.Tables.{wordsUpTo, Laid}
 use Rattle.signature.specs.declared.VocabularyRefusal.{VocabularyRefusal}
+use Rattle.signature.specs.declared.VocabularyAnswer.{VocabularyAnswer}
 use Rattle.signature.specs.declared.VocabularyAnswer.the-variants.{Accepted, Refused}
-use Rattle.signature.specs.declared.Loaded.{Loaded}
 use Rattle.signature.specs.declared.WordRead.{WordRead}
 use Rattle.signature.specs.declared.WordRead.the-variants.{Whole, Ends, NoSuchKind}
 use Rattle.signature.specs.declared.Missing.{Missing}
 use Rattle.signature.specs.declared.Missing.the-variants.{Kind, Nothing}
-
--- refuse
-
-pub record Empty (r : Loaded) : Type 0 where
-  pub words : r .words ≡ 0
-  pub offsets : r .offsets ≡ replicate mostWords 0
-  pub results : r .results ≡ replicate mostWords 0
-  pub maps : r .maps ≡ replicate mostWords 0
-
-pub record Refuses (why : VocabularyRefusal) (r : Loaded) : Type 0 where
-  pub answer : r .answer ≡ Refused why
-  pub empty : Empty r
 
 -- read_kinds
 
@@ -82,15 +73,15 @@ pub record KindsRead (v : List ℕ) (at n kinds : ℕ) (r : WordRead) : Type 0 w
 
 -- The word whose record stands at an offset and has n places.
 abbrev pub wordAt : List ℕ → ℕ → ℕ → Word
-wordAt v at n = record { result = byteAt v at; placeMap = byteAt v (at + 1); kinds = take n (drop (at + 2) v) }
+wordAt v at n = record { result = byteAt v at; placeMap = byteAt v (at + 1); kinds = take n (drop (at + (1 + mapBytes)) v) }
 
 abbrev pub wordGot : List ℕ → ℕ → WordRead → Got Word
-wordGot v at (Whole n) = got (wordAt v at n) (drop (at + 2 + n) v)
+wordGot v at (Whole n) = got (wordAt v at n) (drop (at + (1 + mapBytes) + n) v)
 wordGot v at Ends = stop 3 []
 wordGot v at (NoSuchKind q) = stop 4 (drop q v)
 
 abbrev pub WordInside : List ℕ → ℕ → ℕ → WordRead → Type 0
-WordInside v at kinds (Whole n) = (at + 2 + n ≤ length v) × WordInOrder kinds (wordAt v at n)
+WordInside v at kinds (Whole n) = (at + (1 + mapBytes) + n ≤ length v) × WordInOrder kinds (wordAt v at n)
 WordInside v at kinds Ends = Unit {0}
 WordInside v at kinds (NoSuchKind q) = q < length v
 
@@ -100,12 +91,8 @@ pub record RecordRead (v : List ℕ) (at kinds : ℕ) (r : WordRead) : Type 0 wh
 
 -- read_words
 
-abbrev pub wordsIn : Got (List Word) → List Word
-wordsIn (got ws r) = ws
-wordsIn (stop n r) = []
-
 abbrev pub recordsIn : List ℕ → ℕ → List Word
-recordsIn v n = wordsIn (readWords (byteAt v 0) n (drop 2 v))
+recordsIn v n = wordsUpTo (byteAt v 0) n (drop 2 v)
 
 abbrev pub vocabularyOf : List ℕ → ℕ → Vocabulary
 vocabularyOf v n = record { kinds = byteAt v 0; words = recordsIn v n }
@@ -119,25 +106,27 @@ checksReply v n = replyOf 0 (λ W. []) (checksIn v n)
 pub record Entry (v : List ℕ) (o r m : ℕ) (w : Word) : Type 0 where
   pub result : r ≡ w .result
   pub placeMap : m ≡ w .placeMap
-  pub inside : o + 2 + length (w .kinds) ≤ length v
-  pub kinds : take (length (w .kinds)) (drop (o + 2) v) ≡ w .kinds
+  pub inside : o + (1 + mapBytes) + length (w .kinds) ≤ length v
+  pub kinds : take (length (w .kinds)) (drop (o + (1 + mapBytes)) v) ≡ w .kinds
   pub sound : WordInOrder (byteAt v 0) w
 
 pub record Filled (v : List ℕ) (n : ℕ) (o r m : List ℕ) : Type 0 where
   pub read : readWords (byteAt v 0) n (drop 2 v) ≡ got (recordsIn v n) []
   pub count : length (recordsIn v n) ≡ n
   pub entries : (f : ℕ) → f < n → Entry v (getD o f 0) (getD r f 0) (getD m f 0) (getD (recordsIn v n) f noWord)
-  pub offsets : o ≡ padded (map (recordAt v) (range 0 n))
-  pub results : r ≡ padded (map (λ (w : Word). w .result) (recordsIn v n))
-  pub maps : m ≡ padded (map (λ (w : Word). w .placeMap) (recordsIn v n))
 
-pub record WordsLoaded (v : List ℕ) (n : ℕ) (r : Loaded) : Type 0 where
-  pub refused : (why : VocabularyRefusal) → r .answer ≡ Refused why → vocabularyRefused why ≡ checksReply v n
-  pub empty : (why : VocabularyRefusal) → r .answer ≡ Refused why → Empty r
-  pub words : r .answer ≡ Accepted → r .words ≡ n
-  pub filled : r .answer ≡ Accepted → Filled v n (r .offsets) (r .results) (r .maps)
+pub record Sized (o r m : List ℕ) : Type 0 where
+  pub offsets : length o ≡ mostWords
+  pub results : length r ≡ mostWords
+  pub maps : length m ≡ mostWords
 
--- covered, mark_round, first_missing
+-- The tables before and after.
+pub record WordsLoaded (v : List ℕ) (n : ℕ) (o r m o′ r′ m′ : List ℕ) (a : VocabularyAnswer) : Type 0 where
+  pub refused : (why : VocabularyRefusal) → a ≡ Refused why → vocabularyRefused why ≡ checksReply v n
+  pub filled : a ≡ Accepted → Filled v n o′ r′ m′
+  pub holds : Laid v (recordsIn v n) o r m o′ r′ m′
+
+-- covered, places_covered, mark_round, first_missing
 
 pub record Marks (marked l : List ℕ) : Type 0 where
   pub size : length marked ≡ 16
@@ -149,6 +138,14 @@ Markable v at n = (j : ℕ) → j < n → byteAt v (at + j) < 16
 
 abbrev pub Covers : List ℕ → ℕ → ℕ → List ℕ → Bool → Type 0
 Covers v at n marked r = (l : List ℕ) → Marks marked l → r ≡ covered (take n (drop at v)) l
+
+-- A record is its result kind, its map and its places' kinds.
+pub record PlacesInside (v : List ℕ) (o m : ℕ) : Type 0 where
+  pub inside : o + (1 + mapBytes) + Count.ones m ≤ length v
+  pub markable : Markable v (o + (1 + mapBytes)) (Count.ones m)
+
+abbrev pub PlacesCovered : List ℕ → ℕ → ℕ → List ℕ → Bool → Type 0
+PlacesCovered v o m marked r = Covers v (o + (1 + mapBytes)) (Count.ones m) marked r
 
 abbrev pub symbolsIn : List ℕ → ℕ → List Symbol
 symbolsIn v n = map symbolOf (recordsIn v n)
@@ -167,9 +164,6 @@ FirstMissing kinds marked r = (l : List ℕ) → Marks marked l → foundKind r 
 -- inhabited
 
 -- The records of v are in order, and r says so of the kinds too, or which of them is empty.
-pub record Checked (v : List ℕ) (n : ℕ) (r : Loaded) : Type 0 where
-  pub answer : vocabularyNumbers (r .answer) ≡ checksReply v n
-  pub empty : (why : VocabularyRefusal) → r .answer ≡ Refused why → Empty r
-  pub words : r .answer ≡ Accepted → r .words ≡ n
-  pub filled : r .answer ≡ Accepted → Filled v n (r .offsets) (r .results) (r .maps)
-  pub accepted : r .answer ≡ Accepted → checksIn v n ≡ accept (vocabularyOf v n)
+pub record Checked (v : List ℕ) (n : ℕ) (r : VocabularyAnswer) : Type 0 where
+  pub answer : vocabularyNumbers r ≡ checksReply v n
+  pub accepted : r ≡ Accepted → checksIn v n ≡ accept (vocabularyOf v n)

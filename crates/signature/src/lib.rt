@@ -1,15 +1,14 @@
 // Document 01's check of a vocabulary, and its records in tables: offsets, result kinds and place maps.
 ghost use mathlib.Core.Path.{_≡_};
-ghost use Prim.Native.Nat.{_+_, _≤_};
-ghost use lib.ListN.{length};
+ghost use Prim.Native.Nat.{_+_, _<_, _≤_};
+ghost use lib.ListN.{length, getD};
 ghost use Rattle.terms.specs.Inhabited.{firstEmpty};
 ghost use Rattle.wire.specs.Checks.{vocabularyReply};
 ghost use Rattle.wire.specs.Vocabulary.{signature};
 ghost use Rattle.wire.specs.VocabularyLines.{byteAt};
 ghost use Rattle.signature.specs.Answers.{vocabularyNumbers};
 ghost use Rattle.signature.specs.Tables.{LoadedFrom};
-ghost use Rattle.signature.specs.Loading.{Refuses, KindsRead, RecordRead, Filled, WordsLoaded, Markable, Covers, Grows, FirstMissing, Checked, foundKind, vocabularyOf};
-ghost use Rattle.signature.specs.declared.VocabularyAnswer.the-variants.{Accepted};
+ghost use Rattle.signature.specs.Loading.{KindsRead, RecordRead, Sized, Filled, WordsLoaded, Markable, Covers, PlacesInside, PlacesCovered, Grows, FirstMissing, Checked, foundKind, vocabularyOf};
 
 // Why a vocabulary is refused, with the place where it is not fixed: document 01, lines 1 to 6.
 pub enum VocabularyRefusal {
@@ -24,16 +23,6 @@ pub enum VocabularyRefusal {
 pub enum VocabularyAnswer {
     Accepted,
     Refused(VocabularyRefusal),
-}
-
-// What loading a vocabulary gives: the tables have an entry for each word, and zeros behind the last. A
-// refused vocabulary has no words.
-pub struct Loaded {
-    pub answer: VocabularyAnswer,
-    pub words: usize,
-    pub offsets: [u16; 96],
-    pub results: [u8; 96],
-    pub maps: [u8; 96],
 }
 
 // A record that is in order and has so many places, or what is wrong with it.
@@ -53,19 +42,6 @@ fn wide(b: u8) -> usize
     ensures { λ r. ⌜ r ≡ b ⌝ }
 {
     b as usize
-}
-
-// A refused vocabulary's tables hold nothing.
-fn refuse(why: VocabularyRefusal) -> Loaded
-    ensures { λ r. ⌜ Refuses why r ⌝ }
-{
-    Loaded {
-        answer: VocabularyAnswer::Refused(why),
-        words: 0,
-        offsets: [0u16; 96],
-        results: [0u8; 96],
-        maps: [0u8; 96],
-    }
 }
 
 // Reads n kind bytes from an offset on.
@@ -100,20 +76,30 @@ fn read_word(v: &[u8], at: usize, kinds: u8) -> WordRead
     if v.len() - at < 2 {
         return WordRead::Ends;
     }
-    let places = u8::count_ones(v[at + 1]);
+    let map = v[at + 1];
+    if map == 0 {
+        return WordRead::Whole(0);
+    }
+    let places = u8::count_ones(map);
     read_kinds(v, at + 2, places as usize, kinds)
 }
 
-// Reads all records into the tables, and sees that nothing follows the last.
-fn read_words(v: &[u8], words: usize, kinds: u8) -> Loaded
+// Reads all records into the tables, and sees that nothing follows the last. An array that is lent on as a slice is
+// known by its length.
+fn read_words(
+    v: &[u8],
+    words: usize,
+    kinds: u8,
+    offsets: &mut [u16],
+    results: &mut [u8],
+    maps: &mut [u8],
+) -> VocabularyAnswer
     requires { ⌜ 2 ≤ length (now v) ⌝ }
-    requires { ⌜ words ≤ 96 ⌝ }
     requires { ⌜ kinds ≡ byteAt (now v) 0 ⌝ }
-    ensures { λ r. ⌜ WordsLoaded (now (v .entry)) words r ⌝ }
+    requires { ⌜ words ≤ 96 ⌝ }
+    requires { ⌜ Sized (now offsets) (now results) (now maps) ⌝ }
+    ensures { λ r. ⌜ WordsLoaded (now (v .entry)) words (now (offsets .entry)) (now (results .entry)) (now (maps .entry)) (now (offsets .exit)) (now (results .exit)) (now (maps .exit)) r ⌝ }
 {
-    let mut offsets = [0u16; 96];
-    let mut results = [0u8; 96];
-    let mut maps = [0u8; 96];
     let mut at = 2;
     let mut w = 0;
     while w < words {
@@ -126,23 +112,17 @@ fn read_words(v: &[u8], words: usize, kinds: u8) -> Loaded
                 w += 1;
             }
             WordRead::Ends => {
-                return refuse(VocabularyRefusal::Ends(v.len()));
+                return VocabularyAnswer::Refused(VocabularyRefusal::Ends(v.len()));
             }
             WordRead::NoSuchKind(q) => {
-                return refuse(VocabularyRefusal::NoSuchKind(q));
+                return VocabularyAnswer::Refused(VocabularyRefusal::NoSuchKind(q));
             }
         }
     }
     if at < v.len() {
-        return refuse(VocabularyRefusal::Continues(at));
+        return VocabularyAnswer::Refused(VocabularyRefusal::Continues(at));
     }
-    Loaded {
-        answer: VocabularyAnswer::Accepted,
-        words,
-        offsets,
-        results,
-        maps,
-    }
+    VocabularyAnswer::Accepted
 }
 
 // Whether each of n kind bytes from an offset on is marked.
@@ -159,6 +139,27 @@ fn covered(v: &[u8], at: usize, n: usize, marked: &[u8; 16]) -> bool
         i += 1;
     }
     true
+}
+
+// Whether the kind of each place of a word is marked. A word without places needs no count.
+fn places_covered<'a>(
+    v: &[u8],
+    w: usize,
+    offsets: &'a [u16; 96],
+    maps: &'a [u8; 96],
+    marked: &[u8; 16],
+) -> bool
+    requires { ⌜ w < 96 ⌝ }
+    requires { ⌜ PlacesInside (now v) (getD (now offsets) w 0) (getD (now maps) w 0) ⌝ }
+    ensures { λ r. ⌜ PlacesCovered (now (v .entry)) (getD (now (offsets .entry)) w 0) (getD (now (maps .entry)) w 0) (now (marked .entry)) r ⌝ }
+{
+    let map = maps[w];
+    if map == 0 {
+        return true;
+    }
+    let at = offsets[w] as usize;
+    let n = u8::count_ones(map);
+    covered(v, at + 2, n as usize, marked)
 }
 
 // One round: marks the result kind of every word whose places' kinds are marked. A word of a marked kind adds nothing.
@@ -179,9 +180,7 @@ fn mark_round<'a>(
     while w < words {
         let kind = wide(results[w]);
         if marked[kind] == 0 {
-            let at = offsets[w] as usize;
-            let n = u8::count_ones(maps[w]);
-            if covered(v, at + 2, n as usize, marked) {
+            if places_covered(v, w, offsets, maps, marked) {
                 marked[kind] = 1;
             }
         }
@@ -236,50 +235,56 @@ fn empty_kind<'a>(
 }
 
 // Sees that each kind has a complete situation.
-fn inhabited(v: &[u8], kinds: usize, loaded: Loaded) -> Loaded
-    requires { ⌜ loaded .words ≤ 96 ⌝ }
+fn inhabited<'a>(
+    v: &[u8],
+    kinds: usize,
+    words: usize,
+    offsets: &'a [u16; 96],
+    results: &'a [u8; 96],
+    maps: &'a [u8; 96],
+) -> VocabularyAnswer
+    requires { ⌜ words ≤ 96 ⌝ }
     requires { ⌜ kinds ≤ 16 ⌝ }
     requires { ⌜ kinds ≡ byteAt (now v) 0 ⌝ }
-    requires { ⌜ loaded .answer ≡ Accepted ⌝ }
-    requires { ⌜ Filled (now v) (loaded .words) (loaded .offsets) (loaded .results) (loaded .maps) ⌝ }
-    ensures { λ r. ⌜ Checked (now (v .entry)) (loaded .words) r ⌝ }
+    requires { ⌜ Filled (now v) words (now offsets) (now results) (now maps) ⌝ }
+    ensures { λ r. ⌜ Checked (now (v .entry)) words r ⌝ }
 {
-    let words = loaded.words;
-    let offsets = loaded.offsets;
-    let results = loaded.results;
-    let maps = loaded.maps;
-    match empty_kind(v, kinds, words, &offsets, &results, &maps) {
-        Missing::Kind(k) => refuse(VocabularyRefusal::EmptyKind(k)),
-        Missing::Nothing => loaded,
+    match empty_kind(v, kinds, words, offsets, results, maps) {
+        Missing::Kind(k) => VocabularyAnswer::Refused(VocabularyRefusal::EmptyKind(k)),
+        Missing::Nothing => VocabularyAnswer::Accepted,
     }
 }
 
-// Reads a vocabulary into tables, or says why it is refused.
-pub fn load(v: &[u8]) -> Loaded
-    ensures { λ r. ⌜ LoadedFrom (now (v .entry)) r ⌝ }
+// Reads a vocabulary into the lent tables, or says why it is refused. Each word whose record is in order has its
+// entry, up to the first that is not; the entries behind are left as they were.
+pub fn load(
+    v: &[u8],
+    offsets: &mut [u16; 96],
+    results: &mut [u8; 96],
+    maps: &mut [u8; 96],
+) -> VocabularyAnswer
+    ensures { λ r. ⌜ LoadedFrom (now (v .entry)) (now (offsets .entry)) (now (results .entry)) (now (maps .entry)) (now (offsets .exit)) (now (results .exit)) (now (maps .exit)) r ⌝ }
 {
     if v.len() < 2 {
-        return refuse(VocabularyRefusal::Head);
+        return VocabularyAnswer::Refused(VocabularyRefusal::Head);
     }
     let kinds = v[0];
     let words = wide(v[1]);
     if kinds < 1 {
-        return refuse(VocabularyRefusal::Head);
+        return VocabularyAnswer::Refused(VocabularyRefusal::Head);
     }
     if 16 < kinds {
-        return refuse(VocabularyRefusal::Head);
+        return VocabularyAnswer::Refused(VocabularyRefusal::Head);
     }
     if words < 1 {
-        return refuse(VocabularyRefusal::WordCount);
+        return VocabularyAnswer::Refused(VocabularyRefusal::WordCount);
     }
     if 96 < words {
-        return refuse(VocabularyRefusal::WordCount);
+        return VocabularyAnswer::Refused(VocabularyRefusal::WordCount);
     }
-    let loaded = read_words(v, words, kinds);
-    let answer = loaded.answer;
-    match answer {
-        VocabularyAnswer::Accepted => inhabited(v, wide(kinds), loaded),
-        VocabularyAnswer::Refused(_) => loaded,
+    match read_words(v, words, kinds, offsets, results, maps) {
+        VocabularyAnswer::Accepted => inhabited(v, wide(kinds), words, offsets, results, maps),
+        VocabularyAnswer::Refused(why) => VocabularyAnswer::Refused(why),
     }
 }
 
@@ -287,6 +292,8 @@ pub fn load(v: &[u8]) -> Loaded
 pub fn check_vocabulary(vocabulary: &[u8]) -> VocabularyAnswer
     ensures { λ r. ⌜ vocabularyNumbers r ≡ vocabularyReply (now (vocabulary .entry)) ⌝ }
 {
-    let loaded = load(vocabulary);
-    loaded.answer
+    let mut offsets = [0u16; 96];
+    let mut results = [0u8; 96];
+    let mut maps = [0u8; 96];
+    load(vocabulary, &mut offsets, &mut results, &mut maps)
 }

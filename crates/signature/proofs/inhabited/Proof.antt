@@ -1,6 +1,6 @@
 -- `signature::inhabited` meets its contract: line 6 is what `empty_kind` finds.
 use borrow.Author.Needs.{needs}
-use Rattle.signature.proofs.VocabularyLoaded.{checked-empty, checked-whole, checked-accepted}
+use Rattle.signature.proofs.VocabularyLoaded.{checked-empty, checked-accepted}
 use Rattle.signature.proofs.inhabited.Statement.{statement}
 use Rattle.signature.proofs.inhabited.Tie as tie
 
@@ -10,26 +10,25 @@ empty-kind-requires c κs = search needs
 enum-known-k : tie.Need-enum-known-k
 enum-known-k c = search needs
 
-refuse-requires : tie.Need-refuse-requires
-refuse-requires c κs = search needs
-
 enum-told : tie.Need-enum-told
 enum-told c = search needs
 
 returns : tie.Need-returns
 returns c =
-    let found = c .before .before .before .before in
-    let filled = found .before .before .before .before .before .before .before .before .pre .1 .1 .1 .1 in
-    checked-empty _ _ _ _ _ filled _ (found .empty-kind .result) _ (found .empty-kind .ensures) (c .before .before .k .given .1) (c .refuse .ensures)
+    let found = c .before .before .before in
+    checked-empty _ _ _ _ _ (found .before .before .pre .1 .1 .1) (found .empty-kind .result) (found .empty-kind .ensures) _ (c .before .k .given .1)
 
 returns-2 : tie.Need-returns-2
 returns-2 c =
     let found = c .before .before in
-    let pre = found .before .before .before .before .before .before .before .before .pre .1 .1 .1 in
-    checked-accepted _ _ (pre .0) (pre .1)
-    (checked-whole _ _ _ _ _ (pre .1) (found .empty-kind .result) (found .empty-kind .ensures) (c .enum-told .given .1))
+    checked-accepted _ _ _ _ _ (found .before .before .pre .1 .1 .1) (found .empty-kind .result) (found .empty-kind .ensures) (c .enum-told .given .1)
 
 pub inhabited-spec : {M : Type 1} → statement M
 inhabited-spec =
     tie.close
-    (tie.spec empty-kind-requires enum-known-k refuse-requires enum-told returns returns-2)
+    (tie.spec
+    empty-kind-requires
+    enum-known-k
+    enum-told
+    returns
+    returns-2)

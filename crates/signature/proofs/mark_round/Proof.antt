@@ -3,7 +3,7 @@ use mathlib.Core.Logic.{⊎-elim}
 use Prim.Native.Nat.{_-_}
 use native.Mathlib.Omega.{arith}
 use borrow.Author.Needs.{needs}
-use Rattle.signature.proofs.Rounds.{Marked, marked-none, marked-all, marked-had, marked-joined, marked-stay, turn-inside, turn-markable, turn-result}
+use Rattle.signature.proofs.Rounds.{Marked, marked-none, marked-all, marked-had, marked-joined, marked-stay, turn-inside, turn-result}
 use Rattle.signature.proofs.mark_round.Statement.{statement}
 use Rattle.signature.proofs.mark_round.Tie as tie
 
@@ -28,41 +28,15 @@ element-copy-out-if1 c =
     let pre = turn .before .before .before .pre in
     omega (arith, c .wide .ensures, turn-result _ _ _ _ _ (pre .1 .1) _ (turn .loop-test .taken) (pre .1 .0))
 
-mul-at : tie.Need-mul-at Inv-loop μ-loop
-mul-at c = omega arith
-
-element-copy-out-at : tie.Need-element-copy-out-at Inv-loop μ-loop
-element-copy-out-at c = search needs
-
-cast-at : tie.Need-cast-at Inv-loop μ-loop
-cast-at c =
+places-covered-requires : tie.Need-places-covered-requires Inv-loop μ-loop
+places-covered-requires c κs =
     let turn = c .before .before .before .before .before in
-    omega (arith, turn-inside _ _ _ _ _ (turn .before .before .before .pre .1 .1) _ (turn .loop-test .taken))
-
-element-copy-out-n : tie.Need-element-copy-out-n Inv-loop μ-loop
-element-copy-out-n c = search needs
-
-add-covered : tie.Need-add-covered Inv-loop μ-loop
-add-covered c =
-    let turn = c .before .before .before .before .before .before in
-    omega (arith, turn-inside _ _ _ _ _ (turn .before .before .before .pre .1 .1) _ (turn .loop-test .taken))
-
-cast-covered : tie.Need-cast-covered Inv-loop μ-loop
-cast-covered c =
-    let turn = c .before .before .before .before .before .before in
-    omega (arith, turn-inside _ _ _ _ _ (turn .before .before .before .pre .1 .1) _ (turn .loop-test .taken))
-
-covered-requires : tie.Need-covered-requires Inv-loop μ-loop
-covered-requires c κs =
-    let turn = c .before .before .before .before .before .before .before in
-    let pre = turn .before .before .before .pre in (
-      turn-inside _ _ _ _ _ (pre .1 .1) _ (turn .loop-test .taken),
-      turn-markable _ _ _ _ _ (pre .1 .1) _ (turn .loop-test .taken) (pre .1 .0),
-    )
+    let pre = turn .before .before .before .pre in
+    (omega arith, turn-inside _ _ _ _ _ (pre .1 .1) _ (turn .loop-test .taken) (pre .1 .0))
 
 element-write-marked : tie.Need-element-write-marked Inv-loop μ-loop
 element-write-marked c =
-    let found = c .before .before .before .before .before .before .before in
+    let found = c .before .before .before .before .before in
     let turn = found .before .before in
     let pre = turn .before .before .before .pre in
     omega (arith, found .wide .ensures, turn-result _ _ _ _ _ (pre .1 .1) _ (turn .loop-test .taken) (pre .1 .0))
@@ -82,9 +56,9 @@ loop-again c =
     let inv = turn .before .loop .inv in
     let kind = found .wide .ensures in
     ⊎-elim
-    (λ w. marked-joined _ _ _ _ _ (pre .1 .1) _ taken _ _ inv _ (w .4 .ensures) (w .5 .taken) _ kind _ (w .6))
+    (λ w. marked-joined _ _ _ _ _ (pre .1 .1) _ taken _ _ inv _ (w .2 .ensures) (w .3 .taken) _ kind _ (w .4))
     (⊎-elim
-    (λ w. marked-stay _ _ _ _ _ (pre .1 .1) _ taken _ _ inv _ (w .4 .ensures) (w .5 .left) _ (w .6))
+    (λ w. marked-stay _ _ _ _ _ (pre .1 .1) _ taken _ _ inv _ (w .2 .ensures) (w .3 .left) _ (w .4))
     (λ w. marked-had _ _ _ _ _ (pre .1 .1) _ taken _ _ inv (pre .1 .0) _ kind (w .0 .left) _ (w .1)))
     (c .if1 .came)
 
@@ -101,13 +75,7 @@ mark-round-spec =
     element-copy-out-wide
     wide-requires
     element-copy-out-if1
-    mul-at
-    element-copy-out-at
-    cast-at
-    element-copy-out-n
-    add-covered
-    cast-covered
-    covered-requires
+    places-covered-requires
     element-write-marked
     add-w
     loop-less

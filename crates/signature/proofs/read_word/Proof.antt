@@ -4,7 +4,7 @@ use native.Mathlib.Omega.{arith}
 use lib.Count.{ones-le}
 use borrow.Author.Needs.{needs}
 use Rattle.wire.specs.VocabularyLines.{byteAt}
-use Rattle.signature.proofs.RecordBytes.{record-missing, record-unknown, record-short, record-kinds}
+use Rattle.signature.proofs.RecordBytes.{record-missing, record-unknown, record-short, record-bare, record-kinds}
 use Rattle.signature.proofs.read_word.Statement.{statement}
 use Rattle.signature.proofs.read_word.Tie as tie
 
@@ -23,26 +23,33 @@ sub-if3 c = search needs
 returns-3 : tie.Need-returns-3
 returns-3 c = record-short _ _ _ (c .before .before .before .if1 .left) (c .before .if2 .left) (omega arith)
 
-add-places : tie.Need-add-places
-add-places c = search needs
+add-map : tie.Need-add-map
+add-map c = search needs
 
-shared-slice-read-places : tie.Need-shared-slice-read-places
-shared-slice-read-places c = search needs
+shared-slice-read-map : tie.Need-shared-slice-read-map
+shared-slice-read-map c = search needs
+
+returns-4 : tie.Need-returns-4
+returns-4 c =
+    let known = c .before in
+    record-bare _ _ _ (omega arith) (known .before .before .if2 .left) (known .shared-slice-known3 .given _ .fits) (c .if4 .taken)
 
 add-read-kinds : tie.Need-add-read-kinds
 add-read-kinds c = search needs
 
 cast-read-kinds : tie.Need-cast-read-kinds
 cast-read-kinds c =
-    let args = c .before .before .before .before .before .before .args in
-    omega (arith, ones-le 8 (byteAt (args .v .now) (args .at + 1)) (c .shared-slice-known3 .given _ .fits))
+    let known = c .before in
+    let args = known .before .before .before .before .before .before .args in
+    omega (arith, ones-le 8 (byteAt (args .v .now) (args .at + 1)) (known .shared-slice-known3 .given _ .fits))
 
 read-kinds-requires : tie.Need-read-kinds-requires
 read-kinds-requires c κs = search needs
 
-returns-4 : tie.Need-returns-4
-returns-4 c =
-    record-kinds _ _ _ (omega arith) (c .before .before .before .if2 .left) (c .before .shared-slice-known3 .given _ .fits) _ (c .read-kinds .ensures)
+returns-5 : tie.Need-returns-5
+returns-5 c =
+    let known = c .before .before in
+    record-kinds _ _ _ (omega arith) (known .before .before .if2 .left) (known .shared-slice-known3 .given _ .fits) _ (c .read-kinds .ensures)
 
 pub read-word-spec : {M : Type 1} → statement M
 read-word-spec =
@@ -53,9 +60,10 @@ read-word-spec =
     returns-2
     sub-if3
     returns-3
-    add-places
-    shared-slice-read-places
+    add-map
+    shared-slice-read-map
+    returns-4
     add-read-kinds
     cast-read-kinds
     read-kinds-requires
-    returns-4)
+    returns-5)

@@ -1,21 +1,19 @@
--- `signature::read_words` meets its contract. The loop's invariant: the records passed stand in the tables, zeros behind them. The measure is the number of records left.
-use mathlib.Core.Path.{refl}
+-- `signature::read_words` meets its contract. The loop's invariant: the records passed stand in the tables, which are as before behind them. The measure is the number of records left.
 use Prim.Native.Nat.{_-_}
 use native.Mathlib.Omega.{arith}
 use borrow.Author.Needs.{needs}
-use Rattle.signature.proofs.RecordsRead.{record-as, whole-inside, Tabled, tabled-none, tabled-more}
-use Rattle.signature.proofs.RecordsRead.{tabled-ends, tabled-unknown, tabled-continues, tabled-filled, loaded-refused, loaded-filled}
+use Rattle.signature.proofs.RecordsRead.{record-as, whole-inside, Tabled, tabled-none, tabled-room, tabled-more, tabled-ends, tabled-unknown, tabled-continues, tabled-filled}
 use Rattle.signature.proofs.read_words.Statement.{statement}
 use Rattle.signature.proofs.read_words.Tie as tie
 
 abbrev Inv-loop : tie.InvT-loop
-Inv-loop v words kinds offsets₀ results₀ maps₀ at₀ w₀ offsets results maps at w = Tabled v words w at offsets results maps
+Inv-loop v words kinds offsets₀ results₀ maps₀ at₀ w₀ offsets results maps at w = Tabled v words w at offsets₀ results₀ maps₀ offsets results maps
 
 abbrev μ-loop : tie.MeasureT-loop
 μ-loop v words kinds offsets₀ results₀ maps₀ at₀ w₀ offsets results maps at w = words - w
 
 loop-holds : tie.Need-loop-holds Inv-loop μ-loop
-loop-holds c = tabled-none _ _ (c .before .pre .0)
+loop-holds c = tabled-none _ _ _ _ _ (c .before .before .before .before .pre .0)
 
 read-word-requires : tie.Need-read-word-requires Inv-loop μ-loop
 read-word-requires c κs = search needs
@@ -31,14 +29,20 @@ cast-offsets c =
 mul-offsets : tie.Need-mul-offsets Inv-loop μ-loop
 mul-offsets c = omega (arith, c .before .before .before .before .before .loop .inv .passed)
 
-array-write-offsets : tie.Need-array-write-offsets Inv-loop μ-loop
-array-write-offsets c = search needs
+slice-write-offsets : tie.Need-slice-write-offsets Inv-loop μ-loop
+slice-write-offsets c =
+    let turn = c .before .before .before .before in
+    let pre = turn .before .before .before .before .before .before .pre .1 .1 in
+    tabled-room _ _ _ _ _ _ _ _ _ _ (turn .before .loop .inv) (pre .0) (pre .1) (turn .loop-test .taken) .0
 
 shared-slice-read-results : tie.Need-shared-slice-read-results Inv-loop μ-loop
 shared-slice-read-results c = omega (arith, whole-inside (c .before .before .before .before .read-word .ensures) (c .before .before .places .given .1))
 
-array-write-results : tie.Need-array-write-results Inv-loop μ-loop
-array-write-results c = search needs
+slice-write-results : tie.Need-slice-write-results Inv-loop μ-loop
+slice-write-results c =
+    let turn = c .before .before .before .before .before in
+    let pre = turn .before .before .before .before .before .before .pre .1 .1 in
+    tabled-room _ _ _ _ _ _ _ _ _ _ (turn .before .loop .inv) (pre .0) (pre .1) (turn .loop-test .taken) .1
 
 add-maps : tie.Need-add-maps Inv-loop μ-loop
 add-maps c = omega (arith, whole-inside (c .before .before .before .before .read-word .ensures) (c .before .before .places .given .1))
@@ -46,8 +50,11 @@ add-maps c = omega (arith, whole-inside (c .before .before .before .before .read
 shared-slice-read-maps : tie.Need-shared-slice-read-maps Inv-loop μ-loop
 shared-slice-read-maps c = omega (arith, whole-inside (c .before .before .before .before .before .read-word .ensures) (c .before .before .before .places .given .1))
 
-array-write-maps : tie.Need-array-write-maps Inv-loop μ-loop
-array-write-maps c = search needs
+slice-write-maps : tie.Need-slice-write-maps Inv-loop μ-loop
+slice-write-maps c =
+    let turn = c .before .before .before .before .before .before in
+    let pre = turn .before .before .before .before .before .before .pre .1 .1 in
+    tabled-room _ _ _ _ _ _ _ _ _ _ (turn .before .loop .inv) (pre .0) (pre .1) (turn .loop-test .taken) .2
 
 add-at : tie.Need-add-at Inv-loop μ-loop
 add-at c = search needs
@@ -64,49 +71,69 @@ loop-less c = search needs
 loop-again : tie.Need-loop-again Inv-loop μ-loop
 loop-again c =
     let read = c .before .before .before .before .before in
-    let start = read .before .before .before .before in
-    tabled-more _ _ _ _ _ _ _ (read .before .before .loop .inv) (start .pre .1 .0) (read .before .loop-test .taken) _
-    (record-as (read .read-word .ensures) (c .before .before .before .places .given .1) (start .pre .1 .1))
+    let pre = read .before .before .before .before .before .before .before .pre in
+    tabled-more _ _ _ _ _ _ _ _ _ _ (read .before .before .loop .inv) (pre .1 .1 .0) (pre .1 .1 .1) (read .before .loop-test .taken) _
+    (record-as (read .read-word .ensures) (c .before .before .before .places .given .1) (pre .1 .0))
 
 enum-told : tie.Need-enum-told Inv-loop μ-loop
 enum-told c = search needs
 
-refuse-requires : tie.Need-refuse-requires Inv-loop μ-loop
-refuse-requires c κs = search needs
+same-length : tie.Need-same-length Inv-loop μ-loop
+same-length c = search needs
+
+same-length-2 : tie.Need-same-length-2 Inv-loop μ-loop
+same-length-2 c = search needs
+
+same-length-3 : tie.Need-same-length-3 Inv-loop μ-loop
+same-length-3 c = search needs
 
 returns : tie.Need-returns Inv-loop μ-loop
 returns c =
-    let read = c .before .before .before in
-    loaded-refused _ _ _ _ (c .refuse .ensures)
-    (tabled-ends _ _ _ _ _ _ _ (read .before .before .loop .inv) (read .before .loop-test .taken)
-    (record-as (read .read-word .ensures) (c .before .enum-told .given .1) (read .before .before .before .before .pre .1 .1)))
+    let read = c .before .before in
+    tabled-ends _ _ _ _ _ _ _ _ _ _ (read .before .before .loop .inv) (read .before .loop-test .taken)
+    (record-as (read .read-word .ensures) (c .enum-told .given .1) (c .before .before .before .before .before .before .before .before .before .pre .1 .0))
 
 enum-known-q : tie.Need-enum-known-q Inv-loop μ-loop
 enum-known-q c = search needs
 
-refuse-requires-2 : tie.Need-refuse-requires-2 Inv-loop μ-loop
-refuse-requires-2 c κs = search needs
+same-length-4 : tie.Need-same-length-4 Inv-loop μ-loop
+same-length-4 c = search needs
+
+same-length-5 : tie.Need-same-length-5 Inv-loop μ-loop
+same-length-5 c = search needs
+
+same-length-6 : tie.Need-same-length-6 Inv-loop μ-loop
+same-length-6 c = search needs
 
 returns-2 : tie.Need-returns-2 Inv-loop μ-loop
 returns-2 c =
-    let read = c .before .before .before .before in
-    loaded-refused _ _ _ _ (c .refuse2 .ensures)
-    (tabled-unknown _ _ _ _ _ _ _ (read .before .before .loop .inv) _ (read .before .loop-test .taken)
-    (record-as (read .read-word .ensures) (c .before .before .q .given .1) (read .before .before .before .before .pre .1 .1)))
+    let read = c .before .before .before in
+    tabled-unknown _ _ _ _ _ _ _ _ _ _ (read .before .before .loop .inv) _ (read .before .loop-test .taken)
+    (record-as (read .read-word .ensures) (c .before .q .given .1) (c .before .before .before .before .before .before .before .before .before .before .pre .1 .0))
 
-refuse-requires-3 : tie.Need-refuse-requires-3 Inv-loop μ-loop
-refuse-requires-3 c κs = search needs
+same-length-7 : tie.Need-same-length-7 Inv-loop μ-loop
+same-length-7 c = search needs
+
+same-length-8 : tie.Need-same-length-8 Inv-loop μ-loop
+same-length-8 c = search needs
+
+same-length-9 : tie.Need-same-length-9 Inv-loop μ-loop
+same-length-9 c = search needs
 
 returns-3 : tie.Need-returns-3 Inv-loop μ-loop
-returns-3 c =
-    let left = c .before .before in
-    loaded-refused _ _ _ _ (c .refuse3 .ensures)
-    (tabled-continues _ _ _ _ _ _ _ (left .before .loop .inv) (left .loop-test .left) (c .before .if1 .taken))
+returns-3 c = tabled-continues _ _ _ _ _ _ _ _ _ _ (c .before .before .loop .inv) (c .before .loop-test .left) (c .if1 .taken)
+
+same-length-10 : tie.Need-same-length-10 Inv-loop μ-loop
+same-length-10 c = search needs
+
+same-length-11 : tie.Need-same-length-11 Inv-loop μ-loop
+same-length-11 c = search needs
+
+same-length-12 : tie.Need-same-length-12 Inv-loop μ-loop
+same-length-12 c = search needs
 
 returns-4 : tie.Need-returns-4 Inv-loop μ-loop
-returns-4 c =
-    let left = c .before in
-    loaded-filled _ _ _ refl refl (tabled-filled _ _ _ _ _ _ _ (left .before .loop .inv) (left .loop-test .left) (c .if1 .left))
+returns-4 c = tabled-filled _ _ _ _ _ _ _ _ _ _ (c .before .before .loop .inv) (c .before .loop-test .left) (c .if1 .left)
 
 pub read-words-spec : {M : Type 1} → statement M
 read-words-spec =
@@ -119,23 +146,32 @@ read-words-spec =
     enum-known-places
     cast-offsets
     mul-offsets
-    array-write-offsets
+    slice-write-offsets
     shared-slice-read-results
-    array-write-results
+    slice-write-results
     add-maps
     shared-slice-read-maps
-    array-write-maps
+    slice-write-maps
     add-at
     add-at-2
     add-w
     loop-less
     loop-again
     enum-told
-    refuse-requires
+    same-length
+    same-length-2
+    same-length-3
     returns
     enum-known-q
-    refuse-requires-2
+    same-length-4
+    same-length-5
+    same-length-6
     returns-2
-    refuse-requires-3
+    same-length-7
+    same-length-8
+    same-length-9
     returns-3
+    same-length-10
+    same-length-11
+    same-length-12
     returns-4)
