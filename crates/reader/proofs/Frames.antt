@@ -97,6 +97,12 @@ module _ (level : ℕ) (ps ws : List Bool) (v : List ℕ) (k : ℕ) where
 abbrev pub Shifted : ℕ → ℕ → Type 0
 Shifted x y = Framed y (writtenIn x / 2) (placesIn x / 2) (kindsIn x + placesIn x % 2)
 
+abbrev pub shiftOf : ℕ → ℕ
+shiftOf x = writtenIn x / 2 + 256 * (placesIn x / 2) + 65536 * (kindsIn x + placesIn x % 2)
+
+pub shifted : (x : ℕ) → Shifted x (shiftOf x)
+shifted x = framed (writtenIn x / 2) (placesIn x / 2) (kindsIn x + placesIn x % 2) (omega arith) (omega arith)
+
 -- What is due of the halves, from the offset behind the lowest place's kind.
 due-behind : (v : List ℕ) (level x y : ℕ) → Shifted x y →
     dueAt level (slots (flagsIn 7 (placesIn x / 2)) (flagsIn 7 (writtenIn x / 2)) (drop (kindsIn x + bit (eqb (placesIn x % 2) 1)) v)) ≡ frameDue v level y
@@ -140,8 +146,11 @@ due-none (true ∷ ps) zero level (k ∷ l) = due-none ps zero level l
 due-none (true ∷ ps) (suc d) level (k ∷ l) = due-none ps d level l
 
 -- Where nothing is written, nothing is due.
+pub due-bare : (ps : List Bool) (m level : ℕ) (l : List ℕ) → m ≡ 0 → dueAt level (slots ps (flags m) l) ≡ []
+due-bare ps m level l e = ap (λ w. dueAt level (slots ps (flags w) l)) e ∙ due-none ps 8 level l
+
 pub due-done : (v : List ℕ) (level x : ℕ) → writtenIn x ≡ 0 → frameDue v level x ≡ []
-due-done v level x e = ap (λ w. dueAt level (slots (flags (placesIn x)) (flags w) (drop (kindsIn x) v))) e ∙ due-none (flags (placesIn x)) 8 level (drop (kindsIn x) v)
+due-done v level x = due-bare (flags (placesIn x)) (writtenIn x) level (drop (kindsIn x) v)
 
 pub frame-shift : (v : List ℕ) (x y : ℕ) → FrameIn v x → Shifted x y → FrameIn v y
 frame-shift v x y h s =
@@ -161,7 +170,11 @@ frame-shift v x y h s =
 -- z is the frame of the word f of W at the written map m.
 pub record WordFramed (v : List ℕ) (W : Vocabulary) (f m z : ℕ) : Type 0 where
   pub fits : FrameIn v z
+  pub written : writtenIn z ≡ m
   pub dues : (level : ℕ) → frameDue v level z ≡ dueAt level (slots (flags (mapOf W f)) (flags m) (word W f .kinds))
+
+pub frame-some : {v : List ℕ} {W : Vocabulary} {f m z : ℕ} → WordFramed v W f m z → (m ≡ 0 → ⊥) → 0 < writtenIn z
+frame-some c full = let written = c .written in omega arith
 
 -- Kinds behind those of the places do not matter.
 slots-front : (ps ws : List Bool) (ks r : List ℕ) → ones ps ≤ length ks → slots ps ws (ks ++ r) ≡ slots ps ws ks

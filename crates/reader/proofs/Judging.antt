@@ -1,12 +1,13 @@
 -- Judging: the replies of judging a pattern and a situation, by what reading them and looking for a gap answers.
-use mathlib.Core.Path.{_≡_, refl, sym, ap, _∙_}
+use mathlib.Core.Path.{_≡_, refl, sym, ap, subst, _∙_}
+use mathlib.Core.Bool.{Bool, true, false, not, cond, true≢false}
 use mathlib.Core.List.{List, [], _∷_}
 use mathlib.Core.Option.{Option, some, none}
 use Prim.Native.Nat.{ℕ, _<_}
 use native.Mathlib.Omega.{arith}
 use lib.Dec.{eqb}
 use lib.ListN.{length, getD, drop}
-use borrow.Author.Tests.{eq-eqb, ne-eqb}
+use borrow.Author.Tests.{eq-eqb, ne-eqb, eqb-true}
 use Rattle.terms.specs.Term.{Ground}
 use Rattle.terms.proofs.All.{at-all}
 use Rattle.wire.specs.Reply.{accepted, refused, Reading, accept, refuse, replyOf}
@@ -30,6 +31,9 @@ use Rattle.reader.proofs.Calls.{refused-never}
 use Rattle.reader.proofs.Gaps.{gap-reads}
 use Rattle.reader.proofs.Replies.{refusal-reply}
 use Rattle.reader.proofs.Tables.{in-order}
+
+never : {n i q : ℕ} → accepted [] ≡ refused n i q → ⊥
+never e = let z : _≡_ {A = ℕ} 0 1 = cc in omega arith
 
 -- ---- what an answer says of the reading
 
@@ -128,6 +132,35 @@ module _ {v maps b : List ℕ} (x : Taken v maps b) where
         ap (replyOf 2 (λ g. []))
         (sym (cond-true (eqb (x .term .kind) k) (accept (ground (x .term .term))) (refuse 17 0) (eq-eqb (x .term .kind) k (sym (x .kind) ∙ h))))
         ∙ by-gap none e
+
+-- ---- a pattern that is the situation itself
+
+-- A test that is turned round.
+pub not-false : (b : Bool) → not b ≡ false → b ≡ true
+not-false true e = refl
+not-false false e = absurd (true≢false e)
+
+-- The kind of a situation that is in order.
+kind-tested : (x : Kinded) (k : ℕ) (b : Bool) → eqb (x .kind) k ≡ b →
+    accepted [] ≡ replyOf 2 (λ (g : Ground). []) (cond b (accept (ground (x .term))) (refuse 17 0)) → x .kind ≡ k
+kind-tested x k true q h = eqb-true (x .kind) k q
+kind-tested x k false q h = absurd (never h)
+
+kind-due : (x : Kinded) (k : ℕ) (o : Option ℕ) → accepted [] ≡ replyOf 2 (λ (g : Ground). []) (situationOf k x o) → x .kind ≡ k
+kind-due x k (some q) h = absurd (never h)
+kind-due x k none h = kind-tested x k (eqb (x .kind) k) refl h
+
+-- Where a situation is in order, it is in order as a pattern too.
+pub itself-clear : (W : Vocabulary) (p s : List ℕ) (k : ℕ) → p ≡ s → accepted [] ≡ situationReply W k s → accepted [] ≡ patternReply W p s
+itself-clear W p s k same h = subst (λ b. accepted [] ≡ patternReply W b s) (sym same) (by-reading (checkedTerm W s) refl h)
+  where
+    by-reading : (r : Reading Kinded) → checkedTerm W s ≡ r → accepted [] ≡ replyOf 2 (λ (g : Ground). []) (situationIn W k r) →
+        accepted [] ≡ clearReply (judgedPattern W s r)
+    by-reading (refuse n q) e h = absurd (never h)
+    by-reading (accept x) e h =
+        h ∙ ap (λ j. replyOf 2 (λ (g : Ground). []) (situationIn W j (accept x))) (sym (kind-due x k (firstGap W (x .term)) h))
+        ∙ ap (λ r. replyOf 2 (λ (g : Ground). []) (situationIn W (x .kind) r)) (sym e)
+        ∙ situation-clear W x (checkedSituation W (x .kind) s)
 
 -- ---- the vocabulary
 

@@ -7,6 +7,7 @@ pub mod Names
 pub mod Nodes
 pub mod Standing
 pub mod Replies
+pub mod Levels
 pub mod Scanning
 pub mod Turns
 pub mod Roots
@@ -15,3 +16,7 @@ pub mod Calls
 -- A situation's gaps, and the inputs of match together.
 pub mod Gaps
 pub mod Judging
+-- Words with all their places: a situation that is complete, and the front of a term.
+pub mod Rows
+pub mod Complete
+pub mod Full

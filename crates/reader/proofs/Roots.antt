@@ -1,7 +1,7 @@
 -- A term from its first byte on: its size, its kind, and what stands at the root.
 use mathlib.Core.Path.{_≡_, sym, ap, ap₂, _∙_}
 use mathlib.Core.Bool.{true}
-use mathlib.Core.List.{List, [], _∷_, append-nil}
+use mathlib.Core.List.{List, [], _∷_, _++_, append-nil}
 use Prim.Native.Nat.{ℕ, _<_, _≤_}
 use native.Mathlib.Omega.{arith}
 use lib.Dec.{ltb}
@@ -12,20 +12,19 @@ use Rattle.terms.proofs.Bools.{or-left, or-right}
 use Rattle.wire.specs.Reply.{refused, refuse, replyOf, outside}
 use Rattle.wire.specs.Map.{flags, slots}
 use Rattle.wire.specs.Vocabulary.{Vocabulary, word, mapOf}
-use Rattle.wire.specs.TermLines.{dueAt}
+use Rattle.wire.specs.TermLines.{Due, dueAt}
 use Rattle.wire.specs.Reading.{Got, got, Node, whole, node, line15, readTerm, readWhole}
 use Rattle.wire.specs.Checks.{mostBytes, mostLevels, checkedTerm, termValues}
 use Rattle.wire.proofs.Cond.{cond-true, cond-false}
 use Rattle.wire.proofs.Outside.{inside-outside}
 use Rattle.wire.proofs.Scan.{Tally, scanNode, run, run-node, rootDue, noTally, scan-reads}
-use Rattle.reader.specs.Frames.{frameDue}
 use Rattle.reader.specs.Answers.{termNumbers}
 use Rattle.reader.specs.Nodes.{nodeOf, tallyOf, answerOf}
 use Rattle.reader.specs.declared.TermRefusal.{TermRefusal}
 use Rattle.reader.specs.declared.TermAnswer.the-variants as A
 use Rattle.reader.specs.declared.term.Node.{Node as Answer}
 use Rattle.reader.specs.declared.term.Node.the-variants.{Word, Name, Fault}
-use Rattle.reader.proofs.Frames.{WordFramed}
+use Rattle.reader.proofs.Frames.{due-bare}
 use Rattle.reader.proofs.Nodes.{node-root, node-whole}
 use Rattle.reader.proofs.Replies.{answer-refused, answer-read}
 use Rattle.reader.proofs.Standing.{Stood}
@@ -45,6 +44,10 @@ module _ (W : Vocabulary) (s : ℕ) (t : List ℕ) where
       ap (got (tallyOf 0 1)) (sym (drop-drop 1 1 t))
       ∙ root-step (whole (drop 1 (drop 1 t))) (node-whole W s [] (drop 1 t) (omega (arith, length-drop 1 t)) (getD-drop 1 t 0 0 ∙ e) few)
 
+  -- A word stands behind the kind byte with its map.
+  pub root-long : {f m n : ℕ} {maps : List ℕ} → Stood W 0 n maps s 1 (drop 1 t) (Word f m) → 3 ≤ length t
+  root-long x = let long = x .inside .long in omega (arith, length-drop 1 t)
+
   module _ (other : getD t 1 0 ≡ 255 → ⊥) {n : ℕ} {maps : List ℕ} where
     root-stood : {y : Answer} → Stood W 0 n maps s 1 (drop 1 t) y → scanNode (run W) (rootDue s) [] [] noTally (nodeOf W 1 (drop 1 t) y) ≡ rootRun
     root-stood {y} x = root-step (nodeOf W 1 (drop 1 t) y) (node-root W s [] (drop 1 t) (λ e. other (sym (getD-drop 1 t 0 0) ∙ e)) ∙ x .same (omega arith))
@@ -55,11 +58,17 @@ module _ (W : Vocabulary) (s : ℕ) (t : List ℕ) where
     pub root-name : {k : ℕ} → Stood W 0 n maps s 1 (drop 1 t) (Name k) → got (tallyOf 0 1) (drop 2 t) ≡ rootRun
     root-name x = ap (got (tallyOf 0 1)) (sym (drop-drop 1 1 t)) ∙ root-stood x
 
-    pub root-word : {f m z : ℕ} {v : List ℕ} → Stood W 0 n maps s 1 (drop 1 t) (Word f m) → WordFramed v W f m z →
-        run W (frameDue v 2 z) [] (tallyOf 1 1) (drop 3 t) ≡ rootRun
-    root-word {f} {m} x framed =
+    pub root-bare : {f m : ℕ} → Stood W 0 n maps s 1 (drop 1 t) (Word f m) → m ≡ 0 → got (tallyOf 1 1) (drop 3 t) ≡ rootRun
+    root-bare {f} {m} x none =
+        ap₂ (λ ds l. run W (ds ++ []) [] (tallyOf 1 1) l) (sym (due-bare (flags (mapOf W f)) m 2 (word W f .kinds) none)) (sym (drop-drop 2 1 t))
+        ∙ root-stood x
+
+    -- Its written places are what is due.
+    pub root-word : {f m : ℕ} {ds : List Due} → Stood W 0 n maps s 1 (drop 1 t) (Word f m) → ds ≡ dueAt 2 (slots (flags (mapOf W f)) (flags m) (word W f .kinds)) →
+        run W ds [] (tallyOf 1 1) (drop 3 t) ≡ rootRun
+    root-word {f} {m} x dues =
         ap₂ (λ ds l. run W ds [] (tallyOf 1 1) l)
-        (framed .dues 2 ∙ sym (append-nil (dueAt 2 (slots (flags (mapOf W f)) (flags m) (word W f .kinds))))) (sym (drop-drop 2 1 t))
+        (dues ∙ sym (append-nil (dueAt 2 (slots (flags (mapOf W f)) (flags m) (word W f .kinds))))) (sym (drop-drop 2 1 t))
         ∙ root-stood x
 
 -- ---- the size and the kind

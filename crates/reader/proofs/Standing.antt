@@ -111,7 +111,7 @@ pub record Stood (W : Vocabulary) (depth n : ℕ) (maps : List ℕ) (s at : ℕ)
   pub same : depth ≤ 31 → node W false s [] rest ≡ nodeOf W at rest y
 
 -- The rest of a term from an offset on, as it is lent.
-rest-whole : (t : List ℕ) (at : ℕ) → take (length t - at) (drop at t) ≡ drop at t
+pub rest-whole : (t : List ℕ) (at : ℕ) → take (length t - at) (drop at t) ≡ drop at t
 rest-whole t at = take-all (length t - at) (drop at t) (omega (arith, length-drop at t))
 
 pub stood : (t : List ℕ) {W : Vocabulary} {depth n : ℕ} {results maps : List ℕ} {s at : ℕ} {x y : Answer} →

@@ -18,6 +18,10 @@ use Rattle.reader.specs.Frames.{Framed}
 use Rattle.reader.specs.Nodes.{Tabled, WordInside}
 use Rattle.reader.proofs.Frames.{WordFramed, word-frame, word-due}
 
+-- The same number of words, named otherwise.
+pub tables-as : {v : List ℕ} {n k : ℕ} {offsets results maps : List ℕ} → k ≡ n → Tables v n offsets results maps → Tables v k offsets results maps
+tables-as e t = rw e t
+
 module _ {v : List ℕ} {n : ℕ} {offsets results maps : List ℕ} (t : Tables v n offsets results maps) where
   pub tabled : Tabled (vocabularyIn v) n results maps
   tabled = record { words = t .words; result = t .result; placeMap = t .placeMap }
@@ -65,5 +69,6 @@ module _ {v : List ℕ} {n : ℕ} {offsets results maps : List ℕ} (t : Tables 
             fits =
                 word-frame v z m p k ks of-word (t .kinds f h) (kinds-counted f h)
                 (ap (bitAnd m) (sym (t .placeMap f h)) ∙ stands .within) (t .inside f h) (omega (arith, few-kinds));
+            written = made .0 .written;
             dues = word-due v z m p k ks of-word (t .kinds f h) (kinds-counted f h);
           }

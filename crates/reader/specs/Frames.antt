@@ -5,6 +5,7 @@
 --   kindsIn x             the offset in the vocabulary of the next place's kind
 --   Framed x w p k        x is the frame of these three
 --   FrameIn v x           what is written are places, and their kinds lie in the vocabulary v
+--   FramesIn v xs n d     FrameIn of the first n of 32 frames, and d, the deepest level that was due, lies below their words
 --   frameDue v level x    what is due of x, at a level
 --   duesOf v xs n         what is due of the first n frames of xs, the last of them first
 --
@@ -35,6 +36,12 @@ pub record FrameIn (v : List ℕ) (x : ℕ) : Type 0 where
   pub within : bitAnd (writtenIn x) (placesIn x) ≡ writtenIn x
   pub inside : kindsIn x + Count.ones (placesIn x) ≤ length v
   pub small : kindsIn x + Count.ones (placesIn x) < 131072
+
+pub record FramesIn (v xs : List ℕ) (n deepest : ℕ) : Type 0 where
+  pub sound : (i : ℕ) → i < n → FrameIn v (getD xs i 0)
+  pub shallow : n ≤ 32
+  pub reached : n < deepest
+  pub entries : length xs ≡ 32
 
 abbrev pub frameDue : List ℕ → ℕ → ℕ → List Due
 frameDue v level x = dueAt level (slots (flags (placesIn x)) (flags (writtenIn x)) (drop (kindsIn x) v))

@@ -24,32 +24,24 @@ use Rattle.wire.specs.Map.{flags, slots}
 use Rattle.wire.specs.Vocabulary.{Vocabulary, word, mapOf}
 use Rattle.wire.specs.Reading.{Got, got, stop, Node, symbol, variable, fault, node, atLimit, offset}
 use Rattle.wire.proofs.Scan.{Tally}
+use Rattle.reader.specs.Answers.{termRefused}
 use Rattle.reader.specs.declared.TermRefusal.{TermRefusal}
-use Rattle.reader.specs.declared.TermRefusal.the-variants as T
 use Rattle.reader.specs.declared.term.Node.{Node as Answer}
 use Rattle.reader.specs.declared.term.Node.the-variants.{Word, Name, Fault}
 
+abbrev numberIn : Reply → ℕ
+numberIn (accepted values) = 0
+numberIn (refused n i q) = n
+
+abbrev placeIn : Reply → ℕ
+placeIn (accepted values) = 0
+placeIn (refused n i q) = q
+
 abbrev pub numberOf : TermRefusal → ℕ
-numberOf T.Size = 7
-numberOf T.NoSuchKind = 8
-numberOf (T.Ends q) = 9
-numberOf (T.TooDeep q) = 10
-numberOf (T.NoWordOrName q) = 11
-numberOf (T.WrongKind q) = 12
-numberOf (T.Clashes q) = 13
-numberOf (T.StrayBit q) = 14
-numberOf (T.Continues q) = 15
+numberOf why = numberIn (termRefused 1 why)
 
 abbrev pub placeOf : TermRefusal → ℕ
-placeOf T.Size = 0
-placeOf T.NoSuchKind = 0
-placeOf (T.Ends q) = q
-placeOf (T.TooDeep q) = q
-placeOf (T.NoWordOrName q) = q
-placeOf (T.WrongKind q) = q
-placeOf (T.Clashes q) = q
-placeOf (T.StrayBit q) = q
-placeOf (T.Continues q) = q
+placeOf why = placeIn (termRefused 1 why)
 
 pub record Tabled (W : Vocabulary) (n : ℕ) (results maps : List ℕ) : Type 0 where
   pub words : n ≡ length (W .words)

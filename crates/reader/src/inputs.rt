@@ -1,5 +1,8 @@
 // A pattern and a situation judged under an accepted vocabulary.
 ghost use mathlib.Core.Path.{_≡_};
+ghost use mathlib.Core.Bool.{true};
+ghost use mathlib.Core.List.{[]};
+ghost use Rattle.wire.specs.Reply.{accepted};
 ghost use lib.ListN.{length, drop};
 ghost use Rattle.signature.specs.Tables.{Tables, vocabularyIn};
 ghost use Rattle.reader.specs.Answers.{inputsNumbers};
@@ -8,6 +11,7 @@ use crate::InputsAnswer;
 use crate::InputsRefusal;
 use crate::TermAnswer;
 use crate::term;
+use crate::whole;
 
 // Where the first name, 255 or short map of an accepted term stands, or no offset of the term. Up to
 // there each node has two bytes, and the next node follows directly.
@@ -28,7 +32,7 @@ fn first_gap(t: &[u8], maps: &[u8; 96]) -> usize
     at
 }
 
-// Judges a situation for a pattern of a kind.
+// Judges a situation for a pattern of a kind. One that is in order is known by a pass of its own.
 fn judge_situation<'a>(
     v: &[u8],
     s: &[u8],
@@ -41,6 +45,9 @@ fn judge_situation<'a>(
     requires { ⌜ Tables (now v) words (now offsets) (now results) (now maps) ⌝ }
     ensures { λ r. ⌜ inputsNumbers r ≡ situationReply (vocabularyIn (now (v .entry))) kind (now (s .entry)) ⌝ }
 {
+    if whole::complete(v, s, kind, words, offsets, results, maps) {
+        return InputsAnswer::Clear;
+    }
     match term::read(v, s, words, offsets, results, maps) {
         TermAnswer::Vocabulary(why) => {
             return InputsAnswer::Refused(InputsRefusal::Vocabulary(why));
@@ -60,8 +67,30 @@ fn judge_situation<'a>(
     InputsAnswer::Clear
 }
 
+// Whether the pattern is the situation itself, and complete: then both are in order, and one reading is enough.
+fn itself<'a>(
+    v: &[u8],
+    p: &[u8],
+    s: &[u8],
+    words: usize,
+    offsets: &'a [u16; 96],
+    results: &'a [u8; 96],
+    maps: &'a [u8; 96],
+) -> bool
+    requires { ⌜ Tables (now v) words (now offsets) (now results) (now maps) ⌝ }
+    ensures { λ r. ⌜ (r ≡ true → accepted [] ≡ patternReply (vocabularyIn (now (v .entry))) (now (p .entry)) (now (s .entry))) ⌝ }
+{
+    if !slices::equal(p, s) {
+        return false;
+    }
+    if s.len() == 0 {
+        return false;
+    }
+    whole::complete(v, s, s[0], words, offsets, results, maps)
+}
+
 // Judges a pattern and then a situation.
-pub(crate) fn judge_terms<'a>(
+fn judge_apart<'a>(
     v: &[u8],
     p: &[u8],
     s: &[u8],
@@ -83,4 +112,23 @@ pub(crate) fn judge_terms<'a>(
         TermAnswer::Accepted(_, _) => {}
     }
     judge_situation(v, s, p[0], words, offsets, results, maps)
+}
+
+// Judges a pattern and a situation.
+pub(crate) fn judge_terms<'a>(
+    v: &[u8],
+    p: &[u8],
+    s: &[u8],
+    words: usize,
+    offsets: &'a [u16; 96],
+    results: &'a [u8; 96],
+    maps: &'a [u8; 96],
+) -> InputsAnswer
+    requires { ⌜ Tables (now v) words (now offsets) (now results) (now maps) ⌝ }
+    ensures { λ r. ⌜ inputsNumbers r ≡ patternReply (vocabularyIn (now (v .entry))) (now (p .entry)) (now (s .entry)) ⌝ }
+{
+    if itself(v, p, s, words, offsets, results, maps) {
+        return InputsAnswer::Clear;
+    }
+    judge_apart(v, p, s, words, offsets, results, maps)
 }

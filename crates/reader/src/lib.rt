@@ -9,6 +9,7 @@ use signature::VocabularyRefusal;
 
 mod inputs;
 mod term;
+mod whole;
 
 // Why a term is refused, with the place where it is not fixed: document 01, lines 7 to 15.
 pub enum TermRefusal {
@@ -30,13 +31,6 @@ pub enum TermAnswer {
     Term(TermRefusal),
 }
 
-// The answer of check_term, with the number of the vocabulary's words and their result kinds.
-pub struct CheckedTerm {
-    pub answer: TermAnswer,
-    pub words: usize,
-    pub results: [u8; 96],
-}
-
 // Why the inputs of match are refused: document 01, lines 1 to 17.
 pub enum InputsRefusal {
     Vocabulary(VocabularyRefusal),
@@ -55,44 +49,21 @@ pub enum InputsAnswer {
 pub fn check_term(vocabulary: &[u8], term: &[u8]) -> TermAnswer
     ensures { λ r. ⌜ termNumbers r ≡ termReply (now (vocabulary .entry)) (now (term .entry)) ⌝ }
 {
-    let loaded = signature::load(vocabulary);
-    let answer = loaded.answer;
-    match answer {
-        VocabularyAnswer::Refused(why) => TermAnswer::Vocabulary(why),
-        VocabularyAnswer::Accepted => {
-            let words = loaded.words;
-            let offsets = loaded.offsets;
-            let results = loaded.results;
-            let maps = loaded.maps;
-            term::read(vocabulary, term, words, &offsets, &results, &maps)
-        }
-    }
+    let mut results = [0u8; 96];
+    load_term(vocabulary, term, &mut results)
 }
 
-// Checks a term under a vocabulary, and hands on the words' result kinds, which are loaded for it. Where the
-// vocabulary is refused there are no words.
-pub fn load_term(vocabulary: &[u8], term: &[u8]) -> CheckedTerm
-    ensures { λ r. ⌜ CheckedFrom (now (vocabulary .entry)) (now (term .entry)) r ⌝ }
+// Checks a term under a vocabulary, and leaves the words' result kinds, which are loaded for it, in the lent table.
+pub fn load_term(vocabulary: &[u8], term: &[u8], results: &mut [u8; 96]) -> TermAnswer
+    ensures { λ r. ⌜ CheckedFrom (now (vocabulary .entry)) (now (term .entry)) (now (results .entry)) (now (results .exit)) r ⌝ }
 {
-    let loaded = signature::load(vocabulary);
-    let answer = loaded.answer;
-    let count = loaded.words;
-    let kinds = loaded.results;
-    match answer {
-        VocabularyAnswer::Refused(why) => CheckedTerm {
-            answer: TermAnswer::Vocabulary(why),
-            words: count,
-            results: kinds,
-        },
+    let mut offsets = [0u16; 96];
+    let mut maps = [0u8; 96];
+    match signature::load(vocabulary, &mut offsets, results, &mut maps) {
+        VocabularyAnswer::Refused(why) => TermAnswer::Vocabulary(why),
         VocabularyAnswer::Accepted => {
-            let offsets = loaded.offsets;
-            let maps = loaded.maps;
-            let found = term::read(vocabulary, term, count, &offsets, &kinds, &maps);
-            CheckedTerm {
-                answer: found,
-                words: count,
-                results: kinds,
-            }
+            let words = term::wide(vocabulary[1]);
+            term::read(vocabulary, term, words, &offsets, results, &maps)
         }
     }
 }
@@ -102,15 +73,13 @@ pub fn load_term(vocabulary: &[u8], term: &[u8]) -> CheckedTerm
 pub fn judge(vocabulary: &[u8], pattern: &[u8], situation: &[u8]) -> InputsAnswer
     ensures { λ r. ⌜ inputsNumbers r ≡ clearReply (judged (now (vocabulary .entry)) (now (pattern .entry)) (now (situation .entry))) ⌝ }
 {
-    let loaded = signature::load(vocabulary);
-    let answer = loaded.answer;
-    match answer {
+    let mut offsets = [0u16; 96];
+    let mut results = [0u8; 96];
+    let mut maps = [0u8; 96];
+    match signature::load(vocabulary, &mut offsets, &mut results, &mut maps) {
         VocabularyAnswer::Refused(why) => InputsAnswer::Refused(InputsRefusal::Vocabulary(why)),
         VocabularyAnswer::Accepted => {
-            let words = loaded.words;
-            let offsets = loaded.offsets;
-            let results = loaded.results;
-            let maps = loaded.maps;
+            let words = term::wide(vocabulary[1]);
             inputs::judge_terms(
                 vocabulary,
                 pattern,

@@ -1,7 +1,7 @@
 // A term read node by node, with a stack of the words whose written places are still due.
 ghost use mathlib.Core.Path.{_≡_};
 ghost use mathlib.Core.List.{[], _∷_};
-ghost use Prim.Native.Nat.{_+_, _/_, _%_, _<_, _≤_, max};
+ghost use Prim.Native.Nat.{_+_, _-_, _/_, _%_, _<_, _≤_, max};
 ghost use lib.ListN.{length, getD, drop};
 ghost use Rattle.wire.specs.Checks.{checkedTerm, termValues};
 ghost use Rattle.wire.specs.Reply.{replyOf};
@@ -9,10 +9,12 @@ ghost use Rattle.wire.specs.Reading.{got};
 ghost use Rattle.wire.proofs.Scan.{run, rootDue, noTally};
 ghost use Rattle.reader.specs.Answers.{termNumbers};
 ghost use Rattle.signature.specs.Tables.{Tables, vocabularyIn};
-ghost use Rattle.reader.specs.Frames.{writtenIn, placesIn, kindsIn, Framed, FrameIn, frameDue};
+ghost use Rattle.reader.specs.Frames.{writtenIn, placesIn, kindsIn, Framed, FrameIn, FramesIn, frameDue, duesOf};
+ghost use Rattle.reader.specs.Complete.{dueIn, RowIn, rowDue, SmallRow, SmallRows, RowFrame, RowFrames};
 ghost use Rattle.reader.specs.Nodes.{NodeAt, WordAt, clashing, tallyOf, answerOf};
 use crate::TermAnswer;
 use crate::TermRefusal;
+use crate::whole;
 
 // What stands where a term is due: a word with its written map, a name, or what is wrong.
 enum Node {
@@ -124,7 +126,7 @@ fn finish(t: &[u8], at: usize, count: usize, deepest: usize) -> TermAnswer
 }
 
 // The larger of the two.
-fn most(a: usize, b: usize) -> usize
+pub(crate) fn most(a: usize, b: usize) -> usize
     ensures { λ r. ⌜ r ≡ max a b ⌝ }
 {
     if a < b { b } else { a }
@@ -143,7 +145,69 @@ fn clashes(before: u16, kind: u8) -> bool
     true
 }
 
-// Reads the written places below the root's word. The rest of the term is handed on for each.
+// Reads what is due of the first frames, from an offset on, before which no name stands; the deepest level that was due
+// so far is given. The rest of the term is handed on for each written place.
+// A word has two bytes and a name one, so that counting the names counts the words. A frame that comes
+// makes the level below its word due, and no term is accepted before that level is read.
+fn read_rest<'a>(
+    v: &[u8],
+    t: &[u8],
+    frames: &mut [u64; 32],
+    started: usize,
+    from: usize,
+    level: usize,
+    words: usize,
+    offsets: &'a [u16; 96],
+    results: &'a [u8; 96],
+    maps: &'a [u8; 96],
+) -> TermAnswer
+    requires { ⌜ Tables (now v) words (now offsets) (now results) (now maps) ⌝ }
+    requires { ⌜ FramesIn (now v) (now frames) started level ⌝ }
+    requires { ⌜ (0 < from) × (from ≤ length (now t)) × (length (now t) ≤ 4096) ⌝ }
+    ensures { λ r. ⌜ termNumbers r ≡ answerOf (now (t .entry)) (run (vocabularyIn (now (v .entry))) (duesOf (now (v .entry)) (now (frames .entry)) started) [] (tallyOf ((from - 1) / 2) level) (drop from (now (t .entry)))) ⌝ }
+{
+    let mut names = [256u16; 64];
+    let mut depth: usize = started;
+    let mut at: usize = from;
+    let mut singles: usize = 0;
+    let mut deepest: usize = level;
+    while 0 < depth {
+        let top = depth - 1;
+        let due = frames[top];
+        if due % 256 == 0 {
+            depth = top;
+        } else {
+            frames[top] = passed(due);
+            if due % 2 == 1 {
+                let kind = v[(due / 65536) as usize];
+                match node_at(&t[at..], at, depth, kind, words, results, maps) {
+                    Node::Fault(why) => {
+                        return TermAnswer::Term(why);
+                    }
+                    Node::Name(n) => {
+                        if clashes(names[n], kind) {
+                            return TermAnswer::Term(TermRefusal::Clashes(at));
+                        }
+                        names[n] = kind as u16;
+                        singles += 1;
+                        at += 1;
+                    }
+                    Node::Word(f, written) => {
+                        at += 2;
+                        if written != 0 {
+                            frames[depth] = word_frame(f, written, offsets, maps);
+                            depth += 1;
+                            deepest = most(deepest, depth + 1);
+                        }
+                    }
+                }
+            }
+        }
+    }
+    finish(t, at, (at - 1 - singles) / 2, deepest)
+}
+
+// Reads the written places below the root's word.
 fn read_places<'a>(
     v: &[u8],
     t: &[u8],
@@ -154,49 +218,75 @@ fn read_places<'a>(
     maps: &'a [u8; 96],
 ) -> TermAnswer
     requires { ⌜ Tables (now v) words (now offsets) (now results) (now maps) ⌝ }
-    requires { ⌜ FrameIn (now v) root ⌝ }
+    requires { ⌜ (FrameIn (now v) root) × (0 < writtenIn root) ⌝ }
     requires { ⌜ (3 ≤ length (now t)) × (length (now t) ≤ 4096) ⌝ }
     ensures { λ r. ⌜ termNumbers r ≡ answerOf (now (t .entry)) (run (vocabularyIn (now (v .entry))) (frameDue (now (v .entry)) 2 root) [] (tallyOf 1 1) (drop 3 (now (t .entry)))) ⌝ }
 {
-    let mut names = [256u16; 64];
     let mut frames = [0u64; 32];
     frames[0] = root;
-    let mut depth: usize = 1;
-    let mut at: usize = 3;
-    let mut count: usize = 1;
-    let mut deepest: usize = 1;
-    while 0 < depth {
-        let top = depth - 1;
-        let due = frames[top];
-        if due % 256 == 0 {
-            depth = top;
-        } else {
-            frames[top] = passed(due);
-            if due % 2 == 1 {
-                let kind = v[(due / 65536) as usize];
-                deepest = most(deepest, depth + 1);
-                match node_at(&t[at..], at, depth, kind, words, results, maps) {
-                    Node::Fault(why) => {
-                        return TermAnswer::Term(why);
-                    }
-                    Node::Name(n) => {
-                        if clashes(names[n], kind) {
-                            return TermAnswer::Term(TermRefusal::Clashes(at));
-                        }
-                        names[n] = kind as u16;
-                        at += 1;
-                    }
-                    Node::Word(f, written) => {
-                        frames[depth] = word_frame(f, written, offsets, maps);
-                        depth += 1;
-                        count += 1;
-                        at += 2;
-                    }
-                }
-            }
-        }
+    read_rest(v, t, &mut frames, 1, 3, 2, words, offsets, results, maps)
+}
+
+// The frame of a row: as many lowest bits in both maps as places are due.
+fn row_frame(row: u32) -> u64
+    requires { ⌜ SmallRow row ⌝ }
+    ensures { λ r. ⌜ RowFrame r row ⌝ }
+{
+    let map = ((1u32 << (row % 16)) - 1) as u8;
+    frame(map, map, (row / 16) as usize)
+}
+
+// The frames of the first rows.
+fn row_frames(rows: &[u32; 32], depth: usize, frames: &mut [u64; 32])
+    requires { ⌜ (depth ≤ 32) × (length (now frames) ≡ 32) ⌝ }
+    requires { ⌜ SmallRows (now rows) depth ⌝ }
+    ensures { λ _. ⌜ RowFrames (now (rows .entry)) depth (now (frames .exit)) ⌝ }
+{
+    let mut i = 0;
+    while i < depth {
+        frames[i] = row_frame(rows[i]);
+        i += 1;
     }
-    finish(t, at, count, deepest)
+}
+
+// Reads the places below the root's word, all of them written: full words first, and what follows them as any term.
+fn read_full<'a>(
+    v: &[u8],
+    t: &[u8],
+    root: u32,
+    words: usize,
+    offsets: &'a [u16; 96],
+    results: &'a [u8; 96],
+    maps: &'a [u8; 96],
+) -> TermAnswer
+    requires { ⌜ Tables (now v) words (now offsets) (now results) (now maps) ⌝ }
+    requires { ⌜ (RowIn (now v) root) × (0 < dueIn root) ⌝ }
+    requires { ⌜ (3 ≤ length (now t)) × (length (now t) ≤ 4096) ⌝ }
+    ensures { λ r. ⌜ termNumbers r ≡ answerOf (now (t .entry)) (run (vocabularyIn (now (v .entry))) (rowDue (now (v .entry)) 2 root) [] (tallyOf 1 1) (drop 3 (now (t .entry)))) ⌝ }
+{
+    let mut rows = [0u32; 32];
+    rows[0] = root;
+    let x = whole::full_words(v, t, &mut rows, words, offsets, results, maps);
+    let depth = x.depth;
+    let at = x.at;
+    let deepest = x.deepest;
+    if depth == 0 {
+        return finish(t, at, (at - 1) / 2, deepest);
+    }
+    let mut frames = [0u64; 32];
+    row_frames(&rows, depth, &mut frames);
+    read_rest(
+        v,
+        t,
+        &mut frames,
+        depth,
+        at,
+        deepest,
+        words,
+        offsets,
+        results,
+        maps,
+    )
 }
 
 // Reads the term behind its kind byte.
@@ -220,6 +310,13 @@ fn read_root<'a>(
         Node::Fault(why) => TermAnswer::Term(why),
         Node::Name(_) => finish(t, 2, 0, 1),
         Node::Word(f, written) => {
+            if written == 0 {
+                return finish(t, 3, 1, 1);
+            }
+            if written == maps[f] {
+                let row = whole::word_row(f, offsets, maps);
+                return read_full(v, t, row, words, offsets, results, maps);
+            }
             let root = word_frame(f, written, offsets, maps);
             read_places(v, t, root, words, offsets, results, maps)
         }

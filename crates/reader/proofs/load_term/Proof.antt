@@ -1,42 +1,64 @@
 -- `reader::load_term` meets its contract.
 use mathlib.Core.Path.{sym, ap, _∙_}
 use denote.Ref.{now}
+use native.Mathlib.Omega.{arith}
+use borrow.Author.Needs.{needs}
 use Rattle.signature.specs.Tables.{vocabularyIn}
 use Rattle.signature.specs.Answers.{vocabularyNumbers}
 use Rattle.reader.proofs.Calls.{reply-refused, reply-accepted}
-use borrow.Author.Needs.{needs}
+use Rattle.reader.proofs.Tables.{tables-as, some-bytes}
 use Rattle.reader.proofs.load_term.Statement.{statement}
 use Rattle.reader.proofs.load_term.Tie as tie
 
 load-requires : tie.Need-load-requires
 load-requires c κs = search needs
 
-enum-known-answer : tie.Need-enum-known-answer
-enum-known-answer c = search needs
+enum-known-why : tie.Need-enum-known-why
+enum-known-why c = search needs
 
 enum-told : tie.Need-enum-told
 enum-told c = search needs
 
+shared-slice-read-wide : tie.Need-shared-slice-read-wide
+shared-slice-read-wide c =
+    let told = c .before in
+    let loaded = told .before .before in
+    omega (arith, some-bytes (loaded .load .ensures .tables (told .enum-told .given .1)) (λ i. c .shared-slice-known3 .given i .fits))
+
+wide-requires : tie.Need-wide-requires
+wide-requires c κs = search needs
+
 read-requires : tie.Need-read-requires
 read-requires c κs =
-    let at-enum-told = c .before .before .before .before .before in
-    let at-load = at-enum-told .before .before .before in
-    at-load .load .ensures .tables (at-enum-told .enum-told .given .1)
+    let called = c .before .before .before in
+    let told = called .before .before in
+    tables-as (called .wide .ensures) (told .before .before .load .ensures .tables (told .enum-told .given .1))
 
 returns : tie.Need-returns
 returns c =
-    let at-answer = c .before in
-    let at-load = at-answer .before .before .before in
-    let start = at-load .before .before .before in
-    record { answer = reply-refused (now (start .args .vocabulary)) (now (start .args .term)) (at-answer .answer .given .0 .0) (sym (ap vocabularyNumbers (at-answer .answer .given .1)) ∙ at-load .load .ensures .answer); words = at-load .load .ensures .words; results = at-load .load .ensures .results }
+    let loaded = c .before .before .before in
+    let a = loaded .before .before .before .before .before .before .args in
+    let answer = reply-refused (now (a .vocabulary)) (now (a .term)) (c .before .why .given .0 .0) (sym (ap vocabularyNumbers (c .before .why .given .1)) ∙ loaded .load .ensures .answer) in
+    record { answer = answer; results = loaded .load .ensures .holds .results }
 
 returns-2 : tie.Need-returns-2
 returns-2 c =
-    let at-enum-told = c .before .before .before .before .before .before in
-    let at-load = at-enum-told .before .before .before in
-    let start = at-load .before .before .before in
-    record { answer = c .read .ensures ∙ reply-accepted (now (start .args .vocabulary)) (now (start .args .term)) (vocabularyIn (now (start .args .vocabulary))) (at-load .load .ensures .tables (at-enum-told .enum-told .given .1) .accepted); words = at-load .load .ensures .words; results = at-load .load .ensures .results }
+    let told = c .before .before .before .before .before .before in
+    let loaded = told .before .before in
+    let a = loaded .before .before .before .before .before .before .args in
+    let accepted = loaded .load .ensures .tables (told .enum-told .given .1) .accepted in
+    let answer = c .read .ensures ∙ reply-accepted (now (a .vocabulary)) (now (a .term)) (vocabularyIn (now (a .vocabulary))) accepted in
+    record { answer = answer; results = loaded .load .ensures .holds .results }
 
 pub load-term-spec : {M : Type 1} → statement M
 load-term-spec =
-    tie.close (tie.spec load-requires enum-known-answer enum-told read-requires returns returns-2)
+    tie.close
+    (tie.spec
+    load-requires
+    enum-known-why
+    enum-told
+    shared-slice-read-wide
+    wide-requires
+    read-requires
+    returns
+    returns-2)

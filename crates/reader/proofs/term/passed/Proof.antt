@@ -1,6 +1,5 @@
 -- `reader::term::passed` meets its contract.
-use Rattle.reader.proofs.Frames.{framed}
-use Prim.Native.Nat.{_+_, _/_, _%_}
+use Rattle.reader.proofs.Frames.{shifted}
 use native.Mathlib.Omega.{arith}
 use Rattle.reader.proofs.term.passed.Statement.{statement}
 use Rattle.reader.proofs.term.passed.Tie as tie
@@ -21,9 +20,7 @@ add-result-3 : tie.Need-add-result-3
 add-result-3 c = omega arith
 
 returns : tie.Need-returns
-returns c =
-    let x = c .args .frame in
-    framed (x % 256 / 2) (x / 256 % 256 / 2) (x / 65536 + x / 256 % 256 % 2) (omega arith) (omega arith)
+returns c = shifted (c .args .frame)
 
 pub passed-spec : {M : Type 1} → statement M
 passed-spec =

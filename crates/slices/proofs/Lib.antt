@@ -1,0 +1,2 @@
+-- Two lists compared block by block.
+pub mod Blocks

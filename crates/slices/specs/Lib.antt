@@ -1,0 +1,2 @@
+-- What the contract of comparing two slices cites.
+pub mod Equal
