@@ -111,7 +111,7 @@ noted-span : (spans : List ℕ) (n : ℕ) (b : Bool) → eqb (getD spans (2 * n 
     (getD spans (2 * n + 1) 0 ≡ 0 → getD spans (2 * n) 0 ≡ 0) → orNoSpan (cond b none (some (spanIn spans n))) ≡ spanIn spans n
 noted-span spans n true e h =
     let zero = eqb-true (getD spans (2 * n + 1) 0) 0 e in
-    ap₂ {C = Span} (λ o l. record { offset = o; length = l }) (sym (h zero)) (sym zero)
+    ap₂ {C = Span} (λ o l. record { offset = o; bytes = l }) (sym (h zero)) (sym zero)
 noted-span spans n false e h = refl
 
 -- Two tables of 128 numbers are equal where they give each name the same span.
@@ -124,10 +124,10 @@ spans-same a b la lb h = ext-getD 0 a b (la ∙ sym lb) (λ k l. go k (omega ari
         subst (λ k. getD a k 0 ≡ getD b k 0) same (ap (λ x. x .offset) (h n (omega arith)))
     go k l n (suc zero) e q =
         let same : 2 * n + 1 ≡ k = omega arith in
-        subst (λ k. getD a k 0 ≡ getD b k 0) same (ap (λ x. x .length) (h n (omega arith)))
+        subst (λ k. getD a k 0 ≡ getD b k 0) same (ap (λ x. x .bytes) (h n (omega arith)))
     go k l n (suc (suc r)) e q = absurd (omega arith)
 
-no-term : (W : Vocabulary) (g : Ground) (gs : Grounds) (ks : List ℕ) → SortedAll (signature W) nil ks → SortedGs (signature W) (gcons g gs) ks → ⊥
+pub no-term : (W : Vocabulary) (g : Ground) (gs : Grounds) (ks : List ℕ) → SortedAll (signature W) nil ks → SortedGs (signature W) (gcons g gs) ks → ⊥
 no-term W g gs [] h k = k
 no-term W g gs (x ∷ ks) h k = h
 

@@ -178,13 +178,13 @@ module _ {v p s : List ℕ} (lent : Lent v p s) where
         part-inside =
             let x = inputs-read clears .inputs in
             let reads = inputs-read clears .reads in
-            subst (λ (y : Span). y .offset + y .length ≤ length s) (sym span-here)
+            subst (λ (y : Span). y .offset + y .bytes ≤ length s) (sym span-here)
             (go (spanFrom (x .vocabulary) (x .pattern) (x .situation) n 1) (coverFrom (x .pattern) (x .situation) n)
             (span-covers (x .vocabulary) (x .pattern) (x .situation) n 1 s []
             (ap (drop 1) (reads .situationWritten) ∙ root-ground (x .vocabulary) (x .situation)
             ∙ sym (append-nil (encodeAt (x .vocabulary) (asTerm (x .situation)))))))
           where
-            go : (o : Option Span) (c : Option Ground) → SpanHolds (inputs-read clears .inputs .vocabulary) s o c → orNoSpan o .offset + orNoSpan o .length ≤ length s
+            go : (o : Option Span) (c : Option Ground) → SpanHolds (inputs-read clears .inputs .vocabulary) s o c → orNoSpan o .offset + orNoSpan o .bytes ≤ length s
             go none c h = omega arith
             go (some y) none h = absurd h
             go (some y) (some g) h =

@@ -1,7 +1,7 @@
 -- The laws that the proofs of match and part share.
 --
 --   Ending     where a ground term ends
---   Parts      parts of the situation compared, and the table filled
+--   Parts      what a name covers, and the table filled
 --   Marks      what the frames say of the terms that are due
 --   Joined     matching and spans of terms that stand one behind the other
 --   Bound      what a filling gives a name, and matching a name
@@ -10,6 +10,8 @@
 --   Names      the turn at a name
 --   Begin      what holds before the first turn, and behind the last
 --   Turns      the loop of the walk, turn by turn, and that turns come to an end
+--   Root       a name or 255 at the root
+--   Itself     a pattern that is the situation itself
 --   Answers    different answers have different numbers
 --   Calls      the answers of match and part keep the promises
 pub mod Ending
@@ -22,5 +24,7 @@ pub mod Words
 pub mod Names
 pub mod Begin
 pub mod Turns
+pub mod Root
+pub mod Itself
 pub mod Answers
 pub mod Calls

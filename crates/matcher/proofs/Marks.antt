@@ -21,7 +21,8 @@ use Rattle.terms.specs.Signature.{Signature}
 use Rattle.terms.specs.Term.{Term, any, var, app, Terms, nil, cons, SortedAll}
 use Rattle.wire.specs.Map.{flagsIn, flags, bit, number, ones, isOpen, writtenFlags}
 use Rattle.wire.specs.Written.{levels, levelsAll}
-use Rattle.matcher.specs.Walking.{writtenIn, placesIn, Framed}
+use Rattle.reader.specs.Frames.{writtenIn, placesIn}
+use Rattle.matcher.specs.Walking.{Framed}
 
 pub record Mark : Type 0 where
   pub written : Bool

@@ -62,7 +62,7 @@ span-new spans n e = ap (λ b. cond b none (some (spanIn spans n))) (eq-eqb (get
 pub span-noted : (spans : List ℕ) (n : ℕ) → (getD spans (2 * n + 1) 0 ≡ 0 → ⊥) → spanAt spans n ≡ some (spanIn spans n)
 span-noted spans n d = ap (λ b. cond b none (some (spanIn spans n))) (ne-eqb (getD spans (2 * n + 1) 0) 0 d)
 
-holding-inside : (W : Vocabulary) (s : List ℕ) (x : Span) (h : Ground) → Holding W s x h → x .offset + x .length ≤ length s
+holding-inside : (W : Vocabulary) (s : List ℕ) (x : Span) (h : Ground) → Holding W s x h → x .offset + x .bytes ≤ length s
 holding-inside W s x h c =
     let l = c .covers .long in
     omega (arith, size-least W h, length-drop (x .offset) s, ap length (c .covers .stands), length-append (encodeAt W (asTerm h)) (c .covers .behind))
@@ -87,14 +87,14 @@ module _ (spans : List ℕ) (n at l : ℕ) (long : length spans ≡ 128) (low : 
       let apart2 : k ≢ 2 * n + 1 = e in
       getD-set-other (set spans (2 * n) at) (2 * n + 1) k l 0 apart2 ∙ getD-set-other spans (2 * n) k at 0 apart
 
-  set-span : (l ≡ 0 → ⊥) → spanAt (withSpan spans n at l) n ≡ some (record { offset = at; length = l })
+  set-span : (l ≡ 0 → ⊥) → spanAt (withSpan spans n at l) n ≡ some (record { offset = at; bytes = l })
   set-span d =
-      ap₂ {C = Option Span} (λ a b. noted b (record { offset = a; length = b })) set-offset set-length
-      ∙ ap (λ b. cond b none (some (record { offset = at; length = l }))) (ne-eqb l 0 d)
+      ap₂ {C = Option Span} (λ a b. noted b (record { offset = a; bytes = b })) set-offset set-length
+      ∙ ap (λ b. cond b none (some (record { offset = at; bytes = l }))) (ne-eqb l 0 d)
 
   set-other : (m : ℕ) → (m ≡ n → ⊥) → spanAt (withSpan spans n at l) m ≡ spanAt spans m
   set-other m d =
-      ap₂ {C = Option Span} (λ a b. noted b (record { offset = a; length = b }))
+      ap₂ {C = Option Span} (λ a b. noted b (record { offset = a; bytes = b }))
       (set-elsewhere (2 * m) (λ e. d (omega arith)) (λ e. omega arith))
       (set-elsewhere (2 * m + 1) (λ e. omega arith) (λ e. d (omega arith)))
 
@@ -147,7 +147,7 @@ module _ {W : Vocabulary} {P : Term} {G : Ground} {p s spans : List ℕ} {n : �
   -- What is reported of another name than n.
   report-other : (k : ℕ) → k < nameCount → (k ≡ n → ⊥) → spanElse (spanAt spans k) (spanAll W ts gs k (j + size W g)) ≡ spanFrom W P G k 1
   report-other k l d =
-      ap (λ b. spanElse (spanAt spans k) (spanElse (cond b (some (record { offset = j; length = size W g })) none) (spanAll W ts gs k (j + size W g)))) (sym (ne-eqb k n d))
+      ap (λ b. spanElse (spanAt spans k) (spanElse (cond b (some (record { offset = j; bytes = size W g })) none) (spanAll W ts gs k (j + size W g)))) (sym (ne-eqb k n d))
       ∙ c .reported k l
 
   turn-new : NotYet spans (bound (f .named) n) n →
@@ -160,7 +160,7 @@ module _ {W : Vocabulary} {P : Term} {G : Ground} {p s spans : List ℕ} {n : �
       some-bytes : size W g ≡ 0 → ⊥
       some-bytes e = omega (arith, size-least W g)
 
-      here : spanAt (withSpan spans n j (size W g)) n ≡ some (record { offset = j; length = size W g })
+      here : spanAt (withSpan spans n j (size W g)) n ≡ some (record { offset = j; bytes = size W g })
       here = set-span spans n j (size W g) (c .spanEntries) name-low some-bytes
 
       told : (k : ℕ) → k < nameCount → Dec (k ≡ n) → Told W s (spanAt (withSpan spans n j (size W g)) k) (bound (withName f n g .named) k)
@@ -183,7 +183,7 @@ module _ {W : Vocabulary} {P : Term} {G : Ground} {p s spans : List ℕ} {n : �
       reported k l (yes e) =
           subst (λ k. spanElse (spanAt (withSpan spans n j (size W g)) k) (spanAll W ts gs k (j + size W g)) ≡ spanFrom W P G k 1) (sym e)
           (ap (λ x. spanElse x (spanAll W ts gs n (j + size W g))) here
-          ∙ ap₂ (λ x b. spanElse x (spanElse (cond b (some (record { offset = j; length = size W g })) none) (spanAll W ts gs n (j + size W g))))
+          ∙ ap₂ (λ x b. spanElse x (spanElse (cond b (some (record { offset = j; bytes = size W g })) none) (spanAll W ts gs n (j + size W g))))
           (sym (span-new spans n (h .zero))) (sym (eqb-refl n))
           ∙ c .reported n name-low)
       reported k l (no d) =
@@ -215,7 +215,7 @@ module _ {W : Vocabulary} {P : Term} {G : Ground} {p s spans : List ℕ} {n : �
         reported k l (yes e) =
             subst (λ k. spanElse (spanAt spans k) (spanAll W ts gs k (j + size W g)) ≡ spanFrom W P G k 1) (sym e)
             (ap (λ x. spanElse x (spanAll W ts gs n (j + size W g))) (span-noted spans n (h .long))
-            ∙ ap (λ x. spanElse x (spanElse (cond (eqb n n) (some (record { offset = j; length = size W g })) none) (spanAll W ts gs n (j + size W g))))
+            ∙ ap (λ x. spanElse x (spanElse (cond (eqb n n) (some (record { offset = j; bytes = size W g })) none) (spanAll W ts gs n (j + size W g))))
             (sym (span-noted spans n (h .long)))
             ∙ c .reported n name-low)
         reported k l (no d) = report-other k l d

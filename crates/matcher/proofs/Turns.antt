@@ -20,7 +20,8 @@ use Rattle.wire.specs.Written.{writtenMap}
 use Rattle.wire.specs.Matching.{Inputs, size}
 use Rattle.wire.proofs.Words.{length-symbols}
 use Rattle.wire.proofs.GroundBytes.{joined}
-use Rattle.matcher.specs.Walking.{writtenIn, placesIn, Framed, Standing, ends, Covered, InputsRead, Walked, WalkedOver}
+use Rattle.reader.specs.Frames.{writtenIn, placesIn}
+use Rattle.matcher.specs.Walking.{Framed, Standing, ends, Covered, InputsRead, Walked, WalkedOver}
 use Rattle.matcher.proofs.Marks.{Mark, marks, marksOf, marks-none, Shifted, marks-place, marks-gap, marks-last, turnsOf, turns-last, chained}
 use Rattle.matcher.proofs.Side.{Side, Facing, facing, due, stands, situation-inside, turn-open}
 use Rattle.matcher.proofs.Words.{pattern-word, situation-word, words-differ, turn-word}

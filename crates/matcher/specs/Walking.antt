@@ -1,11 +1,8 @@
 -- Walking: what the functions that match promise each other; no public contract cites it.
 --
---   writtenIn x, placesIn x     a frame's written map and place map, past the places that are done
---   Framed x w p                x is the frame of these two
+--   Framed x w p                x is the frame of a written map and a place map, past the places that are done
 --   Standing s at               a ground term stands in the bytes s at an offset
 --   ends a                      where it ends
---   Gathered s a b n r          r is 0 exactly where the n bytes from a on are those from b on
---   Same s a b n r              r tells whether the n bytes from a on are those from b on
 --   Covered                     what noting a name's part does to the spans, and its answer
 --   InputsRead p s              inputs that the bytes p and s write
 --   found o                     there is a filling
@@ -18,18 +15,13 @@ use mathlib.Core.List.{List, _++_}
 use mathlib.Core.Option.{Option, some, none}
 use Prim.Native.Nat.{ℕ, _+_, _*_, _/_, _%_, _≤_}
 use lib.ListN.{length, getD, take, drop, set}
+use Rattle.reader.specs.Frames.{writtenIn, placesIn}
 use Rattle.terms.specs.Term.{Ground, SortedG}
 use Rattle.terms.specs.Filling.{Filling}
 use Rattle.terms.specs.Matcher.{matcher}
 use Rattle.wire.specs.Vocabulary.{Vocabulary, signature, InOrder}
 use Rattle.wire.specs.Written.{encodeAt, asTerm}
 use Rattle.wire.specs.Matching.{Inputs, Reads, size, spanTable}
-
-abbrev pub writtenIn : ℕ → ℕ
-writtenIn x = x % 256
-
-abbrev pub placesIn : ℕ → ℕ
-placesIn x = x / 256 % 256
 
 pub record Framed (x w p : ℕ) : Type 0 where
   pub written : writtenIn x ≡ w
@@ -47,14 +39,6 @@ pub record Standing (s : List ℕ) (at : ℕ) : Type 0 where
 
 abbrev pub ends : {s : List ℕ} {at : ℕ} → Standing s at → ℕ
 ends {at} a = at + size (a .vocabulary) (a .ground)
-
-pub record Gathered (s : List ℕ) (a b n r : ℕ) : Type 0 where
-  pub none : r ≡ 0 → take n (drop a s) ≡ take n (drop b s)
-  pub some : take n (drop a s) ≡ take n (drop b s) → r ≡ 0
-
-pub record Same (s : List ℕ) (a b n : ℕ) (r : Bool) : Type 0 where
-  pub yes : r ≡ true → take n (drop a s) ≡ take n (drop b s)
-  pub no : r ≡ false → take n (drop a s) ≡ take n (drop b s) → ⊥
 
 pub record Covered (s before after : List ℕ) (name at n : ℕ) (r : Bool) : Type 0 where
   -- The first time the part is noted.

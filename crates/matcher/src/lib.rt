@@ -3,7 +3,8 @@ ghost use mathlib.Core.Path.{_≡_};
 ghost use Prim.Native.Nat.{_+_, _*_, _/_, _<_, _≤_};
 ghost use lib.Count.{ones};
 ghost use lib.ListN.{length, getD, replicate};
-ghost use Rattle.matcher.specs.Walking.{placesIn, writtenIn, Framed, Standing, ends, Gathered, Same, Covered, InputsRead, Walked};
+ghost use Rattle.reader.specs.Frames.{placesIn, writtenIn};
+ghost use Rattle.matcher.specs.Walking.{Framed, Standing, ends, Covered, InputsRead, Walked};
 ghost use Rattle.wire.specs.Matching.{partSpan, MatchPromise, PartPromise};
 ghost use Rattle.matcher.specs.Answers.{matchNumbers};
 use reader::InputsAnswer;
@@ -52,36 +53,6 @@ fn end_of(s: &[u8], at: usize) -> usize
     end
 }
 
-// The differences between the n bytes from one offset on and those from another on, gathered: 0 where
-// there is none.
-fn differences(s: &[u8], a: usize, b: usize, n: usize) -> u8
-    requires { ⌜ (a + n ≤ length (now s)) × (b + n ≤ length (now s)) ⌝ }
-    ensures { λ r. ⌜ Gathered (now (s .entry)) a b n r ⌝ }
-{
-    let mut gathered: u8 = 0;
-    let mut i: usize = 0;
-    while i < n {
-        gathered = gathered | (s[a + i] ^ s[b + i]);
-        i += 1;
-    }
-    gathered
-}
-
-// Whether the n bytes from one offset on are those from another on. A block of 64 is compared at once.
-fn same(s: &[u8], a: usize, b: usize, n: usize) -> bool
-    requires { ⌜ (a + n ≤ length (now s)) × (b + n ≤ length (now s)) ⌝ }
-    ensures { λ r. ⌜ Same (now (s .entry)) a b n r ⌝ }
-{
-    let mut i: usize = 0;
-    while i + 64 <= n {
-        if differences(s, a + i, b + i, 64) != 0 {
-            return false;
-        }
-        i += 64;
-    }
-    differences(s, a + i, b + i, n - i) == 0
-}
-
 // A name covers the part from an offset on: the first time it is noted, later it must be the same part.
 fn cover(s: &[u8], spans: &mut [u16; 128], name: usize, at: usize, n: usize) -> bool
     requires { ⌜ (name < 64) × (at + n ≤ length (now s)) × (length (now s) ≤ 4096) ⌝ }
@@ -98,7 +69,7 @@ fn cover(s: &[u8], spans: &mut [u16; 128], name: usize, at: usize, n: usize) -> 
         return false;
     }
     let first = wide16(spans[2 * name]);
-    same(s, first, at, n)
+    slices::equal(&s[first..first + n], &s[at..at + n])
 }
 
 // The places of a word that are due: its written map, and behind it its place map, both shifted past
@@ -136,7 +107,7 @@ fn passed(frame: u16) -> u16
 }
 
 // Goes through a pattern and a situation side by side, and notes the part that each name covers.
-fn walk(p: &[u8], s: &[u8], spans: &mut [u16; 128]) -> bool
+fn walk_words(p: &[u8], s: &[u8], spans: &mut [u16; 128]) -> bool
     requires { ⌜ InputsRead (now p) (now s) ⌝ }
     requires { ⌜ now spans ≡ replicate 128 0 ⌝ }
     ensures { λ r. ⌜ Walked (now (p .entry)) (now (s .entry)) (now (spans .exit)) r ⌝ }
@@ -180,6 +151,35 @@ fn walk(p: &[u8], s: &[u8], spans: &mut [u16; 128]) -> bool
         }
     }
     true
+}
+
+// A name or 255 at the root covers the whole situation, so that its end need not be looked for.
+fn cover_root(p: &[u8], s: &[u8], spans: &mut [u16; 128]) -> bool
+    requires { ⌜ InputsRead (now p) (now s) ⌝ }
+    requires { ⌜ now spans ≡ replicate 128 0 ⌝ }
+    requires { ⌜ 127 < getD (now p) 1 0 ⌝ }
+    ensures { λ r. ⌜ Walked (now (p .entry)) (now (s .entry)) (now (spans .exit)) r ⌝ }
+{
+    let first = p[1];
+    if first == 255 {
+        return true;
+    }
+    cover(s, spans, wide(first) - 128, 1, s.len() - 1)
+}
+
+// Goes through a pattern and a situation, from the root on. A pattern that is the situation itself has no name.
+fn walk(p: &[u8], s: &[u8], spans: &mut [u16; 128]) -> bool
+    requires { ⌜ InputsRead (now p) (now s) ⌝ }
+    requires { ⌜ now spans ≡ replicate 128 0 ⌝ }
+    ensures { λ r. ⌜ Walked (now (p .entry)) (now (s .entry)) (now (spans .exit)) r ⌝ }
+{
+    if 127 < p[1] {
+        return cover_root(p, s, spans);
+    }
+    if slices::equal(p, s) {
+        return true;
+    }
+    walk_words(p, s, spans)
 }
 
 // Writes the spans into the table.

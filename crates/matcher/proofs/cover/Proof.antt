@@ -1,8 +1,11 @@
 -- `matcher::cover` meets its contract.
 use mathlib.Core.Path.{sym, _∙_}
+use Prim.Native.Nat.{_+_, _≤_}
 use native.Mathlib.Omega.{arith}
 use mir.Facts.{fits-lt, fits-lit}
+use denote.Ref.{now}
 use lib.Dec.{lit<}
+use lib.ListN.{length}
 use borrow.Author.Needs.{scaled-fits}
 use Rattle.matcher.proofs.Parts.{even-slot, odd-slot, covered-new, covered-longer, covered-again}
 use Rattle.matcher.proofs.cover.Statement.{statement}
@@ -70,19 +73,54 @@ element-copy-out-wide16-2 c = even-slot (c .before .before .before .before .befo
 wide16-requires-2 : tie.Need-wide16-requires-2
 wide16-requires-2 c κs = tt
 
-same-requires : tie.Need-same-requires
-same-requires c κs =
+-- The part that was noted lies in the situation, and so does this one.
+noted-inside : (c : tie.After-wide162) → let a = c .before .before .before .before .before .before .before .args in
+    c .wide162 .result + a .n ≤ length (now (a .s))
+noted-inside c =
     let before = c .before .before .before .before .wide16 .ensures .0 in
     let first = c .wide162 .ensures .0 in
     let equal = c .before .before .if2 .left in
     let noted = c .before .before .before .before .before .before .before .pre .1 in
-    (omega arith, c .before .before .before .before .before .before .before .pre .0 .1)
+    omega arith
+
+add-equal : tie.Need-add-equal
+add-equal c = let inside = noted-inside c in let small = c .before .before .before .before .before .before .before .pre .0 .2 in record { fits = omega arith }
+
+sub-equal : tie.Need-sub-equal
+sub-equal c = omega arith
+
+part-equal-start : tie.Need-part-equal-start
+part-equal-start c = omega arith
+
+part-equal-end : tie.Need-part-equal-end
+part-equal-end c = noted-inside c
+
+add-equal-2 : tie.Need-add-equal-2
+add-equal-2 c =
+    let here = c .before .before .before .before .before .before .before .before .pre .0 .1 in
+    let small = c .before .before .before .before .before .before .before .before .pre .0 .2 in
+    record { fits = omega arith }
+
+sub-equal-2 : tie.Need-sub-equal-2
+sub-equal-2 c = omega arith
+
+part-equal-start-2 : tie.Need-part-equal-start-2
+part-equal-start-2 c = omega arith
+
+part-equal-end-2 : tie.Need-part-equal-end-2
+part-equal-end-2 c = c .before .before .before .before .before .before .before .before .pre .0 .1
+
+equal-requires : tie.Need-equal-requires
+equal-requires c κs = tt
 
 returns-3 : tie.Need-returns-3
 returns-3 c =
-    let before = c .before .before .before .before .before .wide16 .ensures .0 in
-    covered-again _ _ _ _ _ (c .before .wide162 .result) (c .same .result) (λ e. c .before .before .before .before .if1 .left (before ∙ e)) (sym before ∙ c .before .before .before .if2 .left)
-    (c .before .wide162 .ensures .0) (c .same .ensures)
+    let at-first = c .before .before .before in
+    let at-if2 = at-first .before .before in
+    let before = at-if2 .before .before .wide16 .ensures .0 in
+    let start = at-if2 .before .before .before .before .before in
+    covered-again (now (start .args .s)) (now (start .args .spans)) (start .args .name) (start .args .at) (start .args .n) (at-first .wide162 .result) (c .equal .result)
+    (λ e. at-if2 .before .if1 .left (before ∙ e)) (sym before ∙ at-if2 .if2 .left) (at-first .wide162 .ensures .0) (c .equal .ensures)
 
 pub cover-spec : {M : Type 1} → statement M
 cover-spec =
@@ -108,5 +146,13 @@ cover-spec =
     mul-wide16-4
     element-copy-out-wide16-2
     wide16-requires-2
-    same-requires
+    add-equal
+    sub-equal
+    part-equal-start
+    part-equal-end
+    add-equal-2
+    sub-equal-2
+    part-equal-start-2
+    part-equal-end-2
+    equal-requires
     returns-3)
