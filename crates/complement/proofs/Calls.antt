@@ -1,27 +1,29 @@
 -- Calls: the whole call from its parts.
 use mathlib.Core.Path.{_≡_, refl, sym, ap, ap₂, _∙_, subst}
 use mathlib.Core.List.{List, []}
-use Prim.Native.Nat.{ℕ, _-_, _<_}
+use Prim.Native.Nat.{ℕ, _<_, _≤_}
 use native.Mathlib.Omega.{arith}
-use lib.ListN.{length, getD, replicate, length-map, List·getD-append, List·getD-map}
+use lib.ListN.{length, getD, drop, length-map, List·getD-append, List·getD-map}
 use Rattle.terms.proofs.All.{at-all}
 use Rattle.wire.specs.Reply.{Reply, accepted, refused, Reading, accept, refuse, replyOf, IsBytes}
-use Rattle.wire.specs.Vocabulary.{Word, Vocabulary, word, noWord}
+use Rattle.wire.specs.Vocabulary.{Word, Vocabulary, word, noWord, encodeVocabulary}
 use Rattle.wire.specs.Reading.{readVocabulary, Kinded}
-use Rattle.wire.specs.Checks.{checkedTerm, termValues, termReplyUnder, termReply}
+use Rattle.wire.specs.VocabularyLines.{byteAt}
+use Rattle.wire.specs.Checks.{GoodVocabulary, checkedTerm, termValues, termReplyUnder, termReply}
 use Rattle.wire.specs.Listed.{Listed, placed, repeatedIn, linearOf, linearIn, kinded, entriesBytes, entriesOf, listedInto, listedPattern, listedVocabulary, listed, ListPromise}
 use Rattle.wire.proofs.Inputs.{checked-in}
 use Rattle.wire.proofs.Listed.{list-keeps}
 use Rattle.wire.proofs.VocabulariesInverse.{vocabularies-inverse}
 use Rattle.signature.specs.Answers.{vocabularyRefused}
-use Rattle.signature.specs.Tables.{acceptedIn, vocabularyIn, resultsIn, padded}
+use Rattle.signature.specs.Tables.{acceptedIn, vocabularyIn, wordsBefore, resultsOf, laid}
 use Rattle.signature.specs.declared.VocabularyRefusal.{VocabularyRefusal}
 use Rattle.signature.specs.declared.VocabularyRefusal.the-variants.{Head, WordCount, Ends, NoSuchKind, Continues, EmptyKind}
+use Rattle.signature.proofs.Accepted.{accepted-words}
 use Rattle.reader.specs.Answers.{termRefused}
 use Rattle.reader.specs.declared.TermRefusal.{TermRefusal}
 use Rattle.reader.specs.declared.TermRefusal.the-variants as T
 use Rattle.complement.specs.Listing.{placedIn, repeatOf}
-use Rattle.complement.specs.Calls.{Patterned, Shows}
+use Rattle.complement.specs.Calls.{Patterned, Shows, ListsPattern}
 use Rattle.complement.specs.declared.Repeat.{Repeat}
 use Rattle.complement.specs.declared.Repeat.the-variants.{At, Nothing}
 use Rattle.complement.proofs.Repeating.{placed-pattern}
@@ -113,8 +115,7 @@ module _ (v p before : List ℕ) (vocabularyBytes : (i : ℕ) → getD v i 0 < 2
   list-term why e = promised (refused-listed v p before (termRefused 1 why) (term-refuses why) e)
 
   -- Both are accepted.
-  module _ {words : ℕ} {results : List ℕ} (counted : words ≡ length (vocabularyIn v .words)) (table : results ≡ padded (resultsIn v))
-      (l : List ℕ) (e : accepted l ≡ termReply v p) where
+  module _ (l : List ℕ) (e : accepted l ≡ termReply v p) where
     abbrev W : Vocabulary
     W = vocabularyIn v
 
@@ -139,35 +140,42 @@ module _ (v p before : List ℕ) (vocabularyBytes : (i : ℕ) → getD v i 0 < 2
         go (accept x) e = (x, refl)
         go (refuse n q) e = absurd (never n 1 q e)
 
-    result-is : (f : ℕ) → f < words → getD results f 0 ≡ word W f .result
-    result-is f h =
-        let long : length (resultsIn v) ≡ length (W .words) = length-map (W .words) (λ (w : Word). w .result) in
-        ap (λ r. getD r f 0) table
-        ∙ List·getD-append (resultsIn v) (replicate (96 - length (resultsIn v)) 0) 0 f (omega arith)
-        ∙ List·getD-map (λ (w : Word). w .result) (W .words) f noWord
+    bytes-of : GoodVocabulary W × (v ≡ encodeVocabulary W)
+    bytes-of = vocabularies-inverse v W bv .0 read
 
-    pub patterned : Patterned p words results
-    patterned =
-        let inOrder = vocabularies-inverse v W bv .0 read .0 .inOrder in
-        let x : Kinded = found .0 in
-        let h = checked-in W p x inOrder bp (found .1) in
-        record {
-          vocabulary = W;
-          kind = x .kind;
-          term = x .term;
-          inOrder = inOrder;
-          tabled = record { words = counted; result = result-is };
-          good = h .good;
-          written = h .written;
-          limits = h .limits;
-        }
+    word-count : byteAt v 1 ≡ length (W .words)
+    word-count = ap (λ l. getD l 1 0) (bytes-of .1)
 
-    pub list-pattern : {r : Reply} {after : List ℕ} →
-        Shows
-        (listedPattern (patterned .vocabulary) before (linearIn (patterned .vocabulary) (accept (kinded (patterned .kind) (patterned .term))))) r after →
-        ListPromise v p before after r
-    unfolding patterned
-    list-pattern {r} {after} s =
-        promised
-        (subst (λ l. Shows l r after)
-        (sym (ap (listedVocabulary p before) read ∙ ap (λ x. listedPattern W before (linearIn W x)) (found .1))) s)
+    pub some-bytes : 2 ≤ length v
+    some-bytes = let e = ap length (bytes-of .1) in omega arith
+
+    module _ {words : ℕ} {results : List ℕ} (counted : words ≡ byteAt v 1) (blank : List ℕ) (table : results ≡ laid (resultsOf (wordsBefore v)) blank) where
+      result-is : (f : ℕ) → f < words → getD results f 0 ≡ word W f .result
+      result-is f h =
+          let long : length (resultsOf (W .words)) ≡ length (W .words) = length-map (W .words) (λ (w : Word). w .result) in
+          ap (λ r. getD r f 0) (table ∙ ap (λ ws. laid (resultsOf ws) blank) (accepted-words v W read))
+          ∙ List·getD-append (resultsOf (W .words)) (drop (length (resultsOf (W .words))) blank) 0 f (omega (arith, word-count))
+          ∙ List·getD-map (λ (w : Word). w .result) (W .words) f noWord
+
+      pub patterned : Patterned p words results
+      patterned =
+          let inOrder = bytes-of .0 .inOrder in
+          let x : Kinded = found .0 in
+          let h = checked-in W p x inOrder bp (found .1) in
+          record {
+            vocabulary = W;
+            kind = x .kind;
+            term = x .term;
+            inOrder = inOrder;
+            tabled = record { words = counted ∙ word-count; result = result-is };
+            good = h .good;
+            written = h .written;
+            limits = h .limits;
+          }
+
+      pub list-pattern : {r : Reply} {after : List ℕ} → ListsPattern p words results before after r → ListPromise v p before after r
+      unfolding patterned
+      list-pattern {r} {after} s =
+          promised
+          (subst (λ l. Shows l r after)
+          (sym (ap (listedVocabulary p before) read ∙ ap (λ x. listedPattern W before (linearIn W x)) (found .1))) (s patterned))

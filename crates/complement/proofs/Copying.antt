@@ -60,15 +60,11 @@ module _ {copy out : List ℕ} {n : ℕ} (long : n ≤ length copy) (room : n �
         same = ap (λ l. set l i (getD copy i 0)) (h .same) ∙ copied-more copy out i (omega arith) (omega arith);
       }
 
-  pub copied-done : {i : ℕ} {now : List ℕ} → Copied copy out n i now → n ≤ i → n + 2 ≤ length out → (word : ℕ) →
-      set (set now n word) (n + 1) 0 ≡ (take n copy ++ (word ∷ 0 ∷ [])) ++ drop (n + 2) out
-  copied-done {i} {now} h k more word =
+  pub copied-done : {i : ℕ} {now : List ℕ} → Copied copy out n i now → n ≤ i → now ≡ copied copy out n
+  copied-done {i} {now} h k =
       let b = h .below in
       let e : i ≡ n = omega arith in
-      ap (λ l. set (set l n word) (n + 1) 0) (h .same ∙ ap (copied copy out) e) ∙ copied-entry copy out n word long more
+      h .same ∙ ap (copied copy out) e
 
   pub copied-all : {i : ℕ} {now : List ℕ} → Copied copy out n i now → n ≤ i → take n now ≡ take n copy
-  copied-all {i} {now} h k =
-      let b = h .below in
-      let e : i ≡ n = omega arith in
-      ap (take n) (h .same ∙ ap (copied copy out) e) ∙ take-at (take n copy) (drop n out) n (length-take-le n copy long)
+  copied-all h k = ap (take n) (copied-done h k) ∙ take-at (take n copy) (drop n out) n (length-take-le n copy long)

@@ -3,9 +3,11 @@ pub mod Answers
 -- Bytes written into a lent slice; the entries at one word.
 pub mod Powers
 pub mod Copying
+pub mod Moving
 pub mod Writing
 pub mod Others
 pub mod Siblings
+pub mod Chaining
 -- The walk over the pattern, at the bits of a word and at a term.
 pub mod Places
 pub mod Terms

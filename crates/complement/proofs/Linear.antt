@@ -6,19 +6,22 @@ use Prim.Native.Nat.{ℕ, _+_, _<_, _≤_}
 use native.Mathlib.Nat.{le-max-right}
 use native.Mathlib.Omega.{arith}
 use lib.Dec.{leb}
-use lib.ListN.{length, drop, take-append-drop}
+use lib.ListN.{length, take, drop}
+use lib.Seq.{take-length}
 use borrow.Author.Tests.{le-leb, lt-leb}
 use Rattle.terms.specs.Term.{Term, any, var, app}
 use Rattle.wire.specs.Reply.{accepted, refused}
 use Rattle.wire.specs.Map.{isOpen}
 use Rattle.wire.specs.Vocabulary.{Vocabulary}
 use Rattle.wire.specs.Written.{encodeAt, encodeRoot, levels}
+use Rattle.wire.specs.Checks.{mostBytes}
 use Rattle.wire.specs.Listed.{Listed, entriesBytes, entriesOf, listedInto}
 use Rattle.wire.proofs.Cond.{cond-true, cond-false}
 use Rattle.wire.proofs.EntryBytes.{entries-bytes}
 use Rattle.wire.proofs.EntrySizes.{countAt, sizeAt, summedIn, pattern-count, pattern-length}
-use Rattle.complement.specs.Listing.{Measures, CopyOf, TermAt, TermListed}
-use Rattle.complement.specs.Calls.{Patterned, Shows}
+use Rattle.complement.specs.Listing.{KindsFew, Measures, TermAt, TermListed}
+use Rattle.complement.specs.Calls.{Patterned, bytesOf, Shows}
+use Rattle.complement.proofs.Tallying.{kinds-few}
 
 -- ---- what listedInto shows
 
@@ -62,10 +65,13 @@ module _ {p : List ℕ} {words : ℕ} {results : List ℕ} (h : Patterned p word
   entryCount = length (entriesOf W s t)
 
   abbrev pub entryBytes : List ℕ
-  entryBytes = entriesBytes W (entriesOf W s t)
+  entryBytes = bytesOf h
 
   pub few-words : words ≤ 96
   few-words = omega (arith, h .tabled .words, h .inOrder .fewWords)
+
+  pub few-kinds : KindsFew words results
+  few-kinds = kinds-few (h .inOrder) (h .tabled)
 
   pub most-bytes : length p ≤ 4096
   most-bytes = h .limits .most
@@ -95,12 +101,12 @@ module _ {p : List ℕ} {words : ℕ} {results : List ℕ} (h : Patterned p word
   root-same (app f ts) e = refl
 
   -- The root in a copy of the pattern.
-  module _ {bytes : ℕ} (size : bytes ≡ length entryBytes) (some-bytes : bytes ≡ 0 → ⊥) {copy : List ℕ} (c : CopyOf p copy)
-      (before : List ℕ) (room : bytes ≤ length before) where
+  module _ (copy : List ℕ) {copied : List ℕ} (c : copied ≡ take (length p) p ++ drop (length p) copy) (size : length copied ≤ mostBytes) (before : List ℕ)
+      (room : (0 < length entryBytes) × (length entryBytes ≤ length before)) where
     closed : isOpen t ≡ false
-    closed = not-open t (λ e. some-bytes (size ∙ e))
+    closed = not-open t (λ e. let k = room .0 in omega arith)
 
-    pub root-term : TermAt copy 1 words results 32 (length before)
+    pub root-term : TermAt copied 1 words results 32 (length before)
     root-term = record {
       vocabulary = W;
       front = s ∷ [];
@@ -109,18 +115,17 @@ module _ {p : List ℕ} {words : ℕ} {results : List ℕ} (h : Patterned p word
       rest = drop (length p) copy;
       inOrder = h .inOrder;
       tabled = h .tabled;
-      size = c .size;
+      size = size;
       begins = refl;
       sorted = h .good .sorted .sorted;
       closed = closed;
       stands =
-          sym (take-append-drop (length p) copy)
-          ∙ ap (λ l. l ++ drop (length p) copy) (c .same ∙ h .written ∙ ap (λ l. s ∷ l) (root-same t closed));
+          c ∙ ap (λ l. l ++ drop (length p) copy) (take-length p ∙ h .written ∙ ap (λ l. s ∷ l) (root-same t closed));
       deep = omega (arith, h .limits .levels, le-max-right 1 (levels t));
-      fits = omega (arith, ap length (entries-bytes W s t));
+      fits = let k = room .1 in omega (arith, ap length (entries-bytes W s t));
     }
 
-    pub root-listed : {copied after : List ℕ} {end n : ℕ} → TermListed root-term copied before after end n →
+    pub root-listed : {copied′ after : List ℕ} {end n : ℕ} → TermListed root-term copied′ before after end n →
         after ≡ entryBytes ++ drop (length entryBytes) before
     unfolding root-term
     root-listed l = l .written .same ∙ ap (λ b. b ++ drop (length b) before) (sym (entries-bytes W s t))
@@ -135,8 +140,9 @@ module _ {p : List ℕ} {words : ℕ} {results : List ℕ} (h : Patterned p word
         shows-written before entryCount entryBytes entries bytes (count-is m) (size-is m) k
         (sym (ap (λ b. b ++ drop (length b) before) (nothing entryBytes (sym (size-is m) ∙ e))))
 
-    pub linear-written : (k : bytes ≤ length before) (e : bytes ≡ 0 → ⊥) {copy : List ℕ} (c : CopyOf p copy) {copied after : List ℕ} {end n : ℕ} →
-        TermListed (root-term (size-is m) e c before k) copied before after end n →
+    pub linear-room : bytes ≤ length before → (bytes ≡ 0 → ⊥) → (0 < length entryBytes) × (length entryBytes ≤ length before)
+    linear-room k e = (omega (arith, size-is m), omega (arith, size-is m))
+
+    pub linear-written : bytes ≤ length before → {after : List ℕ} → after ≡ entryBytes ++ drop (length entryBytes) before →
         Shows (listedInto before entryCount entryBytes) (accepted (entries ∷ bytes ∷ [])) after
-    linear-written k e c l =
-        shows-written before entryCount entryBytes entries bytes (count-is m) (size-is m) k (root-listed (size-is m) e c before k l)
+    linear-written k = shows-written before entryCount entryBytes entries bytes (count-is m) (size-is m) k

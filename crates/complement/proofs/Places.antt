@@ -1,7 +1,7 @@
--- Places: what list_places does at a bit: where none stands from it on, at one that is clear, and at one that stands.
+-- Places: how far list_places has come before a bit: at the start, behind a bit that is clear, behind one that stands, and at the end.
 use mathlib.Core.Path.{_≡_, refl, sym, ap, ap₂, _∙_, subst}
 use mathlib.Core.Bool.{Bool, true, false, true≢false}
-use mathlib.Core.List.{List, [], _∷_, _++_, append-assoc}
+use mathlib.Core.List.{List, [], _∷_, _++_, append-nil, append-assoc}
 use Prim.Native.Nat.{ℕ, zero, suc, _+_, _-_, _/_, _%_, _^_, _<_, _≤_, max}
 use native.Mathlib.Nat.{le-max-left, le-max-right, pow-suc, div-div-eq-div-mul}
 use native.Mathlib.Numerals.{add-one}
@@ -11,7 +11,7 @@ use lib.ListN.{length, drop, set, length-append, length-set}
 use borrow.Author.Tests.{ltb-true, ltb-false}
 use Rattle.terms.specs.Lists.{All}
 use Rattle.terms.specs.Term.{Term, Terms, nil, cons}
-use Rattle.wire.specs.Map.{mapBits, writeMap, flags}
+use Rattle.wire.specs.Map.{mapBits, mapBytes, writeMap, flags}
 use Rattle.wire.specs.Vocabulary.{Vocabulary}
 use Rattle.wire.specs.Written.{encodeAt, encodeAll, levels, levelsAll}
 use Rattle.wire.proofs.EntryBytes.{spots, spotsBytes, spots-bytes-append}
@@ -56,8 +56,10 @@ spots-none W f m front [] b body ts a = refl
 spots-none W f m front (false ∷ ws) b body ts a = spots-none W f m front ws (suc b) body ts (a .1)
 spots-none W f m front (true ∷ ws) b body ts a = absurd (true≢false (a .0))
 
--- Where some bit stands from b on, b is a bit: n is the number of the bits from there on.
-pub low-bit : {m b n : ℕ} → m < 256 → b ≤ mapBits → n ≡ m / 2 ^ b → (n ≡ 0 → ⊥) → b < mapBits
+-- ---- the bits of the map
+
+-- n is the number of the bits from b on: where it is not 0, b is a bit.
+low-bit : {m b n : ℕ} → m < 256 → b ≤ mapBits → n ≡ m / 2 ^ b → (n ≡ 0 → ⊥) → b < mapBits
 low-bit {m} {b} {n} small h e some-bit = go (ltb b mapBits) refl
   where
     go : (c : Bool) → ltb b mapBits ≡ c → b < mapBits
@@ -66,224 +68,234 @@ low-bit {m} {b} {n} small h e some-bit = go (ltb b mapBits) refl
         let last : b ≡ mapBits = omega (arith, ltb-false b mapBits k) in
         absurd (some-bit (e ∙ ap (λ i. m / 2 ^ i) last ∙ omega arith))
 
--- A bit that is clear, and one that stands, where k is the map up to it.
-pub record Clear (m b : ℕ) : Type 0 where
-  pub low : b < mapBits
-  pub bit : m / 2 ^ b % 2 ≡ 0
+halved : (m b : ℕ) → m / 2 ^ b / 2 ≡ m / 2 ^ (b + 1)
+halved m b = div-div-eq-div-mul m (2 ^ b) 2 ∙ ap (λ k. m / k) (sym (pow-suc 2 b)) ∙ ap (λ i. m / 2 ^ i) (sym (add-one b))
 
-pub record Standing (m b k : ℕ) : Type 0 where
-  pub low : b < mapBits
-  pub bit : m / 2 ^ b % 2 ≡ 1
-  pub keeps : k ≡ m % 2 ^ suc b
+bit-at : (m b x : ℕ) → b < mapBits → m / 2 ^ b % 2 ≡ x → drop b (flags m) ≡ eqb x 1 ∷ drop (b + 1) (flags m)
+bit-at m b x h e = flags-at b m h ∙ ap₂ (λ x i. eqb x 1 ∷ drop i (flags m)) e (sym (add-one b))
 
-module _ {m b n : ℕ} (small : m < 256) (h : b ≤ mapBits) (e : n ≡ m / 2 ^ b) (some-bit : n ≡ 0 → ⊥) where
-  pub clear : n % 2 ≡ 0 → Clear m b
-  clear z = record { low = low-bit small h e some-bit; bit = ap (λ n. n % 2) (sym e) ∙ z }
+-- ---- the loop
 
-  pub standing : {k : ℕ} → (n % 2 ≡ 0 → ⊥) → k ≡ m % 2 ^ suc b → Standing m b k
-  standing z keeps = record {
-    low = low-bit small h e some-bit;
-    bit = ap (λ n. n % 2) (sym e) ∙ (let one : n % 2 ≡ 1 = omega arith in one);
-    keeps = keeps;
-  }
+-- The word's map stands inside the copy.
+pub map-inside : {copy : List ℕ} {at map words : ℕ} {results : List ℕ} {left room : ℕ} → PlacesAt copy at map words results left room → at + 1 < length copy
+map-inside {copy} {at} {map} h =
+    let l : List ℕ = h .symbol ∷ (writeMap map ++ (encodeAll (h .vocabulary) (h .terms) ++ h .rest)) in
+    omega (arith, ap length (h .stands), length-append (h .front) l, h .begins)
 
-clear-bit : {m b : ℕ} → Clear m b → drop b (flags m) ≡ false ∷ drop (b + 1) (flags m)
-clear-bit {m} {b} c = flags-at b m (c .low) ∙ ap₂ (λ x i. eqb x 1 ∷ drop i (flags m)) (c .bit) (sym (add-one b))
-
-standing-bit : {m b k : ℕ} → Standing m b k → drop b (flags m) ≡ true ∷ drop (b + 1) (flags m)
-standing-bit {m} {b} s = flags-at b m (s .low) ∙ ap₂ (λ x i. eqb x 1 ∷ drop i (flags m)) (s .bit) (sym (add-one b))
-
-module _ {copy : List ℕ} {at map b next words : ℕ} {results : List ℕ} {left room : ℕ} (h : PlacesAt copy at map b next words results left room) where
+module _ {copy : List ℕ} {at map words : ℕ} {results : List ℕ} {left : ℕ} (before : List ℕ) (h : PlacesAt copy at map words results left (length before)) where
   abbrev W : Vocabulary
   W = h .vocabulary
-
-  abbrev front : List ℕ
-  front = h .front
 
   abbrev f : ℕ
   f = h .symbol
 
-  -- The word's map stands inside the copy.
-  pub map-inside : at + 1 < 4096
-  map-inside =
-      let r : List ℕ = h .body ++ (encodeAll W (h .terms) ++ h .rest) in
-      omega (arith, ap length (h .stands), length-append front (f ∷ (writeMap (h .current) ++ r)), h .size, h .begins)
+  abbrev from : List Bool → ℕ → List ℕ → Terms → List ℕ
+  from ws b body ts = spotsBytes W (bitSpots W f map (h .front) ws b body ts)
 
-  pub patched : (k : ℕ) → set copy (at + 1) k ≡ front ++ (f ∷ (writeMap k ++ (h .body ++ (encodeAll W (h .terms) ++ h .rest))))
-  patched k =
-      ap₂ (λ l i. set l (i + 1) k) (h .stands) (sym (h .begins))
-      ∙ copy-patched front f (h .current) k (h .body ++ (encodeAll W (h .terms) ++ h .rest))
+  abbrev kept-up-to : ℕ → List ℕ
+  kept-up-to k = h .front ++ (f ∷ (writeMap k ++ (encodeAll W (h .terms) ++ h .rest)))
 
-  -- No bit stands from b on.
-  pub places-done : {n : ℕ} → n ≡ map / 2 ^ b → n ≡ 0 → (before : List ℕ) → PlacesListed h (set copy (at + 1) map) before before next 0
-  places-done e z before =
-      let bits = h .bits in
-      let off = none-above (mapBits - b) b map (omega arith) (sym e ∙ z) in
-      let none : h .terms ≡ nil = terms-none W (drop b (flags map)) (h .terms) off (h .due) in
-      record {
-        passed = let e : length (encodeAll W (h .terms)) ≡ 0 = ap (λ ts. length (encodeAll W ts)) none in omega arith;
-        restored = patched map;
-        written =
-            subst (λ l. Written (spotsBytes W l) before 0 before)
-            (sym (spots-none W f map front (drop b (flags map)) b (h .body) (h .terms) off)) (written-none before);
-      }
+  -- The terms below bit b have the bytes body, and their entries are written: done. The word's map is kept up to some bit.
+  pub record Reached (b next n bits : ℕ) (copied out : List ℕ) : Type 0 where
+    pub current : ℕ
+    pub body : List ℕ
+    pub terms : Terms
+    pub done : List ℕ
+    pub low : b ≤ mapBits
+    pub shifted : bits ≡ map / 2 ^ b
+    pub whole : body ++ encodeAll W terms ≡ encodeAll W (h .terms)
+    pub stands : copied ≡ kept-up-to current
+    pub offset : next ≡ at + 1 + mapBytes + length body
+    pub due : Stands W (drop b (flags map)) terms
+    pub deep : suc (levelsAll terms) ≤ left
+    pub bytes : from (flags map) 0 [] (h .terms) ≡ done ++ from (drop b (flags map)) b body terms
+    pub written : Written done before n out
 
-  -- A bit that is clear.
-  module _ (c : Clear map b) where
-    clear-bytes : spotsBytes W (bitSpots W f map front (drop b (flags map)) b (h .body) (h .terms))
-        ≡ spotsBytes W (bitSpots W f map front (drop (b + 1) (flags map)) (b + 1) (h .body) (h .terms))
-    clear-bytes =
-        ap (λ ws. spotsBytes W (bitSpots W f map front ws b (h .body) (h .terms))) (clear-bit c)
-        ∙ ap (λ i. spotsBytes W (bitSpots W f map front (drop (b + 1) (flags map)) i (h .body) (h .terms))) (sym (add-one b))
-
-    pub clear-next : PlacesAt copy at map (b + 1) next words results left room
-    clear-next = record {
-      vocabulary = W;
-      front = front;
-      symbol = f;
-      current = h .current;
-      body = h .body;
-      terms = h .terms;
-      rest = h .rest;
-      inOrder = h .inOrder;
-      tabled = h .tabled;
-      size = h .size;
-      begins = h .begins;
-      stands = h .stands;
-      offset = h .offset;
-      bits = let z = c .low in omega arith;
-      due = subst (λ ws. Stands W ws (h .terms)) (clear-bit c) (h .due);
-      deep = h .deep;
-      fits = subst (λ bytes. length bytes ≤ room) clear-bytes (h .fits);
-    }
-
-    pub clear-listed : {copied before after : List ℕ} {end n : ℕ} → PlacesListed clear-next copied before after end n →
-        PlacesListed h copied before after end n
-    unfolding clear-next
-    clear-listed {copied} {before} {after} {end} {n} l = record {
-      passed = l .passed;
-      restored = l .restored;
-      written = subst (λ bytes. Written bytes before n after) (sym clear-bytes) (l .written);
-    }
-
--- A bit that stands.
-module _ {copy : List ℕ} {at map b next words : ℕ} {results : List ℕ} {left : ℕ} (before : List ℕ)
-    (h : PlacesAt copy at map b next words results left (length before)) {k : ℕ} (s : Standing map b k) where
-  abbrev U : Vocabulary
-  U = h .vocabulary
-
-  abbrev g : ℕ
-  g = h .symbol
-
-  abbrev ws : List Bool
-  ws = drop (b + 1) (flags map)
-
-  split : First (h .terms)
-  split = first-of U ws (h .terms) (subst (λ ws. Stands U ws (h .terms)) (standing-bit s) (h .due))
-
-  abbrev t : Term
-  t = split .term
-
-  abbrev us : Terms
-  us = split .others
-
-  here : Stands U (true ∷ ws) (cons t us)
-  here = subst (Stands U (true ∷ ws)) (split .same) (subst (λ ws. Stands U ws (h .terms)) (standing-bit s) (h .due))
-
-  abbrev next-front : List ℕ
-  next-front = h .front ++ (g ∷ (writeMap k ++ h .body))
-
-  abbrev first-bytes : List ℕ
-  first-bytes = spotsBytes U (spots U t next-front)
-
-  abbrev other-bytes : List ℕ
-  other-bytes = spotsBytes U (bitSpots U g map (h .front) ws (b + 1) (h .body ++ encodeAt U t) us)
-
-  -- The entries of the term at this bit, and then those above.
-  all-bytes : spotsBytes U (bitSpots U g map (h .front) (drop b (flags map)) b (h .body) (h .terms)) ≡ first-bytes ++ other-bytes
-  all-bytes =
-      ap₂ (λ ws ts. spotsBytes U (bitSpots U g map (h .front) ws b (h .body) ts)) (standing-bit s) (split .same)
-      ∙ ap (λ k. spotsBytes U (spots U t (h .front ++ (g ∷ (writeMap k ++ h .body))) ++ bitSpots U g map (h .front) ws (suc b) (h .body ++ encodeAt U t) us))
-      (sym (s .keeps))
-      ∙ spots-bytes-append U (spots U t next-front) (bitSpots U g map (h .front) ws (suc b) (h .body ++ encodeAt U t) us)
-      ∙ ap (λ i. first-bytes ++ spotsBytes U (bitSpots U g map (h .front) ws i (h .body ++ encodeAt U t) us)) (sym (add-one b))
-
-  room-both : length first-bytes + length other-bytes ≤ length before
-  room-both = let fits = h .fits in omega (arith, ap length all-bytes, length-append first-bytes other-bytes)
-
-  kept-copy : set copy (at + 1) k ≡ h .front ++ (g ∷ (writeMap k ++ (h .body ++ ((encodeAt U t ++ encodeAll U us) ++ h .rest))))
-  kept-copy =
-      patched h k ∙ ap (λ ts. h .front ++ (g ∷ (writeMap k ++ (h .body ++ (encodeAll U ts ++ h .rest))))) (split .same)
-
-  deep-both : suc (max (levels t) (levelsAll us)) ≤ left
-  deep-both = subst (λ ts. suc (levelsAll ts) ≤ left) (split .same) (h .deep)
-
-  -- The term at this bit, in the copy whose map is kept up to it.
-  pub place-term : TermAt (set copy (at + 1) k) next words results (left - 1) (length before)
-  place-term = record {
-    vocabulary = U;
-    front = next-front;
-    term = t;
-    kind = here .0 .0;
-    rest = encodeAll U us ++ h .rest;
-    inOrder = h .inOrder;
-    tabled = h .tabled;
-    size = length-set copy (at + 1) k ∙ h .size;
-    begins = omega (arith, length-append (h .front) (g ∷ (writeMap k ++ h .body)), h .begins, h .offset);
-    sorted = here .0 .1;
-    closed = here .1;
-    stands = kept-copy ∙ simp append-assoc;
-    deep = let d = deep-both in omega (arith, le-max-left (levels t) (levelsAll us));
-    fits = omega (arith, room-both);
+  pub reached-none : {bits : ℕ} → bits ≡ map → Reached 0 (at + 2) 0 bits copy before
+  reached-none {bits} e = record {
+    current = map;
+    body = [];
+    terms = h .terms;
+    done = [];
+    low = omega arith;
+    shifted = e ∙ (let z : map ≡ map / 2 ^ 0 = omega arith in z);
+    whole = refl;
+    stands = h .stands;
+    offset = omega arith;
+    due = h .due;
+    deep = h .deep;
+    bytes = refl;
+    written = written-none before;
   }
 
-  module _ {copied after : List ℕ} {end n : ℕ} (l : TermListed place-term copied before after end n) where
-    first-room : length first-bytes ≤ length before
-    first-room = omega (arith, room-both)
+  module _ {b next n bits : ℕ} {copied out : List ℕ} (r : Reached b next n bits copied out) where
+    set-map : (k : ℕ) → set copied (at + 1) k ≡ kept-up-to k
+    set-map k =
+        ap₂ (λ l i. set l (i + 1) k) (r .stands) (sym (h .begins))
+        ∙ copy-patched (h .front) f (r .current) k (encodeAll W (h .terms) ++ h .rest)
 
-    pub first-inside : n ≤ length after
-    unfolding place-term
-    first-inside = omega (arith, l .written .count, first-room, written-length (l .written) first-room)
+    pub copied-length : length copied ≡ length copy
+    copied-length =
+        let l : ℕ → List ℕ = λ k. f ∷ (writeMap k ++ (encodeAll W (h .terms) ++ h .rest)) in
+        omega (arith, ap length (r .stands), ap length (h .stands), length-append (h .front) (l (r .current)), length-append (h .front) (l map))
 
-    -- The bits above, in the part of the lent slice behind what is written.
-    pub places-next : PlacesAt copied at map (b + 1) end words results left (length (part n after))
-    unfolding place-term
-    places-next = record {
-      vocabulary = U;
-      front = h .front;
-      symbol = g;
-      current = k;
-      body = h .body ++ encodeAt U t;
-      terms = us;
-      rest = h .rest;
-      inOrder = h .inOrder;
-      tabled = h .tabled;
-      size = ap length (l .restored) ∙ length-set copy (at + 1) k ∙ h .size;
-      begins = h .begins;
-      stands = l .restored ∙ kept-copy ∙ simp append-assoc;
-      offset = omega (arith, l .passed, h .offset, length-append (h .body) (encodeAt U t));
-      bits = let z = s .low in omega arith;
-      due = here .2;
-      deep = let d = deep-both in omega (arith, le-max-right (levels t) (levelsAll us));
-      fits = omega (arith, room-both, part-room (l .written) first-room);
-    }
+    abbrev to-do : List ℕ
+    to-do = from (drop b (flags map)) b (r .body) (r .terms)
 
-    again : (h .body ++ encodeAt U t) ++ (encodeAll U us ++ h .rest) ≡ h .body ++ ((encodeAt U t ++ encodeAll U us) ++ h .rest)
-    again = simp append-assoc
+    room-both : length (r .done) + length to-do ≤ length before
+    room-both = let fits = h .fits in omega (arith, ap length (r .bytes), length-append (r .done) to-do)
 
-    pub places-listed : {copied′ ys : List ℕ} {end′ n′ : ℕ} → PlacesListed places-next copied′ (part n after) ys end′ n′ →
-        PlacesListed h copied′ before (back n after ys) end′ (n + n′)
-    unfolding place-term places-next
-    places-listed {copied′} {ys} {end′} {n′} m = record {
-      passed =
-          omega (arith, m .passed, l .passed, ap (λ ts. length (encodeAll U ts)) (split .same), length-append (encodeAt U t) (encodeAll U us));
-      restored =
-          m .restored
-          ∙ ap (λ l. h .front ++ (g ∷ (writeMap map ++ l))) again
-          ∙ ap (λ ts. h .front ++ (g ∷ (writeMap map ++ (h .body ++ (encodeAll U ts ++ h .rest))))) (sym (split .same));
-      written =
-          subst (λ bytes. Written bytes before (n + n′) (back n after ys)) (sym all-bytes) (written-more (l .written) first-room (m .written));
-    }
+    room-done : length (r .done) ≤ length before
+    room-done = omega (arith, room-both)
 
-    pub both-inside : {copied′ ys : List ℕ} {end′ n′ : ℕ} → PlacesListed places-next copied′ (part n after) ys end′ n′ → n + n′ ≤ length before
-    both-inside m = let fits = h .fits in omega (arith, places-listed m .written .count)
+    pub out-length : length out ≡ length before
+    out-length = written-length (r .written) room-done
+
+    pub done-inside : n ≤ length out
+    done-inside = omega (arith, r .written .count, room-done, out-length)
+
+    -- No bit stands from b on.
+    pub reached-all : bits ≡ 0 → PlacesListed h (set copied (at + 1) map) before out next n
+    reached-all z =
+        let low = r .low in
+        let off = none-above (mapBits - b) b map (omega arith) (sym (r .shifted) ∙ z) in
+        let none : r .terms ≡ nil = terms-none W (drop b (flags map)) (r .terms) off (r .due) in
+        let body-is : r .body ≡ encodeAll W (h .terms) =
+        sym (append-nil (r .body)) ∙ ap (λ ts. r .body ++ encodeAll W ts) (sym none) ∙ r .whole in
+        let all-done : from (flags map) 0 [] (h .terms) ≡ r .done =
+        r .bytes
+        ∙ ap (λ l. r .done ++ spotsBytes W l) (spots-none W f map (h .front) (drop b (flags map)) b (r .body) (r .terms) off)
+        ∙ append-nil (r .done) in
+        record {
+          passed = omega (arith, r .offset, ap length body-is);
+          restored = set-map map ∙ sym (h .stands);
+          written = subst (λ bytes. Written bytes before n out) (sym all-done) (r .written);
+        }
+
+    -- Bit b is clear, or it stands.
+    module _ (small : map < 256) (some-bit : bits ≡ 0 → ⊥) where
+      pub is-bit : b < mapBits
+      is-bit = low-bit small (r .low) (r .shifted) some-bit
+
+      shifted-next : bits / 2 ≡ map / 2 ^ (b + 1)
+      shifted-next = ap (λ n. n / 2) (r .shifted) ∙ halved map b
+
+      pub reached-clear : (bits % 2 ≡ 1 → ⊥) → Reached (b + 1) next n (bits / 2) copied out
+      reached-clear e =
+          let clear = bit-at map b 0 is-bit (ap (λ n. n % 2) (sym (r .shifted)) ∙ (let z : bits % 2 ≡ 0 = omega arith in z)) in
+          record {
+            current = r .current;
+            body = r .body;
+            terms = r .terms;
+            done = r .done;
+            low = omega (arith, is-bit);
+            shifted = shifted-next;
+            whole = r .whole;
+            stands = r .stands;
+            offset = r .offset;
+            due = subst (λ ws. Stands W ws (r .terms)) clear (r .due);
+            deep = r .deep;
+            bytes =
+                r .bytes
+                ∙ ap (λ ws. r .done ++ from ws b (r .body) (r .terms)) clear
+                ∙ ap (λ i. r .done ++ from (drop (b + 1) (flags map)) i (r .body) (r .terms)) (sym (add-one b));
+            written = r .written;
+          }
+
+      module _ {k : ℕ} (one : bits % 2 ≡ 1) (keeps : k ≡ map % 2 ^ suc b) where
+        abbrev ws : List Bool
+        ws = drop (b + 1) (flags map)
+
+        stands-here : drop b (flags map) ≡ true ∷ ws
+        stands-here = bit-at map b 1 is-bit (ap (λ n. n % 2) (sym (r .shifted)) ∙ one)
+
+        split : First (r .terms)
+        split = first-of W ws (r .terms) (subst (λ ws. Stands W ws (r .terms)) stands-here (r .due))
+
+        abbrev t : Term
+        t = split .term
+
+        abbrev us : Terms
+        us = split .others
+
+        here : Stands W (true ∷ ws) (cons t us)
+        here = subst (Stands W (true ∷ ws)) (split .same) (subst (λ ws. Stands W ws (r .terms)) stands-here (r .due))
+
+        abbrev next-front : List ℕ
+        next-front = h .front ++ (f ∷ (writeMap k ++ r .body))
+
+        abbrev term-bytes : List ℕ
+        term-bytes = spotsBytes W (spots W t next-front)
+
+        abbrev other-bytes : List ℕ
+        other-bytes = from ws (b + 1) (r .body ++ encodeAt W t) us
+
+        -- The entries of the term at this bit, and then those above.
+        both-bytes : to-do ≡ term-bytes ++ other-bytes
+        both-bytes =
+            ap₂ (λ ws ts. from ws b (r .body) ts) stands-here (split .same)
+            ∙ ap (λ k. spotsBytes W (spots W t (h .front ++ (f ∷ (writeMap k ++ r .body))) ++ bitSpots W f map (h .front) ws (suc b) (r .body ++ encodeAt W t) us))
+            (sym keeps)
+            ∙ spots-bytes-append W (spots W t next-front) (bitSpots W f map (h .front) ws (suc b) (r .body ++ encodeAt W t) us)
+            ∙ ap (λ i. term-bytes ++ from ws i (r .body ++ encodeAt W t) us) (sym (add-one b))
+
+        room-here : length term-bytes ≤ length (part n out)
+        room-here =
+            omega (arith, room-both, ap length both-bytes, length-append term-bytes other-bytes, part-room (r .written) room-done)
+
+        whole-here : r .body ++ (encodeAt W t ++ encodeAll W us) ≡ encodeAll W (h .terms)
+        whole-here = ap (λ ts. r .body ++ encodeAll W ts) (sym (split .same)) ∙ r .whole
+
+        deep-both : suc (max (levels t) (levelsAll us)) ≤ left
+        deep-both = subst (λ ts. suc (levelsAll ts) ≤ left) (split .same) (r .deep)
+
+        -- The term at this bit, in the copy whose map is kept up to it.
+        pub place-term : TermAt (set copied (at + 1) k) next words results (left - 1) (length (part n out))
+        place-term = record {
+          vocabulary = W;
+          front = next-front;
+          term = t;
+          kind = here .0 .0;
+          rest = encodeAll W us ++ h .rest;
+          inOrder = h .inOrder;
+          tabled = h .tabled;
+          size = omega (arith, length-set copied (at + 1) k, copied-length, h .size);
+          begins = omega (arith, length-append (h .front) (f ∷ (writeMap k ++ r .body)), h .begins, r .offset);
+          sorted = here .0 .1;
+          closed = here .1;
+          stands =
+              set-map k
+              ∙ ap (λ l. h .front ++ (f ∷ (writeMap k ++ (l ++ h .rest)))) (sym whole-here)
+              ∙ simp append-assoc;
+          deep = let d = deep-both in omega (arith, le-max-left (levels t) (levelsAll us));
+          fits = room-here;
+        }
+
+        module _ {copied′ ys : List ℕ} {end m : ℕ} (l : TermListed place-term copied′ (part n out) ys end m) where
+          pub reached-term : Reached (b + 1) end (n + m) (bits / 2) copied′ (back n out ys)
+          unfolding place-term
+          reached-term = record {
+            current = k;
+            body = r .body ++ encodeAt W t;
+            terms = us;
+            done = r .done ++ term-bytes;
+            low = omega (arith, is-bit);
+            shifted = shifted-next;
+            whole = append-assoc (r .body) (encodeAt W t) (encodeAll W us) ∙ whole-here;
+            stands = l .restored ∙ set-map k;
+            offset = omega (arith, l .passed, r .offset, length-append (r .body) (encodeAt W t));
+            due = here .2;
+            deep = let d = deep-both in omega (arith, le-max-right (levels t) (levelsAll us));
+            bytes = r .bytes ∙ ap (λ l. r .done ++ l) both-bytes ∙ sym (append-assoc (r .done) term-bytes other-bytes);
+            written = written-more (r .written) room-done (l .written);
+          }
+
+          pub both-inside : n + m ≤ length before
+          unfolding place-term
+          both-inside = omega (arith, l .written .count, r .written .count, room-here, part-room (r .written) room-done, room-done)
+
+  -- A word with no written bit.
+  pub places-none : map ≡ 0 → PlacesListed h copy before before (at + 2) 0
+  places-none e =
+      let p = reached-all (reached-none {bits = map} refl) e in
+      record { passed = p .passed; restored = refl; written = p .written }

@@ -1,97 +1,78 @@
 -- Siblings: the entries that differ at one word, written one by one.
 use mathlib.Core.Path.{_≡_, refl, sym, ap, _∙_, subst}
-use mathlib.Core.Bool.{true, false}
 use mathlib.Core.List.{List, [], _∷_, _++_, append-nil, append-assoc}
-use Prim.Native.Nat.{ℕ, _+_, _*_, _<_, _≤_}
-use native.Mathlib.Nat.{mul-le-mul-right}
+use Prim.Native.Nat.{ℕ, _+_, _≤_}
 use native.Mathlib.Omega.{arith}
 use lib.ListN.{length, drop, length-append}
-use Rattle.wire.specs.Map.{mapBytes, writeMap}
+use Rattle.wire.specs.Map.{writeMap}
 use Rattle.wire.proofs.EntryBytes.{othersBytes}
-use Rattle.wire.proofs.EntrySizes.{others-length}
-use Rattle.complement.specs.Listing.{isOther, othersIn, Written}
-use Rattle.complement.proofs.Others.{others-taken, others-left, others-grow}
+use Rattle.complement.specs.Listing.{Written}
 use Rattle.complement.proofs.Writing.{part, back, part-room, written-more, written-none, written-length}
 
-pub others-bytes-append : (front l m : List ℕ) → othersBytes front (l ++ m) ≡ othersBytes front l ++ othersBytes front m
+others-bytes-append : (front l m : List ℕ) → othersBytes front (l ++ m) ≡ othersBytes front l ++ othersBytes front m
 others-bytes-append front [] m = refl
 others-bytes-append front (h ∷ l) m =
     ap (λ z. (front ++ (h ∷ writeMap 0)) ++ z) (others-bytes-append front l m)
     ∙ sym (append-assoc (front ++ (h ∷ writeMap 0)) (othersBytes front l) (othersBytes front m))
 
-module _ (front : List ℕ) (words : ℕ) (results : List ℕ) (f : ℕ) where
-  abbrev pub upTo : ℕ → List ℕ
-  upTo h = othersBytes front (othersIn h results f)
-
-  pub up-to-fits : (h : ℕ) → h ≤ words → length (upTo h) ≤ length (upTo words)
-  up-to-fits h k =
-      let n : ℕ = length front + 1 + mapBytes in
-      let more : length (othersIn h results f) * n ≤ length (othersIn words results f) * n = mul-le-mul-right n (others-grow results f h words k) in
-      omega (arith, others-length front (othersIn h results f), others-length front (othersIn words results f))
-
-  up-to-taken : (h : ℕ) → isOther results f h ≡ true → upTo (h + 1) ≡ upTo h ++ (front ++ (h ∷ writeMap 0))
-  up-to-taken h e =
-      ap (othersBytes front) (others-taken results f h e)
-      ∙ others-bytes-append front (othersIn h results f) (h ∷ [])
-      ∙ ap (λ l. upTo h ++ l) (append-nil (front ++ (h ∷ writeMap 0)))
-
+module _ (front all : List ℕ) where
   entry-length : (h : ℕ) → length (front ++ (h ∷ writeMap 0)) ≡ length front + 2
   entry-length h = length-append front (h ∷ writeMap 0)
 
-  pub entry-fits : (h : ℕ) → h < words → isOther results f h ≡ true → length (upTo h) + (length front + 2) ≤ length (upTo words)
-  entry-fits h k e =
-      let here : length (upTo (h + 1)) ≡ length (upTo h) + length (front ++ (h ∷ writeMap 0)) =
-      ap length (up-to-taken h e) ∙ length-append (upTo h) (front ++ (h ∷ writeMap 0)) in
-      omega (arith, up-to-fits (h + 1) (omega arith), entry-length h)
+  split-length : (done left : List ℕ) → all ≡ done ++ left →
+      length (othersBytes front all) ≡ length (othersBytes front done) + length (othersBytes front left)
+  split-length done left e =
+      ap (λ l. length (othersBytes front l)) e
+      ∙ ap length (others-bytes-append front done left)
+      ∙ length-append (othersBytes front done) (othersBytes front left)
 
-  -- The words before h have their entries.
-  pub record Listed (before : List ℕ) (h n : ℕ) (out : List ℕ) : Type 0 where
-    pub below : h ≤ words
+  -- All words but those that are left have their entries.
+  pub record Listed (before left : List ℕ) (n : ℕ) (out : List ℕ) : Type 0 where
+    pub done : List ℕ
+    pub split : all ≡ done ++ left
     pub size : length out ≡ length before
     pub inside : n ≤ length before
-    pub written : Written (upTo h) before n out
+    pub written : Written (othersBytes front done) before n out
 
-  module _ {before : List ℕ} (room : length (upTo words) ≤ length before) where
-    listed-of : (h n : ℕ) (out : List ℕ) → h ≤ words → Written (upTo h) before n out → Listed before h n out
-    listed-of h n out k w =
-        let small = up-to-fits h k in
+  module _ {before : List ℕ} (room : length (othersBytes front all) ≤ length before) where
+    listed-of : (done left : List ℕ) → all ≡ done ++ left → (n : ℕ) (out : List ℕ) → Written (othersBytes front done) before n out →
+        Listed before left n out
+    listed-of done left e n out w =
+        let fits = split-length done left e in
         record {
-          below = k;
+          done = done;
+          split = e;
           size = written-length w (omega arith);
           inside = let c = w .count in omega arith;
           written = w;
         }
 
-    pub listed-none : Listed before 0 0 before
-    listed-none = listed-of 0 0 before (omega arith) (written-none before)
+    pub listed-none : Listed before all 0 before
+    listed-none = listed-of [] all refl 0 before (written-none before)
 
     -- The next entry has room in the part that is left.
-    pub listed-room : {at : ℕ} → length front ≡ at → {out : List ℕ} {h n : ℕ} → Listed before h n out → h < words → isOther results f h ≡ true →
-        (n + at + 2 ≤ length before) × (at + 2 ≤ length (part n out))
-    listed-room {at} begins {out} {h} {n} l k e =
-        let fits = entry-fits h k e in
-        let count = l .written .count in
-        (omega arith, omega (arith, part-room (l .written) (let z : length (upTo h) ≤ length before = omega arith in z)))
+    pub listed-room : {at : ℕ} → length front ≡ at → {left out : List ℕ} {h n : ℕ} → Listed before (h ∷ left) n out →
+        at + 2 ≤ length (part n out)
+    listed-room begins {left} {out} {h} {n} l =
+        let fits = split-length (l .done) (h ∷ left) (l .split) in
+        let long = length-append (front ++ (h ∷ writeMap 0)) (othersBytes front left) in
+        omega (arith, entry-length h, part-room (l .written) (let z : length (othersBytes front (l .done)) ≤ length before = omega arith in z))
 
-    pub listed-taken : {at : ℕ} → length front ≡ at → {out ys : List ℕ} {h n : ℕ} → Listed before h n out → h < words →
-        isOther results f h ≡ true → ys ≡ (front ++ (h ∷ writeMap 0)) ++ drop (at + 2) (part n out) →
-        Listed before (h + 1) (n + at + 2) (back n out ys)
-    listed-taken {at} begins {out} {ys} {h} {n} l k e y =
+    pub listed-taken : {at : ℕ} → length front ≡ at → {left out ys : List ℕ} {h n : ℕ} → Listed before (h ∷ left) n out →
+        ys ≡ (front ++ (h ∷ writeMap 0)) ++ drop (at + 2) (part n out) →
+        Listed before left (n + at + 2) (back n out ys)
+    listed-taken {at} begins {left} {out} {ys} {h} {n} l y =
         let entry : List ℕ = front ++ (h ∷ writeMap 0) in
-        let small = up-to-fits h (omega arith) in
+        let fits = split-length (l .done) (h ∷ left) (l .split) in
         let long : at + 2 ≡ length entry = omega (arith, entry-length h) in
         let more : Written entry (part n out) (at + 2) ys = record { count = long; same = y ∙ ap (λ i. entry ++ drop i (part n out)) long } in
-        listed-of (h + 1) (n + at + 2) (back n out ys) (omega arith)
-        (subst (λ b. Written b before (n + at + 2) (back n out ys)) (sym (up-to-taken h e))
-        (subst (λ i. Written (upTo h ++ entry) before i (back n out ys)) (let z : n + (at + 2) ≡ n + at + 2 = omega arith in z)
+        let bytes : othersBytes front (l .done) ++ entry ≡ othersBytes front (l .done ++ (h ∷ [])) =
+        sym (others-bytes-append front (l .done) (h ∷ []) ∙ ap (λ z. othersBytes front (l .done) ++ z) (append-nil entry)) in
+        listed-of (l .done ++ (h ∷ [])) left (l .split ∙ sym (append-assoc (l .done) (h ∷ []) left)) (n + at + 2) (back n out ys)
+        (subst (λ b. Written b before (n + at + 2) (back n out ys)) bytes
+        (subst (λ i. Written (othersBytes front (l .done) ++ entry) before i (back n out ys)) (let z : n + (at + 2) ≡ n + at + 2 = omega arith in z)
         (written-more (l .written) (omega arith) more)))
 
-    pub listed-left : {out : List ℕ} {h n : ℕ} → Listed before h n out → h < words → isOther results f h ≡ false → Listed before (h + 1) n out
-    listed-left {out} {h} {n} l k e =
-        listed-of (h + 1) n out (omega arith)
-        (subst (λ l. Written (othersBytes front l) before n out) (sym (others-left results f h e)) (l .written))
-
-    pub listed-all : {out : List ℕ} {h n : ℕ} → Listed before h n out → words ≤ h → Written (upTo words) before n out
-    listed-all {out} {h} {n} l k =
-        let b = l .below in
-        subst (λ h. Written (upTo h) before n out) (let e : h ≡ words = omega arith in e) (l .written)
+    pub listed-all : {out : List ℕ} {n : ℕ} → Listed before [] n out → Written (othersBytes front all) before n out
+    listed-all {out} {n} l =
+        subst (λ d. Written (othersBytes front d) before n out) (sym (l .split ∙ append-nil (l .done))) (l .written)

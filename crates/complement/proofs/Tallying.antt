@@ -10,7 +10,9 @@ use lib.Seq.{getD-set-same, getD-set-other}
 use borrow.Author.Tests.{eq-eqb, eqb-true, eqb-false}
 use Rattle.terms.specs.Lists.{range, keep}
 use Rattle.terms.proofs.Count.{bit, count, count-append, count-le, count-range, length-range}
-use Rattle.complement.specs.Listing.{isOther, othersIn, hasKind, Tallied}
+use Rattle.wire.specs.Vocabulary.{Vocabulary, InOrder}
+use Rattle.wire.proofs.Words.{word-in-order}
+use Rattle.complement.specs.Listing.{Tabled, KindsFew, isOther, othersIn, hasKind, Tallied}
 use Rattle.complement.proofs.Others.{range-next}
 
 length-keep : (t : ℕ → Bool) (l : List ℕ) → length (keep t l) ≡ count t l
@@ -20,6 +22,15 @@ length-keep t (x ∷ l) = go (t x) (length-keep t l)
     go : (b : Bool) → length (keep t l) ≡ count t l → length {A = ℕ} (cond b (x ∷ keep t l) (keep t l)) ≡ bit b + count t l
     go true e = omega arith
     go false e = omega arith
+
+-- A word's kind, by the tables of a vocabulary in order.
+pub kinds-few : {W : Vocabulary} {n : ℕ} {results : List ℕ} → InOrder W → Tabled W n results → KindsFew n results
+kinds-few {W} inOrder tabled = record {
+  low = λ h l. omega (arith, tabled .result h l, word-in-order W h inOrder (omega (arith, tabled .words)) .result, inOrder .fewKinds);
+}
+
+pub kind-low : {n : ℕ} {results : List ℕ} {f k : ℕ} → KindsFew n results → f < n → k ≡ getD results f 0 → k < 16
+kind-low {f = f} few l e = let z = few .low f l in omega arith
 
 -- ---- the siblings of a word
 
@@ -42,7 +53,7 @@ module _ (results : List ℕ) (f : ℕ) where
       ∙ ap₂ _+_ (count-range f 0 n (omega arith) (omega arith)) (sym (length-keep (isOther results f) (range 0 n)))
 
 -- The tally of the kind of f.
-pub siblings-here : {words : ℕ} {results counts : List ℕ} (f k : ℕ) → Tallied words results counts → f < words → k ≡ getD results f 0 → k < 256 →
+pub siblings-here : {words : ℕ} {results counts : List ℕ} (f k : ℕ) → Tallied words results counts → f < words → k ≡ getD results f 0 → k < 16 →
     getD counts k 0 ≡ 1 + length (othersIn words results f)
 siblings-here {words} {results} {counts} f k t h e low =
     t .each k low ∙ ap (λ k. count (hasKind results k) (range 0 words)) e ∙ siblings-counted results f words h
@@ -53,10 +64,10 @@ others-few n results f =
 
 -- ---- the loop
 
-pub tallied-none : (results : List ℕ) → Tallied 0 results (replicate 256 0)
-tallied-none results = record { size = refl; each = λ k low. getD-replicate 256 k 0 0 low }
+pub tallied-none : (results : List ℕ) → Tallied 0 results (replicate 16 0)
+tallied-none results = record { size = refl; each = λ k low. getD-replicate 16 k 0 0 low }
 
-module _ {results counts : List ℕ} {h : ℕ} (t : Tallied h results counts) (k : ℕ) (same : k ≡ getD results h 0) (low : k < 256) where
+module _ {results counts : List ℕ} {h : ℕ} (t : Tallied h results counts) (k : ℕ) (same : k ≡ getD results h 0) (low : k < 16) where
   abbrev next : List ℕ
   next = set counts k (getD counts k 0 + 1)
 
@@ -64,7 +75,7 @@ module _ {results counts : List ℕ} {h : ℕ} (t : Tallied h results counts) (k
   of-kind-more j =
       ap (count (hasKind results j)) (range-next h) ∙ count-append (hasKind results j) (range 0 h) (h ∷ []) ∙ omega arith
 
-  next-each : (j : ℕ) → j < 256 → (b : Bool) → hasKind results j h ≡ b → getD next j 0 ≡ count (hasKind results j) (range 0 h) + bit b
+  next-each : (j : ℕ) → j < 16 → (b : Bool) → hasKind results j h ≡ b → getD next j 0 ≡ count (hasKind results j) (range 0 h) + bit b
   next-each j small true e =
       let s = t .size in
       let here : j ≡ k = sym (eqb-true (getD results h 0) j e) ∙ sym same in
@@ -80,5 +91,5 @@ module _ {results counts : List ℕ} {h : ℕ} (t : Tallied h results counts) (k
     each = λ j small. next-each j small (hasKind results j h) refl ∙ sym (of-kind-more j);
   }
 
-pub tallied-few : {results counts : List ℕ} {h : ℕ} → Tallied h results counts → (k : ℕ) → k < 256 → getD counts k 0 ≤ h
+pub tallied-few : {results counts : List ℕ} {h : ℕ} → Tallied h results counts → (k : ℕ) → k < 16 → getD counts k 0 ≤ h
 tallied-few {results} {counts} {h} t k low = omega (arith, t .each k low, count-le (hasKind results k) (range 0 h), length-range 0 h)

@@ -18,7 +18,8 @@ use Rattle.wire.proofs.EntryMaps.{closed, closed-bytes, bitSpots, spots-by-bits
 use Rattle.wire.proofs.EntryWalk.{Stands, closed-stands, word-bytes}
 use Rattle.complement.specs.Listing.{othersIn, Written, TermAt, TermListed, PlacesAt, PlacesListed}
 use Rattle.complement.proofs.Others.{others-tabled}
-use Rattle.complement.proofs.Writing.{part, back, part-room, written-none, written-more, written-length}
+use Rattle.complement.proofs.Places.{places-none}
+use Rattle.complement.proofs.Writing.{part, back, back-same, part-room, written-none, written-more, written-length}
 
 -- A term that is no open place is a name or a word.
 data Shape (t : Term) : Type 0 where
@@ -46,11 +47,11 @@ module _ {copy : List ℕ} {at words : ℕ} {results : List ℕ} {left room : �
       ap (λ z. getD z at 0) (h .stands ∙ ap (λ z. h .front ++ (z ++ h .rest)) e)
       ∙ getD-at (h .front) b (l ++ h .rest) 0 at (h .begins)
 
-  longer : (b : ℕ) (l : List ℕ) → encodeAt W (h .term) ≡ b ∷ l → at + suc (length l) ≤ 4096
+  longer : (b : ℕ) (l : List ℕ) → encodeAt W (h .term) ≡ b ∷ l → at + suc (length l) ≤ length copy
   longer b l e =
       let z : length copy ≡ length (h .front) + length ((b ∷ l) ++ h .rest) =
       ap length (h .stands ∙ ap (λ z. h .front ++ (z ++ h .rest)) e) ∙ length-append (h .front) ((b ∷ l) ++ h .rest) in
-      omega (arith, h .size, h .begins, length-append (b ∷ l) (h .rest))
+      omega (arith, h .begins, length-append (b ∷ l) (h .rest))
 
   few-words : words ≤ 96
   few-words = omega (arith, h .tabled .words, h .inOrder .fewWords)
@@ -62,7 +63,7 @@ module _ {copy : List ℕ} {at words : ℕ} {results : List ℕ} {left room : �
 
   -- What the first byte tells.
   pub record Begun : Type 0 where
-    pub inside : at < 4096
+    pub inside : at < length copy
     pub few : words ≤ 96
 
   pub term-begun : Begun
@@ -89,7 +90,7 @@ module _ {copy : List ℕ} {at words : ℕ} {results : List ℕ} {left room : �
     pub terms : Terms
     pub same : h .term ≡ app (getD copy at 0) terms
     pub map : getD copy (at + 1) 0 ≡ writtenMap W (getD copy at 0) terms
-    pub inside : at + 1 < 4096
+    pub inside : at + 1 < length copy
     pub known : getD copy at 0 < words
 
   pub term-word : getD copy at 0 ≤ 127 → Word
@@ -167,16 +168,17 @@ module _ {copy : List ℕ} {at words : ℕ} {results : List ℕ} {left : ℕ} (b
       ∙ ap (λ m. h .front ++ (f ∷ (writeMap m ++ (encodeAll U ts ++ h .rest)))) (sym (w .map))
 
   module _ {after : List ℕ} {n : ℕ} (l : Written own-bytes before n after) where
-    pub own-inside : n ≤ length after
-    own-inside = omega (arith, l .count, own-room, written-length l own-room)
+    pub own-length : length after ≡ length before
+    own-length = written-length l own-room
 
-    pub word-places : PlacesAt copy at m 0 (at + 2) words results left (length (part n after))
+    pub own-inside : n ≤ length after
+    own-inside = omega (arith, l .count, own-room, own-length)
+
+    pub word-places : PlacesAt copy at m words results left (length (part n after))
     word-places = record {
       vocabulary = U;
       front = h .front;
       symbol = f;
-      current = m;
-      body = [];
       terms = ts;
       rest = h .rest;
       inOrder = h .inOrder;
@@ -184,8 +186,6 @@ module _ {copy : List ℕ} {at words : ℕ} {results : List ℕ} {left : ℕ} (b
       size = h .size;
       begins = h .begins;
       stands = stands-here;
-      offset = omega arith;
-      bits = omega arith;
       due = subst (λ m. Stands U (flags m) ts) (sym (w .map)) (closed-stands U (h .inOrder) f (w .terms) (h .kind) sorted);
       deep = omega (arith, h .deep, ap levels (w .same), closed-levels (w .terms));
       fits = omega (arith, room-both, part-room l own-room);
@@ -197,6 +197,13 @@ module _ {copy : List ℕ} {at words : ℕ} {results : List ℕ} {left : ℕ} (b
     word-listed {copied} {ys} {end} {n′} p = record {
       passed =
           omega (arith, p .passed, ap (λ t. length (encodeAt U t)) (w .same), ap length (closed-bytes U (w .terms)));
-      restored = p .restored ∙ sym stands-here;
+      restored = p .restored;
       written = subst (λ bytes. Written bytes before (n + n′) (back n after ys)) (sym all-bytes) (written-more l own-room (p .written));
     }
+
+    -- A word with no written place.
+    pub word-bare : m ≡ 0 → TermListed h copy before after (at + 2) n
+    word-bare e =
+        subst (λ o. TermListed h copy before o (at + 2) n) (back-same n after)
+        (subst (TermListed h copy before (back n after (part n after)) (at + 2)) (let z : n + 0 ≡ n = omega arith in z)
+        (word-listed (places-none (part n after) word-places e)))

@@ -1,14 +1,17 @@
 -- Calls: what the parts of the call list promise each other; no public contract cites it.
 --
 --   Patterned p n results    p is the writing of a good term of a vocabulary in order, within the limits; the table is the vocabulary's
+--   bytesOf h                the bytes of its entries
+--   HasRoom                  where list_in begins: there are entries, and room for them
+--   WritesEntries            what list_in does: the entries are written
 --   Shows l r after          reply and lent slice are those of l
 --   ListsLinear              what list_linear does: the entries are written, or there is no room
 --   ListsPattern             what list_pattern does: the same, or a name stands twice
 --
 use mathlib.Core.Path.{_≡_}
-use mathlib.Core.List.{List}
-use Prim.Native.Nat.{ℕ}
-use lib.ListN.{length}
+use mathlib.Core.List.{List, _++_}
+use Prim.Native.Nat.{ℕ, _<_, _≤_}
+use lib.ListN.{length, drop}
 use Rattle.terms.specs.Term.{Term}
 use Rattle.wire.specs.Reply.{Reply, accept}
 use Rattle.wire.specs.Vocabulary.{Vocabulary, InOrder}
@@ -27,6 +30,15 @@ pub record Patterned (p : List ℕ) (words : ℕ) (results : List ℕ) : Type 0 
   pub written : p ≡ encodeTerm vocabulary kind term
   pub limits : Limits p term
 
+abbrev pub bytesOf : {p : List ℕ} {words : ℕ} {results : List ℕ} → Patterned p words results → List ℕ
+bytesOf h = entriesBytes (h .vocabulary) (entriesOf (h .vocabulary) (h .kind) (h .term))
+
+abbrev pub HasRoom : List ℕ → ℕ → List ℕ → ℕ → Type 0
+HasRoom p words results room = (h : Patterned p words results) → (0 < length (bytesOf h)) × (length (bytesOf h) ≤ room)
+
+abbrev pub WritesEntries : List ℕ → ℕ → List ℕ → List ℕ → List ℕ → Type 0
+WritesEntries p words results before after = (h : Patterned p words results) → after ≡ bytesOf h ++ drop (length (bytesOf h)) before
+
 pub record Shows (l : Listed) (r : Reply) (after : List ℕ) : Type 0 where
   pub reply : r ≡ l .reply
   pub out : after ≡ l .out
@@ -34,9 +46,7 @@ pub record Shows (l : Listed) (r : Reply) (after : List ℕ) : Type 0 where
 abbrev pub ListsLinear : List ℕ → ℕ → List ℕ → List ℕ → List ℕ → Reply → Type 0
 ListsLinear p words results before after r =
     (h : Patterned p words results) →
-    Shows
-    (listedInto before (length (entriesOf (h .vocabulary) (h .kind) (h .term)))
-    (entriesBytes (h .vocabulary) (entriesOf (h .vocabulary) (h .kind) (h .term)))) r after
+    Shows (listedInto before (length (entriesOf (h .vocabulary) (h .kind) (h .term))) (bytesOf h)) r after
 
 abbrev pub ListsPattern : List ℕ → ℕ → List ℕ → List ℕ → List ℕ → Reply → Type 0
 ListsPattern p words results before after r =

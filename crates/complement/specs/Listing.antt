@@ -2,19 +2,22 @@
 --
 --   Byte b n                   n is the byte b
 --   Tabled W n results         the first n entries of the table are the result kinds of W's words, which are n
+--   KindsFew n results         the first n words have result kinds below 16, by the table
 --   isOther results f h        the word h is another than f and has its result kind, by the table
 --   othersIn n results f       the other words of f's result kind, by the table
 --   hasKind results k h        the word h has the result kind k, by the table
+--   lowest n results k from    the lowest of the first n words, from the word `from` on, that has the result kind k, by the
+--                              table; 255 where there is none
+--   Chained n results firsts nexts   firsts has the lowest word of each result kind, nexts for each word the next of its kind
 --   Tallied n results counts   counts says how many of the first n words have each result kind, by the table
 --   Measures p n results e m   the listing of the pattern p has e entries and m bytes, where the table is a vocabulary's
 --   placedIn n skip l at       the names of the bytes l at an offset with theirs, where n numbers are words' and the first
 --                              `skip` bytes are not looked at
 --   repeatOf r                 where a name stands again, as an Option
---   CopyOf p copy              the copy begins with the pattern p
 --   Written bytes before n after   n bytes are written into the lent slice, and those behind them are as before
 --   TermAt                     a term stands at an offset of the copy, at most `left` levels deep, and its entries have room
 --   TermListed, ListsTerm      what list_term does to such a copy and the lent slice
---   PlacesAt                   the terms of a word's written bits from bit b on stand at an offset of the copy
+--   PlacesAt                   a word stands at an offset of the copy, with the terms of its written bits
 --   PlacesListed, ListsPlaces  what list_places does to such a copy and the lent slice
 --
 use mathlib.Core.Path.{_≡_}
@@ -23,12 +26,12 @@ use mathlib.Core.List.{List, [], _∷_, _++_}
 use mathlib.Core.Option.{Option, some, none}
 use Prim.Native.Nat.{ℕ, zero, suc, _+_, _-_, _<_, _≤_}
 use lib.Dec.{eqb, ltb}
-use lib.ListN.{length, getD, take, drop}
+use lib.ListN.{length, getD, drop}
 use Rattle.terms.specs.Lists.{range, keep}
 use Rattle.terms.specs.Term.{Term, Terms, Sorted}
 use Rattle.terms.proofs.Count.{count}
-use Rattle.wire.specs.Map.{mapBits, mapBytes, writeMap, flags, isOpen}
-use Rattle.wire.specs.Vocabulary.{Vocabulary, InOrder, signature, word}
+use Rattle.wire.specs.Map.{mapBytes, writeMap, flags, isOpen}
+use Rattle.wire.specs.Vocabulary.{Vocabulary, mostKinds, InOrder, signature, word}
 use Rattle.wire.specs.Written.{firstNameByte, encodeAt, encodeAll, levels, levelsAll}
 use Rattle.wire.specs.Reading.{isName}
 use Rattle.wire.specs.Checks.{mostBytes}
@@ -48,6 +51,9 @@ pub record Tabled (W : Vocabulary) (n : ℕ) (results : List ℕ) : Type 0 where
   pub words : n ≡ length (W .words)
   pub result : (f : ℕ) → f < n → getD results f 0 ≡ word W f .result
 
+pub record KindsFew (n : ℕ) (results : List ℕ) : Type 0 where
+  pub low : (h : ℕ) → h < n → getD results h 0 < mostKinds
+
 abbrev pub isOther : List ℕ → ℕ → ℕ → Bool
 isOther results f h = not (eqb h f) && eqb (getD results h 0) (getD results f 0)
 
@@ -57,9 +63,16 @@ othersIn n results f = keep (isOther results f) (range 0 n)
 abbrev pub hasKind : List ℕ → ℕ → ℕ → Bool
 hasKind results k h = eqb (getD results h 0) k
 
+abbrev pub lowest : ℕ → List ℕ → ℕ → ℕ → ℕ
+lowest n results k from = getD (keep (hasKind results k) (range from (n - from))) 0 255
+
+pub record Chained (n : ℕ) (results firsts nexts : List ℕ) : Type 0 where
+  pub first : (k : ℕ) → k < mostKinds → getD firsts k 0 ≡ lowest n results k 0
+  pub next : (h : ℕ) → h < n → getD nexts h 0 ≡ lowest n results (getD results h 0) (h + 1)
+
 pub record Tallied (n : ℕ) (results counts : List ℕ) : Type 0 where
-  pub size : length counts ≡ 256
-  pub each : (k : ℕ) → k < 256 → getD counts k 0 ≡ count (hasKind results k) (range 0 n)
+  pub size : length counts ≡ mostKinds
+  pub each : (k : ℕ) → k < mostKinds → getD counts k 0 ≡ count (hasKind results k) (range 0 n)
 
 abbrev pub Measures : List ℕ → ℕ → List ℕ → ℕ → ℕ → Type 0
 Measures p n results entries bytes =
@@ -76,10 +89,6 @@ abbrev pub repeatOf : Repeat → Option ℕ
 repeatOf (At q) = some q
 repeatOf Nothing = none
 
-pub record CopyOf (p copy : List ℕ) : Type 0 where
-  pub size : length copy ≡ mostBytes
-  pub same : take (length p) copy ≡ p
-
 pub record Written (bytes before : List ℕ) (n : ℕ) (after : List ℕ) : Type 0 where
   pub count : n ≡ length bytes
   pub same : after ≡ bytes ++ drop (length bytes) before
@@ -93,7 +102,7 @@ pub record TermAt (copy : List ℕ) (at words : ℕ) (results : List ℕ) (left 
   pub rest : List ℕ
   pub inOrder : InOrder vocabulary
   pub tabled : Tabled vocabulary words results
-  pub size : length copy ≡ mostBytes
+  pub size : length copy ≤ mostBytes
   pub begins : length front ≡ at
   pub sorted : Sorted (signature vocabulary) term kind
   pub closed : isOpen term ≡ false
@@ -112,35 +121,30 @@ abbrev pub ListsTerm : List ℕ → ℕ → ℕ → List ℕ → ℕ → List �
 ListsTerm copy at words results left before copied after end n =
     (h : TermAt copy at words results left (length before)) → TermListed h copied before after end n
 
--- The word stands at the offset `at`, whatever its map is by now; its terms up to bit b have the bytes body.
-pub record PlacesAt (copy : List ℕ) (at map b next words : ℕ) (results : List ℕ) (left room : ℕ) : Type 0 where
+-- The word stands at the offset `at`, and behind its map the terms of the written bits.
+pub record PlacesAt (copy : List ℕ) (at map words : ℕ) (results : List ℕ) (left room : ℕ) : Type 0 where
   pub vocabulary : Vocabulary
   pub front : List ℕ
   pub symbol : ℕ
-  pub current : ℕ
-  pub body : List ℕ
   pub terms : Terms
   pub rest : List ℕ
   pub inOrder : InOrder vocabulary
   pub tabled : Tabled vocabulary words results
-  pub size : length copy ≡ mostBytes
+  pub size : length copy ≤ mostBytes
   pub begins : length front ≡ at
-  pub stands : copy ≡ front ++ (symbol ∷ (writeMap current ++ (body ++ (encodeAll vocabulary terms ++ rest))))
-  pub offset : next ≡ at + 1 + mapBytes + length body
-  pub bits : b ≤ mapBits
-  pub due : Stands vocabulary (drop b (flags map)) terms
+  pub stands : copy ≡ front ++ (symbol ∷ (writeMap map ++ (encodeAll vocabulary terms ++ rest)))
+  pub due : Stands vocabulary (flags map) terms
   pub deep : suc (levelsAll terms) ≤ left
-  pub fits : length (spotsBytes vocabulary (bitSpots vocabulary symbol map front (drop b (flags map)) b body terms)) ≤ room
+  pub fits : length (spotsBytes vocabulary (bitSpots vocabulary symbol map front (flags map) 0 [] terms)) ≤ room
 
--- The word's map in the copy is `map`, and the entries are written.
-pub record PlacesListed {copy : List ℕ} {at map b next words : ℕ} {results : List ℕ} {left room : ℕ}
-    (h : PlacesAt copy at map b next words results left room) (copied before after : List ℕ) (end n : ℕ) : Type 0 where
-  pub passed : end ≡ next + length (encodeAll (h .vocabulary) (h .terms))
-  pub restored : copied ≡ h .front ++ (h .symbol ∷ (writeMap map ++ (h .body ++ (encodeAll (h .vocabulary) (h .terms) ++ h .rest))))
+-- The copy is as before, and the entries are written.
+pub record PlacesListed {copy : List ℕ} {at map words : ℕ} {results : List ℕ} {left room : ℕ} (h : PlacesAt copy at map words results left room)
+    (copied before after : List ℕ) (end n : ℕ) : Type 0 where
+  pub passed : end ≡ at + 1 + mapBytes + length (encodeAll (h .vocabulary) (h .terms))
+  pub restored : copied ≡ copy
   pub written :
-      Written (spotsBytes (h .vocabulary) (bitSpots (h .vocabulary) (h .symbol) map (h .front) (drop b (flags map)) b (h .body) (h .terms)))
-      before n after
+      Written (spotsBytes (h .vocabulary) (bitSpots (h .vocabulary) (h .symbol) map (h .front) (flags map) 0 [] (h .terms))) before n after
 
-abbrev pub ListsPlaces : List ℕ → ℕ → ℕ → ℕ → ℕ → ℕ → List ℕ → ℕ → List ℕ → List ℕ → List ℕ → ℕ → ℕ → Type 0
-ListsPlaces copy at map b next words results left before copied after end n =
-    (h : PlacesAt copy at map b next words results left (length before)) → PlacesListed h copied before after end n
+abbrev pub ListsPlaces : List ℕ → ℕ → ℕ → ℕ → List ℕ → ℕ → List ℕ → List ℕ → List ℕ → ℕ → ℕ → Type 0
+ListsPlaces copy at map words results left before copied after end n =
+    (h : PlacesAt copy at map words results left (length before)) → PlacesListed h copied before after end n

@@ -1,14 +1,15 @@
 // Document 01's call list: the leftovers of a pattern.
 ghost use mathlib.Core.Path.{_≡_};
 ghost use mathlib.Core.List.{[], _∷_, _++_};
-ghost use Prim.Native.Nat.{_+_, _≤_, _<_, _%_, _^_, _/_, suc};
-ghost use lib.ListN.{length, take, drop};
+ghost use Prim.Native.Nat.{_+_, _≤_, _<_, _%_, _^_, suc};
+ghost use lib.ListN.{length, take, drop, replicate};
+ghost use lib.Seq.{paste};
 ghost use Rattle.wire.specs.Map.{writeMap};
 ghost use Rattle.wire.specs.Listed.{repeatedIn, ListPromise};
 ghost use Rattle.wire.proofs.EntryBytes.{othersBytes};
 ghost use Rattle.complement.specs.Answers.{listNumbers};
-ghost use Rattle.complement.specs.Calls.{Patterned, ListsLinear, ListsPattern};
-ghost use Rattle.complement.specs.Listing.{Byte, CopyOf, Tallied, Measures, placedIn, repeatOf, isOther, othersIn, Written, TermAt, ListsTerm, PlacesAt, ListsPlaces};
+ghost use Rattle.complement.specs.Calls.{Patterned, HasRoom, WritesEntries, ListsLinear, ListsPattern};
+ghost use Rattle.complement.specs.Listing.{KindsFew, Byte, Tallied, Measures, placedIn, repeatOf, othersIn, Chained, Written, TermAt, ListsTerm, PlacesAt, ListsPlaces};
 use reader::TermAnswer;
 use reader::TermRefusal;
 use signature::VocabularyRefusal;
@@ -36,65 +37,136 @@ fn kept(map: u8, b: usize) -> u8
     (wide(map) % (2usize << b)) as u8
 }
 
-// The bits of a map from bit b on.
-fn bits_from(map: u8, b: usize) -> usize
-    requires { ⌜ b ≤ 8 ⌝ }
-    ensures { λ r. ⌜ r ≡ map / 2 ^ b ⌝ }
-{
-    wide(map) >> b
-}
-
-// Writes the first n bytes of the copy, a word's number and an empty map.
-fn write_entry(copy: &[u8; 4096], n: usize, word: u8, out: &mut [u8])
-    requires { ⌜ length (now copy) ≡ 4096 ⌝ }
-    requires { ⌜ n ≤ 4096 ⌝ }
-    requires { ⌜ n + 2 ≤ length (now out) ⌝ }
-    ensures { λ _. ⌜ now (out .exit) ≡ (take n (now (copy .entry)) ++ (word ∷ writeMap 0)) ++ drop (n + 2) (now (out .entry)) ⌝ }
+// Writes the first n bytes of the copy, one by one.
+fn copy_bytes(copy: &[u8], n: usize, out: &mut [u8])
+    requires { ⌜ n ≤ length (now copy) ⌝ }
+    requires { ⌜ n ≤ length (now out) ⌝ }
+    ensures { λ _. ⌜ now (out .exit) ≡ take n (now (copy .entry)) ++ drop n (now (out .entry)) ⌝ }
 {
     let mut i = 0;
     while i < n {
         out[i] = copy[i];
         i += 1;
     }
+}
+
+// Writes n bytes of the copy to where they stand in it. All are read before the first is written, so that they go as
+// one block: the compiler leaves no array between them.
+fn move_block(copy: &[u8], at: usize, n: usize, out: &mut [u8])
+    requires { ⌜ at + n ≤ length (now copy) ⌝ }
+    requires { ⌜ n ≤ 4096 ⌝ }
+    requires { ⌜ at + n ≤ length (now out) ⌝ }
+    ensures { λ _. ⌜ now (out .exit) ≡ paste (now (out .entry)) at (drop at (now (copy .entry))) n ⌝ }
+{
+    let mut block = [0u8; 4096];
+    let mut k = 0;
+    while k < n {
+        block[k] = copy[at + k];
+        k += 1;
+    }
+    let mut j = 0;
+    while j < n {
+        out[at + j] = block[j];
+        j += 1;
+    }
+}
+
+// Writes the first n bytes of the copy, fewer than 16. The blocks may overlap: what is written twice is the same.
+fn copy_few(copy: &[u8], n: usize, out: &mut [u8])
+    requires { ⌜ n ≤ length (now copy) ⌝ }
+    requires { ⌜ n < 16 ⌝ }
+    requires { ⌜ n ≤ length (now out) ⌝ }
+    ensures { λ _. ⌜ now (out .exit) ≡ take n (now (copy .entry)) ++ drop n (now (out .entry)) ⌝ }
+{
+    if n < 8 {
+        copy_bytes(copy, n, out);
+        return;
+    }
+    move_block(copy, 0, 8, out);
+    move_block(copy, n - 8, 8, out);
+}
+
+// Writes the first n bytes of the copy: where they are not many, the last ones as blocks that may overlap.
+fn copy_front(copy: &[u8], n: usize, out: &mut [u8])
+    requires { ⌜ n ≤ length (now copy) ⌝ }
+    requires { ⌜ n ≤ 4096 ⌝ }
+    requires { ⌜ n ≤ length (now out) ⌝ }
+    ensures { λ _. ⌜ now (out .exit) ≡ take n (now (copy .entry)) ++ drop n (now (out .entry)) ⌝ }
+{
+    if n < 16 {
+        copy_few(copy, n, out);
+        return;
+    }
+    if 128 < n {
+        move_block(copy, 0, n, out);
+        return;
+    }
+    let whole = n / 32 * 32;
+    copy_bytes(copy, whole, out);
+    if n - whole < 16 {
+        move_block(copy, n - 16, 16, out);
+        return;
+    }
+    move_block(copy, whole, 16, out);
+    move_block(copy, n - 16, 16, out);
+}
+
+// Writes the first n bytes of the copy, a word's number and an empty map.
+fn write_entry(copy: &[u8], n: usize, word: u8, out: &mut [u8])
+    requires { ⌜ n ≤ length (now copy) ⌝ }
+    requires { ⌜ n ≤ 4096 ⌝ }
+    requires { ⌜ n + 2 ≤ length (now out) ⌝ }
+    ensures { λ _. ⌜ now (out .exit) ≡ (take n (now (copy .entry)) ++ (word ∷ writeMap 0)) ++ drop (n + 2) (now (out .entry)) ⌝ }
+{
+    copy_front(copy, n, out);
     out[n] = word;
     out[n + 1] = 0;
 }
 
-// Whether the word h is another than f and has its result kind.
-fn other(h: usize, f: usize, words: usize, results: &[u8; 96]) -> bool
+// Gives each result kind its lowest word and each word the next one of its kind, from the last word to the first; 255
+// where there is none.
+fn chain(words: usize, results: &[u8; 96], firsts: &mut [u8; 16], nexts: &mut [u8; 96])
     requires { ⌜ words ≤ 96 ⌝ }
-    requires { ⌜ h < words ⌝ }
-    requires { ⌜ f < words ⌝ }
-    ensures { λ r. ⌜ r ≡ isOther (now (results .entry)) f h ⌝ }
+    requires { ⌜ now firsts ≡ replicate 16 255 ⌝ }
+    requires { ⌜ length (now nexts) ≡ 96 ⌝ }
+    requires { ⌜ KindsFew words (now results) ⌝ }
+    ensures { λ _. ⌜ Chained words (now (results .entry)) (now (firsts .exit)) (now (nexts .exit)) ⌝ }
 {
-    if h == f {
-        return false;
+    let mut h = words;
+    while 0 < h {
+        h -= 1;
+        let kind = wide(results[h]);
+        nexts[h] = firsts[kind];
+        firsts[kind] = h as u8;
     }
-    results[h] == results[f]
 }
 
 // An entry for every other word of the result kind of f, each into the rest of the lent slice behind the one before it.
 fn write_others(
-    copy: &[u8; 4096],
+    copy: &[u8],
     at: usize,
     f: usize,
     words: usize,
     results: &[u8; 96],
+    firsts: &[u8; 16],
+    nexts: &[u8; 96],
     out: &mut [u8],
 ) -> usize
-    requires { ⌜ length (now copy) ≡ 4096 ⌝ }
+    requires { ⌜ at ≤ length (now copy) ⌝ }
     requires { ⌜ at ≤ 4096 ⌝ }
     requires { ⌜ words ≤ 96 ⌝ }
     requires { ⌜ f < words ⌝ }
+    requires { ⌜ Chained words (now results) (now firsts) (now nexts) ⌝ }
     requires { ⌜ length (othersBytes (take at (now copy)) (othersIn words (now results) f)) ≤ length (now out) ⌝ }
+    requires { ⌜ KindsFew words (now results) ⌝ }
     ensures { λ r. ⌜ Written (othersBytes (take at (now (copy .entry))) (othersIn words (now (results .entry)) f)) (now (out .entry)) r (now (out .exit)) ⌝ }
 {
     let mut n = 0;
-    let mut h = 0;
+    let mut h = wide(firsts[wide(results[f])]);
     while h < words {
         let g = h;
-        h += 1;
-        if other(g, f, words, results) {
+        h = wide(nexts[g]);
+        if g != f {
             write_entry(copy, at, g as u8, &mut out[n..]);
             n = n + at + 2;
         }
@@ -111,13 +183,16 @@ struct Progress {
 // The listing of the term at an offset of the copy, with so many levels left. The maps of the words above it
 // keep only the bits up to this term.
 fn list_term(
-    copy: &mut [u8; 4096],
+    copy: &mut [u8],
     at: usize,
     words: usize,
     results: &[u8; 96],
+    firsts: &[u8; 16],
+    nexts: &[u8; 96],
     left: usize,
     out: &mut [u8],
 ) -> Progress
+    requires { ⌜ Chained words (now results) (now firsts) (now nexts) ⌝ }
     requires { ⌜ TermAt (now copy) at words (now results) left (length (now out)) ⌝ }
     ensures { λ r. ⌜ ListsTerm (now (copy .entry)) at words (now (results .entry)) left (now (out .entry)) (now (copy .exit)) (now (out .exit)) (r .at) (r .written) ⌝ }
 {
@@ -129,15 +204,21 @@ fn list_term(
         };
     }
     let map = copy[at + 1];
-    let n = write_others(copy, at, wide(first), words, results, out);
+    let n = write_others(copy, at, wide(first), words, results, firsts, nexts, out);
+    if map == 0 {
+        return Progress {
+            at: at + 2,
+            written: n,
+        };
+    }
     let below = list_places(
         copy,
         at,
         map,
-        0,
-        at + 2,
         words,
         results,
+        firsts,
+        nexts,
         left,
         &mut out[n..],
     );
@@ -149,62 +230,62 @@ fn list_term(
     }
 }
 
-// The listing of the terms of a word's written bits from bit b on, the lowest first. Where none is left the word's
-// map in the copy becomes the pattern's again.
+// The listing of the terms of a word's written bits, the lowest first, each into the rest of the lent slice behind
+// the one before it. The word's map keeps only the bits up to each term in turn; at the end it is the pattern's again.
 fn list_places(
-    copy: &mut [u8; 4096],
+    copy: &mut [u8],
     at: usize,
     map: u8,
-    b: usize,
-    next: usize,
     words: usize,
     results: &[u8; 96],
+    firsts: &[u8; 16],
+    nexts: &[u8; 96],
     left: usize,
     out: &mut [u8],
 ) -> Progress
-    requires { ⌜ PlacesAt (now copy) at map b next words (now results) left (length (now out)) ⌝ }
-    ensures { λ r. ⌜ ListsPlaces (now (copy .entry)) at map b next words (now (results .entry)) left (now (out .entry)) (now (copy .exit)) (now (out .exit)) (r .at) (r .written) ⌝ }
+    requires { ⌜ Chained words (now results) (now firsts) (now nexts) ⌝ }
+    requires { ⌜ PlacesAt (now copy) at map words (now results) left (length (now out)) ⌝ }
+    ensures { λ r. ⌜ ListsPlaces (now (copy .entry)) at map words (now (results .entry)) left (now (out .entry)) (now (copy .exit)) (now (out .exit)) (r .at) (r .written) ⌝ }
 {
-    let bits = bits_from(map, b);
-    if bits == 0 {
-        copy[at + 1] = map;
-        return Progress {
-            at: next,
-            written: 0,
-        };
+    let mut n = 0;
+    let mut next = at + 2;
+    let mut b = 0;
+    let mut bits = wide(map);
+    while bits != 0 {
+        let place = b;
+        let bit = bits % 2;
+        b += 1;
+        bits = bits / 2;
+        if bit == 1 {
+            copy[at + 1] = kept(map, place);
+            let here = list_term(
+                copy,
+                next,
+                words,
+                results,
+                firsts,
+                nexts,
+                left - 1,
+                &mut out[n..],
+            );
+            next = here.at;
+            n = n + here.written;
+        }
     }
-    if bits % 2 == 0 {
-        return list_places(copy, at, map, b + 1, next, words, results, left, out);
-    }
-    copy[at + 1] = kept(map, b);
-    let here = list_term(copy, next, words, results, left - 1, out);
-    let behind = here.at;
-    let n = here.written;
-    let above = list_places(
-        copy,
-        at,
-        map,
-        b + 1,
-        behind,
-        words,
-        results,
-        left,
-        &mut out[n..],
-    );
-    let end = above.at;
-    let more = above.written;
+    copy[at + 1] = map;
     Progress {
-        at: end,
-        written: n + more,
+        at: next,
+        written: n,
     }
 }
 
 // How many words have each result kind.
-fn tally(words: usize, results: &[u8; 96]) -> [u8; 256]
+fn tally(words: usize, results: &[u8; 96]) -> [u8; 16]
     requires { ⌜ words ≤ 96 ⌝ }
+    requires { ⌜ KindsFew words (now results) ⌝ }
     ensures { λ r. ⌜ Tallied words (now (results .entry)) r ⌝ }
 {
-    let mut counts = [0u8; 256];
+    let mut counts = [0u8; 16];
     let mut h = 0;
     while h < words {
         let kind = wide(results[h]);
@@ -216,10 +297,11 @@ fn tally(words: usize, results: &[u8; 96]) -> [u8; 256]
 }
 
 // How many other words have the result kind of f: all that the tally has of this kind but f.
-fn sibling_count(f: usize, words: usize, results: &[u8; 96], counts: &[u8; 256]) -> usize
+fn sibling_count(f: usize, words: usize, results: &[u8; 96], counts: &[u8; 16]) -> usize
     requires { ⌜ words ≤ 96 ⌝ }
     requires { ⌜ f < words ⌝ }
     requires { ⌜ Tallied words (now results) (now counts) ⌝ }
+    requires { ⌜ KindsFew words (now results) ⌝ }
     ensures { λ r. ⌜ r ≡ length (othersIn words (now (results .entry)) f) ⌝ }
 {
     let kind = wide(results[f]);
@@ -237,6 +319,7 @@ struct Size {
 fn measure(p: &[u8], words: usize, results: &[u8; 96]) -> Size
     requires { ⌜ words ≤ 96 ⌝ }
     requires { ⌜ length (now p) ≤ 4096 ⌝ }
+    requires { ⌜ KindsFew words (now results) ⌝ }
     ensures { λ r. ⌜ Measures (now (p .entry)) words (now (results .entry)) (r .entries) (r .bytes) ⌝ }
 {
     let counts = tally(words, results);
@@ -292,21 +375,23 @@ fn first_repeat(p: &[u8], words: usize) -> Repeat
     Repeat::Nothing
 }
 
-// The pattern in a buffer.
-fn copy_of(p: &[u8]) -> [u8; 4096]
-    requires { ⌜ length (now p) ≤ 4096 ⌝ }
-    ensures { λ r. ⌜ CopyOf (now (p .entry)) r ⌝ }
+// Lists a pattern by a copy of it, into a lent slice with room for the entries.
+fn list_in(copy: &mut [u8], pattern: &[u8], words: usize, results: &[u8; 96], out: &mut [u8])
+    requires { ⌜ length (now pattern) ≤ length (now copy) ⌝ }
+    requires { ⌜ length (now copy) ≤ 4096 ⌝ }
+    requires { ⌜ Patterned (now pattern) words (now results) ⌝ }
+    requires { ⌜ HasRoom (now pattern) words (now results) (length (now out)) ⌝ }
+    ensures { λ _. ⌜ WritesEntries (now (pattern .entry)) words (now (results .entry)) (now (out .entry)) (now (out .exit)) ⌝ }
 {
-    let mut copy = [0u8; 4096];
-    let mut i = 0;
-    while i < p.len() {
-        copy[i] = p[i];
-        i += 1;
-    }
-    copy
+    let mut firsts = [255u8; 16];
+    let mut nexts = [255u8; 96];
+    chain(words, results, &mut firsts, &mut nexts);
+    copy_bytes(pattern, pattern.len(), copy);
+    let _ = list_term(copy, 1, words, results, &firsts, &nexts, 32, out);
 }
 
-// The listing of a pattern that is accepted and in which no name stands twice.
+// The listing of a pattern that is accepted and in which no name stands twice. Most patterns are short, and a small
+// copy is sooner set up.
 fn list_linear(pattern: &[u8], words: usize, results: &[u8; 96], out: &mut [u8]) -> ListAnswer
     requires { ⌜ Patterned (now pattern) words (now results) ⌝ }
     ensures { λ r. ⌜ ListsLinear (now (pattern .entry)) words (now (results .entry)) (now (out .entry)) (now (out .exit)) (listNumbers r) ⌝ }
@@ -320,8 +405,13 @@ fn list_linear(pattern: &[u8], words: usize, results: &[u8; 96], out: &mut [u8])
     if bytes == 0 {
         return ListAnswer::Listed(entries, bytes);
     }
-    let mut copy = copy_of(pattern);
-    let _ = list_term(&mut copy, 1, words, results, 32, out);
+    if pattern.len() <= 128 {
+        let mut copy = [0u8; 128];
+        list_in(&mut copy, pattern, words, results, out);
+        return ListAnswer::Listed(entries, bytes);
+    }
+    let mut copy = [0u8; 4096];
+    list_in(&mut copy, pattern, words, results, out);
     ListAnswer::Listed(entries, bytes)
 }
 
@@ -340,15 +430,10 @@ fn list_pattern(pattern: &[u8], words: usize, results: &[u8; 96], out: &mut [u8]
 pub fn list(vocabulary: &[u8], pattern: &[u8], out: &mut [u8]) -> ListAnswer
     ensures { λ r. ⌜ ListPromise (now (vocabulary .entry)) (now (pattern .entry)) (now (out .entry)) (now (out .exit)) (listNumbers r) ⌝ }
 {
-    let checked = reader::load_term(vocabulary, pattern);
-    let answer = checked.answer;
-    match answer {
+    let mut results = [0u8; 96];
+    match reader::load_term(vocabulary, pattern, &mut results) {
         TermAnswer::Vocabulary(why) => ListAnswer::Vocabulary(why),
         TermAnswer::Term(why) => ListAnswer::Pattern(why),
-        TermAnswer::Accepted(_, _) => {
-            let words = checked.words;
-            let results = checked.results;
-            list_pattern(pattern, words, &results, out)
-        }
+        TermAnswer::Accepted(_, _) => list_pattern(pattern, wide(vocabulary[1]), &results, out),
     }
 }

@@ -1,8 +1,9 @@
 -- `complement::list` meets its contract.
 use mathlib.Core.Path.{sym, ap, _∙_}
 use denote.Ref.{now}
+use native.Mathlib.Omega.{arith}
 use Rattle.reader.specs.Answers.{termNumbers}
-use Rattle.complement.proofs.Calls.{list-vocabulary, list-term, patterned, list-pattern}
+use Rattle.complement.proofs.Calls.{list-vocabulary, list-term, some-bytes, patterned, list-pattern}
 use borrow.Author.Needs.{needs}
 use Rattle.complement.proofs.list.Statement.{statement}
 use Rattle.complement.proofs.list.Tie as tie
@@ -10,63 +11,85 @@ use Rattle.complement.proofs.list.Tie as tie
 load-term-requires : tie.Need-load-term-requires
 load-term-requires c κs = search needs
 
-enum-known-answer : tie.Need-enum-known-answer
-enum-known-answer c = search needs
+enum-known-why : tie.Need-enum-known-why
+enum-known-why c = search needs
 
-enum-known-answer-2 : tie.Need-enum-known-answer-2
-enum-known-answer-2 c = search needs
+enum-known-why-2 : tie.Need-enum-known-why-2
+enum-known-why-2 c = search needs
 
 enum-told : tie.Need-enum-told
 enum-told c = search needs
 
+shared-slice-read-wide : tie.Need-shared-slice-read-wide
+shared-slice-read-wide c =
+    let told = c .before in
+    let loaded = told .before .before in
+    let bytes2 = loaded .before .before .before in
+    let bytes = bytes2 .before in
+    let a = bytes .before .args in
+    omega (arith, some-bytes (now (a .vocabulary)) (now (a .pattern)) (now (a .out)) (λ i. bytes .shared-slice-known .given i .fits) (λ i. bytes2 .shared-slice-known2 .given i .fits) _ (ap termNumbers (sym (told .enum-told .given .1)) ∙ loaded .load-term .ensures .answer))
+
+wide-requires : tie.Need-wide-requires
+wide-requires c κs = search needs
+
 list-pattern-requires : tie.Need-list-pattern-requires
 list-pattern-requires c κs =
-    let at-enum-told = c .before .before .before in
-    let at-load-term = at-enum-told .before .before in
-    let at-shared-slice-known2 = at-load-term .before .before in
-    let at-shared-slice-known = at-shared-slice-known2 .before in
-    let start = at-shared-slice-known .before in
-    patterned (now (start .args .vocabulary)) (now (start .args .pattern)) (now (start .args .out)) (λ i. at-shared-slice-known .shared-slice-known .given i .fits) (λ i. at-shared-slice-known2 .shared-slice-known2 .given i .fits) (at-load-term .load-term .ensures .words) (at-load-term .load-term .ensures .results) _ (ap termNumbers (sym (at-enum-told .enum-told .given .1)) ∙ at-load-term .load-term .ensures .answer)
+    let called = c .before .before in
+    let told = called .before .before in
+    let loaded = told .before .before in
+    let bytes2 = loaded .before .before .before in
+    let bytes = bytes2 .before in
+    let a = bytes .before .args in
+    patterned (now (a .vocabulary)) (now (a .pattern)) (now (a .out)) (λ i. bytes .shared-slice-known .given i .fits)
+    (λ i. bytes2 .shared-slice-known2 .given i .fits) _ (ap termNumbers (sym (told .enum-told .given .1)) ∙ loaded .load-term .ensures .answer)
+    (called .wide .ensures .same) _ (loaded .load-term .ensures .results)
 
 returns : tie.Need-returns
 returns c =
-    let at-answer = c .before in
-    let at-load-term = at-answer .before .before in
-    let at-shared-slice-known2 = at-load-term .before .before in
-    let at-shared-slice-known = at-shared-slice-known2 .before in
-    let start = at-shared-slice-known .before in
-    list-vocabulary (now (start .args .vocabulary)) (now (start .args .pattern)) (now (start .args .out)) (λ i. at-shared-slice-known .shared-slice-known .given i .fits) (λ i. at-shared-slice-known2 .shared-slice-known2 .given i .fits) (at-answer .answer .given .0 .0) (sym (ap termNumbers (at-answer .answer .given .1)) ∙ at-load-term .load-term .ensures .answer)
+    let loaded = c .before .before .before in
+    let bytes2 = loaded .before .before .before in
+    let bytes = bytes2 .before in
+    let a = bytes .before .args in
+    list-vocabulary (now (a .vocabulary)) (now (a .pattern)) (now (a .out)) (λ i. bytes .shared-slice-known .given i .fits)
+    (λ i. bytes2 .shared-slice-known2 .given i .fits) (c .before .why .given .0 .0)
+    (sym (ap termNumbers (c .before .why .given .1)) ∙ loaded .load-term .ensures .answer)
 
 returns-2 : tie.Need-returns-2
 returns-2 c =
-    let at-answer2 = c .before in
-    let at-load-term = at-answer2 .before .before in
-    let at-shared-slice-known2 = at-load-term .before .before in
-    let at-shared-slice-known = at-shared-slice-known2 .before in
-    let start = at-shared-slice-known .before in
-    list-term (now (start .args .vocabulary)) (now (start .args .pattern)) (now (start .args .out)) (λ i. at-shared-slice-known .shared-slice-known .given i .fits) (λ i. at-shared-slice-known2 .shared-slice-known2 .given i .fits) (at-answer2 .answer2 .given .0 .0) (sym (ap termNumbers (at-answer2 .answer2 .given .1)) ∙ at-load-term .load-term .ensures .answer)
+    let loaded = c .before .before .before in
+    let bytes2 = loaded .before .before .before in
+    let bytes = bytes2 .before in
+    let a = bytes .before .args in
+    list-term (now (a .vocabulary)) (now (a .pattern)) (now (a .out)) (λ i. bytes .shared-slice-known .given i .fits)
+    (λ i. bytes2 .shared-slice-known2 .given i .fits) (c .before .why2 .given .0 .0)
+    (sym (ap termNumbers (c .before .why2 .given .1)) ∙ loaded .load-term .ensures .answer)
 
 same-length : tie.Need-same-length
 same-length c = search needs
 
 returns-3 : tie.Need-returns-3
 returns-3 c =
-    let at-list-pattern = c .before .before in
-    let at-enum-told = at-list-pattern .before .before .before .before in
-    let at-load-term = at-enum-told .before .before in
-    let at-shared-slice-known2 = at-load-term .before .before in
-    let at-shared-slice-known = at-shared-slice-known2 .before in
-    let start = at-shared-slice-known .before in
-    list-pattern (now (start .args .vocabulary)) (now (start .args .pattern)) (now (start .args .out)) (λ i. at-shared-slice-known .shared-slice-known .given i .fits) (λ i. at-shared-slice-known2 .shared-slice-known2 .given i .fits) (at-load-term .load-term .ensures .words) (at-load-term .load-term .ensures .results) _ (ap termNumbers (sym (at-enum-told .enum-told .given .1)) ∙ at-load-term .load-term .ensures .answer) (at-list-pattern .list-pattern .ensures (patterned (now (start .args .vocabulary)) (now (start .args .pattern)) (now (start .args .out)) (λ i. at-shared-slice-known .shared-slice-known .given i .fits) (λ i. at-shared-slice-known2 .shared-slice-known2 .given i .fits) (at-load-term .load-term .ensures .words) (at-load-term .load-term .ensures .results) _ (ap termNumbers (sym (at-enum-told .enum-told .given .1)) ∙ at-load-term .load-term .ensures .answer)))
+    let listed = c .before .before in
+    let called = listed .before .before .before in
+    let told = called .before .before in
+    let loaded = told .before .before in
+    let bytes2 = loaded .before .before .before in
+    let bytes = bytes2 .before in
+    let a = bytes .before .args in
+    list-pattern (now (a .vocabulary)) (now (a .pattern)) (now (a .out)) (λ i. bytes .shared-slice-known .given i .fits)
+    (λ i. bytes2 .shared-slice-known2 .given i .fits) _ (ap termNumbers (sym (told .enum-told .given .1)) ∙ loaded .load-term .ensures .answer)
+    (called .wide .ensures .same) _ (loaded .load-term .ensures .results) (listed .list-pattern .ensures)
 
 pub list-spec : {M : Type 1} → statement M
 list-spec =
     tie.close
     (tie.spec
     load-term-requires
-    enum-known-answer
-    enum-known-answer-2
+    enum-known-why
+    enum-known-why-2
     enum-told
+    shared-slice-read-wide
+    wide-requires
     list-pattern-requires
     returns
     returns-2

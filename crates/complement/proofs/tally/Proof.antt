@@ -1,11 +1,11 @@
 -- `complement::tally` meets its contract. The loop's invariant: the words below h are counted. The measure is the number of words left.
 use borrow.Author.Needs.{needs}
 use mathlib.Core.Path.{subst}
-use Prim.Native.Nat.{_-_, _≤_}
+use Prim.Native.Nat.{_-_, _<_, _≤_}
 use denote.Ref.{now}
 use native.Mathlib.Omega.{arith}
 use Rattle.complement.specs.Listing.{Tallied}
-use Rattle.complement.proofs.Tallying.{tallied-none, tallied-few, tallied-turn}
+use Rattle.complement.proofs.Tallying.{kind-low, tallied-none, tallied-few, tallied-turn}
 use Rattle.complement.proofs.tally.Statement.{statement}
 use Rattle.complement.proofs.tally.Tie as tie
 
@@ -14,6 +14,10 @@ Inv-loop words results counts₀ h₀ counts h = Tallied h results counts × (h 
 
 abbrev μ-loop : tie.MeasureT-loop
 μ-loop words results counts₀ h₀ counts h = words - h
+
+-- The kind is below 16.
+low : (c : tie.After-wide Inv-loop μ-loop) → c .wide .result < 16
+low c = kind-low (c .before .before .before .before .pre .1) (c .before .before .loop-test .taken) (c .wide .ensures .same)
 
 loop-holds : tie.Need-loop-holds Inv-loop μ-loop
 loop-holds c = (tallied-none _, omega arith)
@@ -25,16 +29,16 @@ wide-requires : tie.Need-wide-requires Inv-loop μ-loop
 wide-requires c κs = search needs
 
 array-read-n : tie.Need-array-read-n Inv-loop μ-loop
-array-read-n c = let z = c .before .before .before .loop .inv .0 .size in search needs
+array-read-n c = low c
 
 add-counts : tie.Need-add-counts Inv-loop μ-loop
 add-counts c =
     let at-loop = c .before .before .before in
     let start = at-loop .before in
-    let z = tallied-few (at-loop .loop .inv .0) (c .wide .result) (c .wide .ensures .small) in record { fits = omega (arith, z, start .pre, at-loop .loop .inv .1) }
+    let z = tallied-few (at-loop .loop .inv .0) (c .wide .result) (low c) in record { fits = omega (arith, z, start .pre .0, at-loop .loop .inv .1) }
 
 array-write-counts : tie.Need-array-write-counts Inv-loop μ-loop
-array-write-counts c = let z = c .before .before .before .loop .inv .0 .size in search needs
+array-write-counts c = low c
 
 add-h : tie.Need-add-h Inv-loop μ-loop
 add-h c = search needs
@@ -45,7 +49,7 @@ loop-less c = search needs
 loop-again : tie.Need-loop-again Inv-loop μ-loop
 loop-again c =
     let at-loop = c .before .before .before in
-    (tallied-turn (at-loop .loop .inv .0) _ (c .wide .ensures .same) (c .wide .ensures .small), omega arith)
+    (tallied-turn (at-loop .loop .inv .0) _ (c .wide .ensures .same) (low c), omega arith)
 
 returns : tie.Need-returns Inv-loop μ-loop
 returns c =

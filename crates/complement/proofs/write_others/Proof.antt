@@ -1,29 +1,46 @@
--- `complement::write_others` meets its contract. The loop's invariant: the words below h have their entries. The measure is the number of words left.
+-- `complement::write_others` meets its contract. The loop's invariant: h is the next word of the kind, and the others before it have their entries. The measure is the number of words from h on.
 use borrow.Author.Needs.{needs}
-use mathlib.Core.Path.{sym, _∙_}
 use Prim.Native.Nat.{_-_}
 use native.Mathlib.Omega.{arith}
 use denote.Ref.{now}
 use lib.ListN.{take}
 use lib.Seq.{length-take-le}
-use Rattle.complement.proofs.Siblings.{Listed, listed-none, listed-room, listed-taken, listed-left, listed-all}
+use Rattle.complement.proofs.Tallying.{kind-low}
+use Rattle.complement.proofs.Chaining.{Followed, followed-none, followed-less, followed-room, followed-taken, followed-left, followed-all}
 use Rattle.complement.proofs.write_others.Statement.{statement}
 use Rattle.complement.proofs.write_others.Tie as tie
 
 abbrev Inv-loop : tie.InvT-loop
-Inv-loop copy at f words results out₀ n₀ h₀ out n h = Listed (take at copy) words results f out₀ h n out
+Inv-loop copy at f words results firsts nexts out₀ n₀ h₀ out n h = Followed (take at copy) words results firsts nexts f out₀ h n out
 
 abbrev μ-loop : tie.MeasureT-loop
-μ-loop copy at f words results out₀ n₀ h₀ out n h = words - h
+μ-loop copy at f words results firsts nexts out₀ n₀ h₀ out n h = words - h
+
+element-copy-out-wide : tie.Need-element-copy-out-wide Inv-loop μ-loop
+element-copy-out-wide c = search needs
+
+wide-requires : tie.Need-wide-requires Inv-loop μ-loop
+wide-requires c κs = search needs
+
+element-copy-out-wide-2 : tie.Need-element-copy-out-wide-2 Inv-loop μ-loop
+element-copy-out-wide-2 c =
+    let start = c .before .before .before .before in
+    kind-low (start .pre .1 .1 .1 .1 .1 .1) (start .pre .1 .1 .1 .0) (c .wide .ensures .same)
+
+wide-requires-2 : tie.Need-wide-requires-2 Inv-loop μ-loop
+wide-requires-2 c κs = search needs
 
 loop-holds : tie.Need-loop-holds Inv-loop μ-loop
-loop-holds c = listed-none _ _ _ _ (c .before .pre .1 .1 .1 .1)
+loop-holds c =
+    let at-wide = c .before .before in
+    let start = at-wide .before .before .before .before in
+    followed-none (start .pre .1 .1 .0) (start .pre .1 .1 .1 .1 .0) (start .pre .1 .1 .1 .1 .1 .0) _ _ (at-wide .wide .ensures .same) (kind-low (start .pre .1 .1 .1 .1 .1 .1) (start .pre .1 .1 .1 .0) (at-wide .wide .ensures .same)) (c .wide2 .ensures .same)
 
-add-h : tie.Need-add-h Inv-loop μ-loop
-add-h c = search needs
+element-copy-out-wide-3 : tie.Need-element-copy-out-wide-3 Inv-loop μ-loop
+element-copy-out-wide-3 c = search needs
 
-other-requires : tie.Need-other-requires Inv-loop μ-loop
-other-requires c κs = search needs
+wide-requires-3 : tie.Need-wide-requires-3 Inv-loop μ-loop
+wide-requires-3 c κs = search needs
 
 cast-write-entry : tie.Need-cast-write-entry Inv-loop μ-loop
 cast-write-entry c = search needs
@@ -40,11 +57,10 @@ part-write-entry-end c = search needs
 write-entry-requires : tie.Need-write-entry-requires Inv-loop μ-loop
 write-entry-requires c κs =
     let at-if1 = c .before in
-    let at-other = at-if1 .before in
-    let at-loop-test = at-other .before in
+    let at-loop-test = at-if1 .before .before .before in
     let at-loop = at-loop-test .before in
-    let start = at-loop .before .before in
-    (start .pre .0, (start .pre .1 .0, listed-room _ _ _ _ (start .pre .1 .1 .1 .1) (length-take-le (start .args .at) (now (start .args .copy)) (omega arith)) (at-loop .loop .inv) (at-loop-test .loop-test .taken) (sym (at-other .other .ensures) ∙ at-if1 .if1 .taken) .1))
+    let start = at-loop .before .before .before .before .before .before .before in
+    (start .pre .0, (start .pre .1 .0, followed-room (at-loop .loop .inv) (at-loop-test .loop-test .taken) (at-if1 .if1 .taken) (length-take-le (start .args .at) (now (start .args .copy)) (omega arith))))
 
 add-n : tie.Need-add-n Inv-loop μ-loop
 add-n c = search needs
@@ -53,34 +69,41 @@ add-n-2 : tie.Need-add-n-2 Inv-loop μ-loop
 add-n-2 c = search needs
 
 loop-less : tie.Need-loop-less Inv-loop μ-loop
-loop-less c = search needs
+loop-less c =
+    let at-wide3 = c .before .before .before .before .before in
+    let at-loop-test = at-wide3 .before .before in
+    let at-loop = at-loop-test .before in
+    let z = followed-less (at-loop .loop .inv) (at-loop-test .loop-test .taken) _ (at-wide3 .wide3 .ensures .same) in omega arith
 
 loop-again : tie.Need-loop-again Inv-loop μ-loop
 loop-again c =
     let at-write-entry = c .before .before in
     let at-if1 = at-write-entry .before .before in
-    let at-other = at-if1 .before in
-    let at-loop-test = at-other .before in
+    let at-wide3 = at-if1 .before in
+    let at-loop-test = at-wide3 .before .before in
     let at-loop = at-loop-test .before in
-    let start = at-loop .before .before in
-    listed-taken _ _ _ _ (start .pre .1 .1 .1 .1) (length-take-le _ _ (omega arith)) (at-loop .loop .inv) (at-loop-test .loop-test .taken) (sym (at-other .other .ensures) ∙ at-if1 .if1 .taken) (at-write-entry .write-entry .ensures)
+    let start = at-loop .before .before .before .before .before .before .before in
+    followed-taken (at-loop .loop .inv) (at-loop-test .loop-test .taken) _ (at-wide3 .wide3 .ensures .same) (at-if1 .if1 .taken) (length-take-le (start .args .at) (now (start .args .copy)) (omega arith)) (at-write-entry .write-entry .ensures)
 
 loop-less-2 : tie.Need-loop-less-2 Inv-loop μ-loop
-loop-less-2 c = search needs
+loop-less-2 c =
+    let at-wide3 = c .before in
+    let at-loop-test = at-wide3 .before .before in
+    let at-loop = at-loop-test .before in
+    let z = followed-less (at-loop .loop .inv) (at-loop-test .loop-test .taken) _ (at-wide3 .wide3 .ensures .same) in omega arith
 
 loop-again-2 : tie.Need-loop-again-2 Inv-loop μ-loop
 loop-again-2 c =
-    let at-other = c .before in
-    let at-loop-test = at-other .before in
+    let at-wide3 = c .before in
+    let at-loop-test = at-wide3 .before .before in
     let at-loop = at-loop-test .before in
-    let start = at-loop .before .before in
-    listed-left _ _ _ _ (start .pre .1 .1 .1 .1) (at-loop .loop .inv) (at-loop-test .loop-test .taken) (sym (at-other .other .ensures) ∙ c .if1 .left)
+    followed-left (at-loop .loop .inv) (at-loop-test .loop-test .taken) _ (at-wide3 .wide3 .ensures .same) (c .if1 .left)
 
 same-length : tie.Need-same-length Inv-loop μ-loop
 same-length c = search needs
 
 returns : tie.Need-returns Inv-loop μ-loop
-returns c = listed-all _ _ _ _ (c .before .before .before .pre .1 .1 .1 .1) (c .before .loop .inv) (c .loop-test .left)
+returns c = followed-all (c .before .loop .inv) (c .loop-test .left)
 
 pub write-others-spec : {M : Type 1} → statement M
 write-others-spec =
@@ -88,9 +111,13 @@ write-others-spec =
     (tie.spec
     Inv-loop
     μ-loop
+    element-copy-out-wide
+    wide-requires
+    element-copy-out-wide-2
+    wide-requires-2
     loop-holds
-    add-h
-    other-requires
+    element-copy-out-wide-3
+    wide-requires-3
     cast-write-entry
     sub-write-entry
     part-write-entry-start
