@@ -1,8 +1,10 @@
 #!/usr/bin/env python3
-"""Makes what the programs `examples` and `families` must write, by a second implementation of document 01.
+"""Makes what the programs `examples`, `families` and `leftovers` must write, by a second implementation of document 01.
 
   python3 tools/expected.py examples > crates/examples/stdout
   python3 tools/expected.py families > crates/families/stdout
+  python3 tools/expected.py long-input > crates/leftovers/stdin
+  python3 tools/expected.py leftovers > crates/leftovers/stdout
 
 The cases of `examples` stand in crates/examples/stdin; crates/examples/src/cases.rt says how a line is
 written. The calls below are a second reading of document 01's sentences. They share no code with the
@@ -546,6 +548,24 @@ GAPS_FAMILY = h("02 06  00 00  00 00  01 00  01 00  00 81 00 01  01 12 01 00")
 # One kind, a, b, and a word with places 0, 3 and 6.
 THREE = h("01 03  00 00  00 00  00 49 00 00 00")
 
+# An input for `leftovers` of almost 5,000 bytes with a listing of almost 65,536: of the kinds in the pattern only the
+# last, 5, has several words. Kind 6 does not stand in the pattern and makes the vocabulary long.
+LONG_VOCABULARY = (
+    h("07 60  00 ff 01 01 01 01 01 01 01 05  01 ff") + h("02") * 8 + h("02 ff") + h("03") * 8
+    + h("03 0f 04 04 04 04  04 00") + h("05 00") * 16 + h("06 00") + (h("06 ff") + h("06") * 8) * 74
+)
+
+
+# 448 words of kind 3, of which the first 190 have all their four places written and the others three.
+def long_pattern():
+    threes = [h("03 0f") + h("04 00") * 4] * 190 + [h("03 07") + h("04 00") * 3] * 258
+    twos = [h("02 ff") + b"".join(threes[8 * i : 8 * i + 8]) for i in range(56)]
+    ones = [h("01 ff") + b"".join(twos[8 * i : 8 * i + 8]) for i in range(7)]
+    return h("00 00 ff") + b"".join(ones) + h("05 00")
+
+
+LONG_INPUT = len(LONG_VOCABULARY).to_bytes(2, "big") + LONG_VOCABULARY + long_pattern()
+
 # ---------------------------------------------------------------- the families
 
 
@@ -770,6 +790,10 @@ def printed_by_hand():
     # "No byte or one byte: the vocabulary is empty"; "Length 11 before C's ten bytes"
     assert printed(h("")) == printed(h("00")) == printed(h("01")) == "refused 1 0 0\n"
     assert printed(h("00 0b") + C) == "refused 7 1 0\n"
+    # Only the last word has siblings: 15 entries, each the pattern with another word for it.
+    front = long_pattern()[:-2].hex()
+    assert len(long_pattern()) == 4095
+    assert printed(LONG_INPUT) == "leftovers 15\n" + "".join(f"{i} {front}{5 + i:02x}00\n" for i in range(1, 16))
 
 
 FULL_TREE = "00 02 03 [1,18] 00 00 [21,2] [19,6] [17,14] [15,30] [13,62] [11,126] [9,254] [7,510] [5,1022] [3,2046]"
@@ -781,8 +805,15 @@ def main():
     listed_by_hand()
     printed_by_hand()
     listings_divide()
-    cases = Path(__file__).parent.parent / "crates" / "examples" / "stdin"
-    programs = {"examples": lambda: examples(cases.read_text()), "families": families}
+    crates = Path(__file__).parent.parent / "crates"
+    if sys.argv[1] == "long-input":
+        sys.stdout.buffer.write(LONG_INPUT)
+        return
+    programs = {
+        "examples": lambda: examples((crates / "examples" / "stdin").read_text()),
+        "families": families,
+        "leftovers": lambda: printed((crates / "leftovers" / "stdin").read_bytes()).splitlines(),
+    }
     lines = list(programs[sys.argv[1]]())
     sys.stdout.write("".join(line + "\n" for line in lines))
 

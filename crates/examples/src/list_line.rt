@@ -1,30 +1,16 @@
 // List on one case: calls it and prints the reply and the slice. The lent slice is filled with 238 (ee) before the call.
 use crate::notation;
 use crate::say;
-use complement::ListAnswer;
 use reader::TermAnswer;
 ghost use Prim.Native.Nat.{_<_};
 ghost use lib.ListN.{length};
 
-fn answer(given: ListAnswer) {
-    match given {
-        ListAnswer::Listed(entries, bytes) => say::accepted(entries, bytes),
-        ListAnswer::Vocabulary(why) => say::vocabulary_refused(why),
-        ListAnswer::Pattern(why) => say::term_refused(why, 1),
-        ListAnswer::Repeated(at) => say::refused(18, 1, at),
-        ListAnswer::NoRoom(bytes) => say::refused(20, 3, bytes),
-    }
-}
-
 // How many bytes of the slice the entries have.
-fn written(given: ListAnswer) -> usize {
-    match given {
-        ListAnswer::Listed(_, bytes) => bytes,
-        ListAnswer::Vocabulary(_) => 0,
-        ListAnswer::Pattern(_) => 0,
-        ListAnswer::Repeated(_) => 0,
-        ListAnswer::NoRoom(_) => 0,
+fn written(line: u64, bytes: u64) -> usize {
+    if line == 0 {
+        return bytes as usize;
     }
+    0
 }
 
 // A sum of bytes in which each has its own weight: the powers of 31, the last byte's being 1, modulo 65,521.
@@ -52,11 +38,9 @@ fn as_lent(bytes: &[u8]) -> usize {
     n
 }
 
-// Tells the sum of the entries' bytes, and how many bytes behind them are as lent.
-fn told_sum(given: ListAnswer, out: &[u8]) {
-    let n = written(given);
+// Tells the sum of the entries' bytes, n in all, and how many bytes behind them are as lent.
+fn told_sum(n: usize, out: &[u8]) {
     let behind = notation::between(out, n, out.len());
-    answer(given);
     say::text(b", sum ");
     say::count(sum(notation::between(out, 0, n)), b", ");
     say::count(as_lent(behind), b" of ");
@@ -64,8 +48,7 @@ fn told_sum(given: ListAnswer, out: &[u8]) {
 }
 
 // Tells the whole slice.
-fn told_whole(given: ListAnswer, out: &[u8]) {
-    answer(given);
+fn told_whole(out: &[u8]) {
     say::text(b", ");
     say::bytes(out);
 }
@@ -123,13 +106,8 @@ fn place(vocabulary: &[u8], sought: &[u8], entries: &[u8]) -> usize {
 }
 
 // Tells where the sought entry stands.
-fn told_place(given: ListAnswer, vocabulary: &[u8], sought: &[u8], out: &[u8]) {
-    answer(given);
-    let number = place(
-        vocabulary,
-        sought,
-        notation::between(out, 0, written(given)),
-    );
+fn told_place(vocabulary: &[u8], sought: &[u8], entries: &[u8]) {
+    let number = place(vocabulary, sought, entries);
     if number == 0 {
         say::text(b", it is no entry\n");
         return;
@@ -140,15 +118,18 @@ fn told_place(given: ListAnswer, vocabulary: &[u8], sought: &[u8], out: &[u8]) {
 
 // Lists into the lent slice, and tells the answer and what the line asks of the slice.
 fn asked(key: u8, vocabulary: &[u8], pattern: &[u8], sought: &[u8], out: &mut [u8]) {
-    let given = complement::list(vocabulary, pattern, out);
+    let mut given = [0u64; 3];
+    pheasantry::pheasantry_list(vocabulary, pattern, out, &mut given);
+    say::reply(given[0], given[1], given[2]);
+    let n = written(given[0], given[2]);
     if key == b'l' {
-        told_whole(given, out);
+        told_whole(out);
     }
     if key == b's' {
-        told_sum(given, out);
+        told_sum(n, out);
     }
     if key == b'f' {
-        told_place(given, vocabulary, sought, out);
+        told_place(vocabulary, sought, notation::between(out, 0, n));
     }
 }
 

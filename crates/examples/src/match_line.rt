@@ -1,20 +1,25 @@
 // Match on one case: calls it and prints the reply and the table.
 use crate::lent;
 use crate::say;
-use matcher::MatchAnswer;
 
-fn answer(given: MatchAnswer) {
-    match given {
-        MatchAnswer::Yes => say::text(b"yes"),
-        MatchAnswer::No => say::text(b"no"),
-        MatchAnswer::Inputs(why) => say::inputs_refused(why),
-        MatchAnswer::TableLength => say::refused(19, 3, 0),
+// Yes, no or a refusal.
+fn answer(line: u64, one: u64, other: u64) {
+    if line != 0 {
+        say::refused(line, one, other);
+        return;
     }
+    if one == 1 {
+        say::text(b"yes");
+        return;
+    }
+    say::text(b"no");
 }
 
 // Matches with the lent table, and tells the answer and the table.
 fn asked(vocabulary: &[u8], pattern: &[u8], situation: &[u8], table: &mut [u16]) {
-    answer(matcher::match_pattern(vocabulary, pattern, situation, table));
+    let mut given = [0u64; 3];
+    pheasantry::pheasantry_match(vocabulary, pattern, situation, table, &mut given);
+    answer(given[0], given[1], given[2]);
     lent::contents(table);
 }
 

@@ -41,15 +41,15 @@ pub record TermReplied (v b numbers : List ℕ) : Type 0 where
 pub record MatchReplied (v p s before after numbers : List ℕ) : Type 0 where
   pub reply : numbers ≡ replyNumbers (matched v p s before .reply)
   pub table : after ≡ matched v p s before .table
-  -- Demand 2, of the numbers and the lent table.
+  -- Demands 1 and 2, of the numbers and the lent table.
   pub promise : MatchPromise v p s before after (replyIn 1 numbers)
 
 abbrev pub partIn : List ℕ → List ℕ → List ℕ
-partIn s numbers = cutOut s (record { offset = getD numbers 1 0; length = getD numbers 2 0 })
+partIn s numbers = cutOut s (record { offset = getD numbers 1 0; bytes = getD numbers 2 0 })
 
 -- Part is never refused.
 pub record PartReplied (v p s : List ℕ) (n : ℕ) (numbers : List ℕ) : Type 0 where
-  pub reply : numbers ≡ replyNumbers (accepted (partSpan v p s n .offset ∷ partSpan v p s n .length ∷ []))
+  pub reply : numbers ≡ replyNumbers (accepted (partSpan v p s n .offset ∷ partSpan v p s n .bytes ∷ []))
   -- The numbers cut the very part out of the lent situation.
   pub part : partIn s numbers ≡ partOf v p s n
   pub promise : PartPromise v p s n (partIn s numbers)
@@ -57,5 +57,5 @@ pub record PartReplied (v p s : List ℕ) (n : ℕ) (numbers : List ℕ) : Type 
 pub record ListReplied (v p before after numbers : List ℕ) : Type 0 where
   pub reply : numbers ≡ replyNumbers (listed v p before .reply)
   pub out : after ≡ listed v p before .out
-  -- Demand 3, of the numbers and the lent slice.
+  -- Demands 1 to 3, of the numbers and the lent slice.
   pub promise : ListPromise v p before after (replyIn 2 numbers)

@@ -6,5 +6,5 @@ pub mod Parts
 pub mod Counting
 -- The lines, and the whole text: it is the one that is printed, and it has room.
 pub mod Lines
-pub mod Answers
+pub mod Replies
 pub mod Reported

@@ -10,7 +10,7 @@ use Prim.Native.Nat.{ℕ, suc, _+_, _-_, _^_, _<_, _≤_}
 use native.Mathlib.Omega.{arith}
 use lib.ListN.{length, take, drop, length-append, length-drop}
 use lib.Seq.{drop-drop}
-use Rattle.wire.specs.Text.{ascii, decimal, hexadecimal}
+use Rattle.wire.specs.Text.{ascii, newline, decimal, hexadecimal}
 use Rattle.wire.specs.Printed.{entryLines, refusalLine}
 use Rattle.wire.proofs.Text.{decimal-short}
 use Rattle.wire.proofs.EntryCut.{entrySize, entry-within, cut}
@@ -18,17 +18,17 @@ use Rattle.report.specs.Putting.{Put, entryLine, listingText}
 use Rattle.report.proofs.Putting.{first-room, rest-room, put-both, second-of-three, third-of-three, put-three, Printing, printing-none, printing-length, printing-next, printing-turn, printing-all}
 use Rattle.report.proofs.Parts.{to-end}
 
-pub line-is : (i : ℕ) (e : List ℕ) → entryLine i e ≡ (decimal i ++ ascii " ") ++ (hexadecimal e ++ ascii "\n")
-line-is i e = sym (append-assoc (decimal i) (ascii " ") (hexadecimal e ++ ascii "\n"))
+pub line-is : (i : ℕ) (e : List ℕ) → entryLine i e ≡ (decimal i ++ ascii " ") ++ (hexadecimal e ++ newline)
+line-is i e = sym (append-assoc (decimal i) (ascii " ") (hexadecimal e ++ newline))
 
-pub listing-is : (n : ℕ) (l : List ℕ) → listingText n l ≡ ascii "leftovers " ++ ((decimal n ++ ascii "\n") ++ entryLines 1 (cut n l))
-listing-is n l = ap (λ (t : List ℕ). ascii "leftovers " ++ t) (sym (append-assoc (decimal n) (ascii "\n") (entryLines 1 (cut n l))))
+pub listing-is : (n : ℕ) (l : List ℕ) → listingText n l ≡ ascii "leftovers " ++ ((decimal n ++ newline) ++ entryLines 1 (cut n l))
+listing-is n l = ap (λ (t : List ℕ). ascii "leftovers " ++ t) (sym (append-assoc (decimal n) (newline) (entryLines 1 (cut n l))))
 
 -- ---- the line of a refusal
 
 module _ (n i q : ℕ) (before : List ℕ) (small : (n < 2 ^ 64) × (i < 2 ^ 64) × (q < 2 ^ 64)) (room : 128 ≤ length before) where
   abbrev place : List ℕ
-  place = decimal q ++ ascii "\n"
+  place = decimal q ++ newline
 
   abbrev numbers : List ℕ
   numbers = (decimal i ++ ascii " ") ++ place
@@ -50,7 +50,7 @@ module _ (n i q : ℕ) (before : List ℕ) (small : (n < 2 ^ 64) × (i < 2 ^ 64)
         decimal-short 19 q (let h = small .2 in omega arith),
         length-append (decimal n) (ascii " " ++ (decimal i ++ (ascii " " ++ place))),
         length-append (decimal i) (ascii " " ++ place),
-        length-append (decimal q) (ascii "\n"),
+        length-append (decimal q) (newline),
       )
 
   module _ {a : ℕ} {l : List ℕ} (h : Put (ascii "refused ") before 0 a l) where

@@ -17,7 +17,7 @@ use Rattle.wire.specs.Vocabulary.{Vocabulary, InOrder, signature}
 use Rattle.wire.specs.Written.{encodeTerm, GoodTerm}
 use Rattle.wire.specs.Reading.{readVocabulary, Kinded}
 use Rattle.wire.specs.Listed.{Listed, checkedLinear, kinded, entriesBytes, entriesOf, listedInto, listedPattern, listedVocabulary, listed, ListPromise}
-use Rattle.wire.specs.Text.{ascii, decimal, hexadecimal}
+use Rattle.wire.specs.Text.{ascii, newline, decimal, hexadecimal}
 use Rattle.wire.specs.Printed.{mostInput, listingSpace, vocabularyLength, vocabularyPart, patternPart, entriesUnder, entriesWith, entryLines, reported, printedFrom, printed}
 use Rattle.wire.proofs.Text.{decimal-short, hexadecimal-length}
 use Rattle.wire.proofs.Levels.{deepest-bytes}
@@ -45,8 +45,8 @@ lines-length i (e ∷ es) h =
     omega (
       arith,
       length-append (entryLine i e) (entryLines (suc i) es),
-      length-append (decimal i) (ascii " " ++ (hexadecimal e ++ ascii "\n")),
-      length-append (hexadecimal e) (ascii "\n"),
+      length-append (decimal i) (ascii " " ++ (hexadecimal e ++ newline)),
+      length-append (hexadecimal e) (newline),
       hexadecimal-length e,
       decimal-short 4 i (omega arith),
     )
@@ -96,7 +96,7 @@ module _ (before : List ℕ) (long : length before ≡ 65536) where
 
           same : listingText (length l) (b ++ drop (length b) before) ≡ reported (accepted []) es
           same =
-              ap₂ (λ (n : ℕ) (es : List (List ℕ)). ascii "leftovers " ++ (decimal n ++ (ascii "\n" ++ entryLines 1 es)))
+              ap₂ (λ (n : ℕ) (es : List (List ℕ)). ascii "leftovers " ++ (decimal n ++ (newline ++ entryLines 1 es)))
               (sym (length-map l (written W))) (cut-entries W inOrder l (drop (length b) before) good)
 
           fits : length (reported (accepted []) es) ≤ 524288
@@ -107,7 +107,7 @@ module _ (before : List ℕ) (long : length before ≡ 65536) where
               let whole = long in
               let digits = decimal-short 4 (length es) (omega arith) in
               let lines = lines-length 1 es (omega arith) in
-              omega (arith, length-append (decimal (length es)) (ascii "\n" ++ entryLines 1 es), total-entries W l)
+              omega (arith, length-append (decimal (length es)) (newline ++ entryLines 1 es), total-entries W l)
 
   module _ (p : List ℕ) (bp : IsBytes p) where
     pattern-shown : (W : Vocabulary) → InOrder W → (r : Reading Kinded) → checkedLinear W p ≡ r →

@@ -1,7 +1,6 @@
 -- Putting: what the functions that put a text together promise each other; no public contract cites it.
 --
 --   Put bytes before at next after   the bytes are put at an offset; those before and behind them are as before
---   refusalReply r                   a refusal's three numbers as a reply
 --   entryLine i e                    the line of one entry
 --   listingText n l                  the text for n entries that stand at the front of l
 --   answerText r l                   the text for the reply r of list, with l in the lent slice
@@ -12,23 +11,19 @@ use mathlib.Core.List.{List, [], _∷_, _++_}
 use Prim.Native.Nat.{ℕ, _+_, _≤_}
 use lib.ListN.{length, take, drop}
 use Rattle.wire.specs.Reply.{Reply, accepted, refused}
-use Rattle.wire.specs.Text.{ascii, decimal, hexadecimal}
+use Rattle.wire.specs.Text.{ascii, newline, decimal, hexadecimal}
 use Rattle.wire.specs.Printed.{entryLines, refusalLine}
 use Rattle.wire.proofs.EntryCut.{cut}
-use Rattle.report.specs.declared.Refusal.{Refusal}
 
 pub record Put (bytes before : List ℕ) (at next : ℕ) (after : List ℕ) : Type 0 where
   pub behind : next ≡ at + length bytes
   pub same : after ≡ take at before ++ (bytes ++ drop next before)
 
-abbrev pub refusalReply : Refusal → Reply
-refusalReply r = refused (r .line) (r .input) (r .place)
-
 abbrev pub entryLine : ℕ → List ℕ → List ℕ
-entryLine i e = decimal i ++ (ascii " " ++ (hexadecimal e ++ ascii "\n"))
+entryLine i e = decimal i ++ (ascii " " ++ (hexadecimal e ++ newline))
 
 abbrev pub listingText : ℕ → List ℕ → List ℕ
-listingText n l = ascii "leftovers " ++ (decimal n ++ (ascii "\n" ++ entryLines 1 (cut n l)))
+listingText n l = ascii "leftovers " ++ (decimal n ++ (newline ++ entryLines 1 (cut n l)))
 
 abbrev pub answerText : Reply → List ℕ → List ℕ
 answerText (refused n i q) l = refusalLine n i q

@@ -3,26 +3,13 @@ ghost use mathlib.Core.Path.{_≡_};
 ghost use mathlib.Core.List.{_++_};
 ghost use Prim.Native.Nat.{_+_, _≤_, _<_, min};
 ghost use lib.ListN.{length};
-ghost use Rattle.signature.specs.Answers.{vocabularyRefused};
-ghost use Rattle.reader.specs.Answers.{termRefused};
-ghost use Rattle.complement.specs.Answers.{listNumbers};
-ghost use Rattle.wire.specs.Reply.{refused};
 ghost use Rattle.wire.specs.Text.{decimal, hexadecimal};
 ghost use Rattle.wire.specs.Text.{digit as Text·digit};
 ghost use Rattle.wire.specs.Printed.{vocabularyLength, vocabularyPart, patternPart, entryLines, refusalLine, printedFrom};
 ghost use Rattle.wire.proofs.EntryCut.{cut, entrySize};
+ghost use Rattle.pheasantry.specs.Replies.{replyIn};
 ghost use Rattle.report.specs.Prints.{Prints};
-ghost use Rattle.report.specs.Putting.{Put, refusalReply, entryLine, listingText, answerText, HasRoom};
-use complement::ListAnswer;
-use reader::TermRefusal;
-use signature::VocabularyRefusal;
-
-// A refusal in document 01's numbers.
-struct Refusal {
-    line: usize,
-    input: usize,
-    place: usize,
-}
+ghost use Rattle.report.specs.Putting.{Put, entryLine, listingText, answerText, HasRoom};
 
 fn wide(b: u8) -> usize
     ensures { λ r. ⌜ r ≡ b ⌝ }
@@ -34,43 +21,6 @@ fn least(a: usize, b: usize) -> usize
     ensures { λ r. ⌜ r ≡ min a b ⌝ }
 {
     if a < b { a } else { b }
-}
-
-fn refuse(line: usize, input: usize, place: usize) -> Refusal
-    ensures { λ r. ⌜ refusalReply r ≡ refused line input place ⌝ }
-{
-    Refusal { line, input, place }
-}
-
-// Lines 1 to 6. The vocabulary is input 0.
-fn vocabulary_refusal(why: VocabularyRefusal) -> Refusal
-    ensures { λ r. ⌜ refusalReply r ≡ vocabularyRefused why ⌝ }
-{
-    match why {
-        VocabularyRefusal::Head => refuse(1, 0, 0),
-        VocabularyRefusal::WordCount => refuse(2, 0, 1),
-        VocabularyRefusal::Ends(q) => refuse(3, 0, q),
-        VocabularyRefusal::NoSuchKind(q) => refuse(4, 0, q),
-        VocabularyRefusal::Continues(q) => refuse(5, 0, q),
-        VocabularyRefusal::EmptyKind(k) => refuse(6, 0, k),
-    }
-}
-
-// Lines 7 to 15. The pattern is input 1.
-fn term_refusal(why: TermRefusal) -> Refusal
-    ensures { λ r. ⌜ refusalReply r ≡ termRefused 1 why ⌝ }
-{
-    match why {
-        TermRefusal::Size => refuse(7, 1, 0),
-        TermRefusal::NoSuchKind => refuse(8, 1, 0),
-        TermRefusal::Ends(q) => refuse(9, 1, q),
-        TermRefusal::TooDeep(q) => refuse(10, 1, q),
-        TermRefusal::NoWordOrName(q) => refuse(11, 1, q),
-        TermRefusal::WrongKind(q) => refuse(12, 1, q),
-        TermRefusal::Clashes(q) => refuse(13, 1, q),
-        TermRefusal::StrayBit(q) => refuse(14, 1, q),
-        TermRefusal::Continues(q) => refuse(15, 1, q),
-    }
 }
 
 // Puts bytes at an offset, and gives the offset behind them.
@@ -89,12 +39,12 @@ fn put(bytes: &[u8], text: &mut [u8], at: usize) -> usize
 }
 
 // Puts a number in decimal, and bytes behind it.
-fn put_number(n: usize, behind: &[u8], text: &mut [u8], at: usize) -> usize
+fn put_number(n: u64, behind: &[u8], text: &mut [u8], at: usize) -> usize
     requires { ⌜ at + length (decimal n ++ now behind) ≤ length (now text) ⌝ }
     ensures { λ r. ⌜ Put (decimal n ++ now (behind .entry)) (now (text .entry)) at r (now (text .exit)) ⌝ }
 {
     let mut digits = [0u8; 20];
-    let k = io::decimal(n as u64, &mut digits);
+    let k = io::decimal(n, &mut digits);
     let next = put(&digits[0..k], text, at);
     put(behind, text, next)
 }
@@ -125,7 +75,7 @@ fn put_hexadecimal(bytes: &[u8], text: &mut [u8], at: usize) -> usize
 }
 
 // Puts the line of an entry.
-fn put_line(number: usize, entry: &[u8], text: &mut [u8], at: usize) -> usize
+fn put_line(number: u64, entry: &[u8], text: &mut [u8], at: usize) -> usize
     requires { ⌜ at + length (entryLine number (now entry)) ≤ length (now text) ⌝ }
     ensures { λ r. ⌜ Put (entryLine number (now (entry .entry))) (now (text .entry)) at r (now (text .exit)) ⌝ }
 {
@@ -164,7 +114,7 @@ fn entry_size(listing: &[u8]) -> usize
 }
 
 // Puts a line for each of the n entries that stand at the front of a listing.
-fn put_lines(listing: &[u8], n: usize, text: &mut [u8], at: usize) -> usize
+fn put_lines(listing: &[u8], n: u64, text: &mut [u8], at: usize) -> usize
     requires { ⌜ length (now listing) ≤ 65536 ⌝ }
     requires { ⌜ at + length (entryLines 1 (cut n (now listing))) ≤ length (now text) ⌝ }
     ensures { λ r. ⌜ Put (entryLines 1 (cut n (now (listing .entry)))) (now (text .entry)) at r (now (text .exit)) ⌝ }
@@ -182,7 +132,7 @@ fn put_lines(listing: &[u8], n: usize, text: &mut [u8], at: usize) -> usize
 }
 
 // Puts the text for n entries.
-fn put_listing(listing: &[u8], n: usize, text: &mut [u8]) -> usize
+fn put_listing(listing: &[u8], n: u64, text: &mut [u8]) -> usize
     requires { ⌜ length (now listing) ≤ 65536 ⌝ }
     requires { ⌜ length (listingText n (now listing)) ≤ length (now text) ⌝ }
     ensures { λ r. ⌜ Put (listingText n (now (listing .entry))) (now (text .entry)) 0 r (now (text .exit)) ⌝ }
@@ -192,34 +142,29 @@ fn put_listing(listing: &[u8], n: usize, text: &mut [u8]) -> usize
     put_lines(listing, n, text, counted)
 }
 
-// Puts the line of a refusal.
-fn put_refusal(why: Refusal, text: &mut [u8]) -> usize
+// Puts the line of a refusal: number, input and place.
+fn put_refusal(line: u64, input: u64, place: u64, text: &mut [u8]) -> usize
     requires { ⌜ 128 ≤ length (now text) ⌝ }
-    ensures { λ r. ⌜ Put (refusalLine (why .line) (why .input) (why .place)) (now (text .entry)) 0 r (now (text .exit)) ⌝ }
+    ensures { λ r. ⌜ Put (refusalLine line input place) (now (text .entry)) 0 r (now (text .exit)) ⌝ }
 {
-    let line = why.line;
-    let input = why.input;
-    let place = why.place;
     let a = put(b"refused ", text, 0);
     let b = put_number(line, b" ", text, a);
     let c = put_number(input, b" ", text, b);
     put_number(place, b"\n", text, c)
 }
 
-// Puts the text for an answer of list, with the entries in the lent slice.
-fn put_answer(answer: ListAnswer, listing: &[u8], text: &mut [u8]) -> usize
+// Puts the text for a reply of list, with the entries in the lent slice.
+fn put_reply(reply: &[u64; 3], listing: &[u8], text: &mut [u8]) -> usize
     requires { ⌜ length (now listing) ≤ 65536 ⌝ }
     requires { ⌜ 128 ≤ length (now text) ⌝ }
-    requires { ⌜ HasRoom (listNumbers answer) (now listing) (length (now text)) ⌝ }
-    ensures { λ r. ⌜ Put (answerText (listNumbers answer) (now (listing .entry))) (now (text .entry)) 0 r (now (text .exit)) ⌝ }
+    requires { ⌜ length (now reply) ≡ 3 ⌝ }
+    requires { ⌜ HasRoom (replyIn 2 (now reply)) (now listing) (length (now text)) ⌝ }
+    ensures { λ r. ⌜ Put (answerText (replyIn 2 (now (reply .entry))) (now (listing .entry))) (now (text .entry)) 0 r (now (text .exit)) ⌝ }
 {
-    match answer {
-        ListAnswer::Listed(entries, _) => put_listing(listing, entries, text),
-        ListAnswer::Vocabulary(why) => put_refusal(vocabulary_refusal(why), text),
-        ListAnswer::Pattern(why) => put_refusal(term_refusal(why), text),
-        ListAnswer::Repeated(q) => put_refusal(refuse(18, 1, q), text),
-        ListAnswer::NoRoom(bytes) => put_refusal(refuse(20, 3, bytes), text),
+    if reply[0] == 0 {
+        return put_listing(listing, reply[1], text);
     }
+    put_refusal(reply[0], reply[1], reply[2], text)
 }
 
 // Puts the text for a vocabulary and a pattern.
@@ -228,8 +173,9 @@ fn print_from(vocabulary: &[u8], pattern: &[u8], text: &mut [u8]) -> usize
     ensures { λ r. ⌜ Put (printedFrom (now (vocabulary .entry)) (now (pattern .entry))) (now (text .entry)) 0 r (now (text .exit)) ⌝ }
 {
     let mut space = [0u8; 65536];
-    let answer = complement::list(vocabulary, pattern, &mut space);
-    put_answer(answer, &space, text)
+    let mut reply = [0u64; 3];
+    pheasantry::pheasantry_list(vocabulary, pattern, &mut space, &mut reply);
+    put_reply(&reply, &space, text)
 }
 
 // The length that the first two bytes give, the high byte first.

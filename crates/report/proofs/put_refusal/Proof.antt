@@ -18,7 +18,7 @@ put-number-requires : tie.Need-put-number-requires
 put-number-requires c κs =
     let at-put = c .before .before .before .before in
     let start = at-put .before .before .before .before in
-    refusal-number-room (start .args .why .line) (start .args .why .input) (start .args .why .place) (now (start .args .text)) (search needs, search needs, search needs) (start .pre) (at-put .put .ensures)
+    refusal-number-room (start .args .line) (start .args .input) (start .args .place) (now (start .args .text)) (search needs, search needs, search needs) (start .pre) (at-put .put .ensures)
 
 slice-aggregate-put-number-2 : tie.Need-slice-aggregate-put-number-2
 slice-aggregate-put-number-2 c = search needs
@@ -28,7 +28,7 @@ put-number-requires-2 c κs =
     let at-put-number = c .before .before .before .before in
     let at-put = at-put-number .before .before .before .before .before in
     let start = at-put .before .before .before .before in
-    refusal-input-room (start .args .why .line) (start .args .why .input) (start .args .why .place) (now (start .args .text)) (search needs, search needs, search needs) (start .pre) (at-put .put .ensures) (at-put-number .put-number .ensures)
+    refusal-input-room (start .args .line) (start .args .input) (start .args .place) (now (start .args .text)) (search needs, search needs, search needs) (start .pre) (at-put .put .ensures) (at-put-number .put-number .ensures)
 
 slice-aggregate-put-number-3 : tie.Need-slice-aggregate-put-number-3
 slice-aggregate-put-number-3 c = search needs
@@ -39,7 +39,7 @@ put-number-requires-3 c κs =
     let at-put-number = at-put-number2 .before .before .before .before .before in
     let at-put = at-put-number .before .before .before .before .before in
     let start = at-put .before .before .before .before in
-    refusal-place-room (start .args .why .line) (start .args .why .input) (start .args .why .place) (now (start .args .text)) (search needs, search needs, search needs) (start .pre) (at-put .put .ensures) (at-put-number .put-number .ensures) (at-put-number2 .put-number2 .ensures)
+    refusal-place-room (start .args .line) (start .args .input) (start .args .place) (now (start .args .text)) (search needs, search needs, search needs) (start .pre) (at-put .put .ensures) (at-put-number .put-number .ensures) (at-put-number2 .put-number2 .ensures)
 
 same-length : tie.Need-same-length
 same-length c = search needs
@@ -50,7 +50,7 @@ returns c =
     let at-put-number = at-put-number2 .before .before .before .before .before in
     let at-put = at-put-number .before .before .before .before .before in
     let start = at-put .before .before .before .before in
-    refusal-put (start .args .why .line) (start .args .why .input) (start .args .why .place) (now (start .args .text)) (search needs, search needs, search needs) (start .pre) (at-put .put .ensures) (at-put-number .put-number .ensures) (at-put-number2 .put-number2 .ensures) (c .before .before .put-number3 .ensures)
+    refusal-put (start .args .line) (start .args .input) (start .args .place) (now (start .args .text)) (search needs, search needs, search needs) (start .pre) (at-put .put .ensures) (at-put-number .put-number .ensures) (at-put-number2 .put-number2 .ensures) (c .before .before .put-number3 .ensures)
 
 pub put-refusal-spec : {M : Type 1} → statement M
 put-refusal-spec =
