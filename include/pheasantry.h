@@ -122,8 +122,8 @@ void pheasantry_part(const uint8_t *vocabulary, size_t vocabulary_length,
  *
  * Accepted: 0, the number of entries, the number of bytes written. Bytes of out behind them stay as
  *   they were.
- * Refused: 1 to 15, 18 and 20. A call with an out_length of 0 measures: it is refused with 20, and
- *   reply[2] is the length that out has to have, unless there are no leftovers.
+ * Refused: 1 to 15, 18 and 20. A call with an out_length of 0 measures: where the inputs are in order
+ *   and there are leftovers it is refused with 20, and reply[2] is the length that out has to have.
  */
 void pheasantry_list(const uint8_t *vocabulary, size_t vocabulary_length,
                      const uint8_t *pattern, size_t pattern_length,

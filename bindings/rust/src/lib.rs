@@ -190,7 +190,7 @@ pub fn match_pattern(
 
 /// Matches a pattern with a complete situation. Yes fills the lent table, which has [`TABLE_LENGTH`]
 /// numbers: the offset of name n at 2n, its length at 2n + 1, and 0 and 0 for a name that does not
-/// stand in the pattern. No and a refusal leave it as it was.
+/// stand in the pattern. No and a refusal leave it as it was; a table of another length is refused with 19.
 pub fn match_into(
     vocabulary: &[u8],
     pattern: &[u8],
@@ -298,7 +298,8 @@ pub fn leftovers(vocabulary: &[u8], pattern: &[u8]) -> Result<Vec<Vec<u8>>, Refu
     Ok(entries(&out).map(<[u8]>::to_vec).collect())
 }
 
-/// Takes a listing apart: the entries in the bytes that [`list`] wrote.
+/// Takes a listing apart: the entries in the bytes that [`list`] wrote, `&out[..listed.bytes]`. Bytes behind
+/// them would be taken for more entries.
 ///
 /// ```
 /// let listing = [0, 5, 0, 0, 0, 1, 2, 0, 0, 0, 3, 1, 0, 4, 0];

@@ -156,8 +156,9 @@ impl Refusal {
         self.input
     }
 
-    /// The offset of the offending byte or of the missing one. For [`Reason::EmptyKind`] it is a kind,
-    /// and for [`Reason::NoRoom`] the length that is needed.
+    /// The offset of the offending byte or of the missing one. For [`Reason::EmptyKind`] it is a kind, for
+    /// [`Reason::NoRoom`] the length that is needed, and 0 for [`Reason::Head`], [`Reason::Size`],
+    /// [`Reason::KindsDiffer`] and [`Reason::TableLength`], which are about no one byte.
     pub fn place(&self) -> usize {
         self.place
     }
@@ -171,11 +172,13 @@ impl fmt::Display for Refusal {
         match (self.input, self.reason) {
             (_, Reason::EmptyKind) => write!(f, " (vocabulary, kind {place})"),
             (_, Reason::NoRoom) => write!(f, " (it takes {place} bytes)"),
-            (_, Reason::TableLength) => Ok(()),
+            (Input::Output, _) => Ok(()),
+            (Input::Vocabulary, Reason::Head) => write!(f, " (vocabulary)"),
+            (Input::Pattern, Reason::Size) => write!(f, " (pattern)"),
+            (Input::Situation, Reason::Size | Reason::KindsDiffer) => write!(f, " (situation)"),
             (Input::Vocabulary, _) => write!(f, " (vocabulary, byte {place})"),
             (Input::Pattern, _) => write!(f, " (pattern, byte {place})"),
             (Input::Situation, _) => write!(f, " (situation, byte {place})"),
-            (Input::Output, _) => Ok(()),
         }
     }
 }
