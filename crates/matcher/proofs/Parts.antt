@@ -1,6 +1,6 @@
 -- Parts: what a name covers, and the table filled.
 use mathlib.Core.Path.{_≡_, refl, sym, ap, ap₂, _∙_, subst}
-use mathlib.Core.Bool.{Bool, not, true, false, true≢false, false≢true}
+use mathlib.Core.Bool.{Bool, true, false, false≢true}
 use mathlib.Core.List.{List, [], _∷_, _++_}
 use mathlib.Core.Logic.{_≢_}
 use Prim.Native.Nat.{ℕ, _+_, _-_, _*_, _<_, _≤_}
@@ -77,13 +77,3 @@ covered-again s before name at n first r d e f h = record {
   where
     part : (a : ℕ) → take (a + n - a) (drop a s) ≡ take n (drop a s)
     part a = ap (λ m. take m (drop a s)) (let z : a + n - a ≡ n = omega arith in z)
-
--- ---- a test that is turned round
-
-pub not-true : (b : Bool) → not b ≡ true → b ≡ false
-not-true true e = absurd (false≢true e)
-not-true false e = refl
-
-pub not-false : (b : Bool) → not b ≡ false → b ≡ true
-not-false true e = refl
-not-false false e = absurd (true≢false e)

@@ -33,7 +33,8 @@ use Rattle.reader.proofs.Gaps.{gap-full}
 use Rattle.reader.proofs.Judging.{taken, situation-whole}
 use Rattle.reader.proofs.Nodes.{node-root}
 use Rattle.reader.proofs.Roots.{reply-read}
-use Rattle.reader.proofs.Rows.{rows-last, all-last, Behind, some-ones, row-done, row-take, row-behind, row-reaches, root-reaches, full-due}
+use Rattle.reader.proofs.Frames.{all-last}
+use Rattle.reader.proofs.Rows.{rows-last, Behind, some-ones, row-done, row-take, row-behind, row-reaches, root-reaches, full-due}
 use Rattle.reader.proofs.Standing.{rest-whole}
 use Rattle.reader.proofs.Tables.{in-order, few-words}
 

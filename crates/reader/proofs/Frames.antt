@@ -221,13 +221,14 @@ module _ (v : List ℕ) where
   dues-last xs n y h =
       ap₂ (λ x l. frameDue v (suc (suc n)) x ++ l) (getD-set-same xs n y 0 h) (dues-before xs n n y (omega arith))
 
-  pub frames-last : (xs : List ℕ) (n y : ℕ) → n < length xs → ((i : ℕ) → i < n → FrameIn v (getD xs i 0)) → FrameIn v y →
-      (i : ℕ) → i < suc n → FrameIn v (getD (set xs n y) i 0)
-  frames-last xs n y h before last i below = go (ℕ-discrete i n)
-    where
-      go : Dec (i ≡ n) → FrameIn v (getD (set xs n y) i 0)
-      go (yes e) = rw (e, getD-set-same xs n y 0 h) last
-      go (no d) = let apart : i ≢ n = d in rw (getD-set-other xs n i y 0 apart) (before i (omega arith))
+-- What holds of each of the first n elements and of the next holds of all of them.
+pub all-last : (P : ℕ → Type 0) (xs : List ℕ) (n y : ℕ) → n < length xs → ((i : ℕ) → i < n → P (getD xs i 0)) → P y →
+    (i : ℕ) → i < suc n → P (getD (set xs n y) i 0)
+all-last P xs n y h before last i below = go (ℕ-discrete i n)
+  where
+    go : Dec (i ≡ n) → P (getD (set xs n y) i 0)
+    go (yes e) = rw (e, getD-set-same xs n y 0 h) last
+    go (no d) = let apart : i ≢ n = d in rw (getD-set-other xs n i y 0 apart) (before i (omega arith))
 
 -- ---- what is left to read of a list of frames
 

@@ -1,6 +1,6 @@
 -- Judging: the replies of judging a pattern and a situation, by what reading them and looking for a gap answers.
 use mathlib.Core.Path.{_≡_, refl, sym, ap, subst, _∙_}
-use mathlib.Core.Bool.{Bool, true, false, not, cond, true≢false}
+use mathlib.Core.Bool.{Bool, true, false, cond}
 use mathlib.Core.List.{List, [], _∷_}
 use mathlib.Core.Option.{Option, some, none}
 use Prim.Native.Nat.{ℕ, _<_}
@@ -19,6 +19,7 @@ use Rattle.wire.specs.Situation.{situationOf, situationIn, checkedSituation}
 use Rattle.wire.specs.Matching.{judgedSituation, judgedPattern, judgedVocabulary, judged, clearReply}
 use Rattle.wire.proofs.Cond.{cond-true, cond-false}
 use Rattle.wire.proofs.Inputs.{checked-in}
+use Rattle.wire.proofs.Matching.{not-accepted}
 use Rattle.signature.specs.Answers.{vocabularyRefused}
 use Rattle.signature.specs.Tables.{Tables, vocabularyIn}
 use Rattle.signature.specs.declared.VocabularyRefusal.{VocabularyRefusal}
@@ -31,9 +32,6 @@ use Rattle.reader.proofs.Calls.{refused-never}
 use Rattle.reader.proofs.Gaps.{gap-reads}
 use Rattle.reader.proofs.Replies.{refusal-reply}
 use Rattle.reader.proofs.Tables.{in-order}
-
-never : {n i q : ℕ} → accepted [] ≡ refused n i q → ⊥
-never e = let z : _≡_ {A = ℕ} 0 1 = cc in omega arith
 
 -- ---- what an answer says of the reading
 
@@ -135,19 +133,14 @@ module _ {v maps b : List ℕ} (x : Taken v maps b) where
 
 -- ---- a pattern that is the situation itself
 
--- A test that is turned round.
-pub not-false : (b : Bool) → not b ≡ false → b ≡ true
-not-false true e = refl
-not-false false e = absurd (true≢false e)
-
 -- The kind of a situation that is in order.
 kind-tested : (x : Kinded) (k : ℕ) (b : Bool) → eqb (x .kind) k ≡ b →
     accepted [] ≡ replyOf 2 (λ (g : Ground). []) (cond b (accept (ground (x .term))) (refuse 17 0)) → x .kind ≡ k
 kind-tested x k true q h = eqb-true (x .kind) k q
-kind-tested x k false q h = absurd (never h)
+kind-tested x k false q h = absurd (not-accepted _ _ _ _ (sym h))
 
 kind-due : (x : Kinded) (k : ℕ) (o : Option ℕ) → accepted [] ≡ replyOf 2 (λ (g : Ground). []) (situationOf k x o) → x .kind ≡ k
-kind-due x k (some q) h = absurd (never h)
+kind-due x k (some q) h = absurd (not-accepted _ _ _ _ (sym h))
 kind-due x k none h = kind-tested x k (eqb (x .kind) k) refl h
 
 -- Where a situation is in order, it is in order as a pattern too.
@@ -156,7 +149,7 @@ itself-clear W p s k same h = subst (λ b. accepted [] ≡ patternReply W b s) (
   where
     by-reading : (r : Reading Kinded) → checkedTerm W s ≡ r → accepted [] ≡ replyOf 2 (λ (g : Ground). []) (situationIn W k r) →
         accepted [] ≡ clearReply (judgedPattern W s r)
-    by-reading (refuse n q) e h = absurd (never h)
+    by-reading (refuse n q) e h = absurd (not-accepted _ _ _ _ (sym h))
     by-reading (accept x) e h =
         h ∙ ap (λ j. replyOf 2 (λ (g : Ground). []) (situationIn W j (accept x))) (sym (kind-due x k (firstGap W (x .term)) h))
         ∙ ap (λ r. replyOf 2 (λ (g : Ground). []) (situationIn W (x .kind) r)) (sym e)

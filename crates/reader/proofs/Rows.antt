@@ -30,14 +30,6 @@ module _ (v : List ℕ) where
       ap₂ (λ x l. rowDue v (suc (suc n)) x ++ l) (getD-set-same xs n y 0 h)
       (rows-agree (set xs n y) xs n (λ i p. let apart : i ≢ n = (λ e. omega arith) in getD-set-other xs n i y 0 apart))
 
-pub all-last : (P : ℕ → Type 0) (xs : List ℕ) (n y : ℕ) → n < length xs → ((i : ℕ) → i < n → P (getD xs i 0)) → P y →
-    (i : ℕ) → i < suc n → P (getD (set xs n y) i 0)
-all-last P xs n y h before last i below = go (ℕ-discrete i n)
-  where
-    go : Dec (i ≡ n) → P (getD (set xs n y) i 0)
-    go (yes e) = rw (e, getD-set-same xs n y 0 h) last
-    go (no d) = let apart : i ≢ n = d in rw (getD-set-other xs n i y 0 apart) (before i (omega arith))
-
 -- ---- a row
 
 -- The two numbers of a word's row are read back.

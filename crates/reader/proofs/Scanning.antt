@@ -15,7 +15,7 @@ use Rattle.wire.specs.Reading.{Got, got, stop, Node, symbol, variable, fault, n
 use Rattle.wire.proofs.Scan.{Tally, scanNode, run, run-node, run-limit}
 use Rattle.reader.specs.Frames.{writtenIn, kindsIn, FrameIn, FramesIn, frameDue, duesOf}
 use Rattle.reader.specs.Nodes.{clashing, tallyOf}
-use Rattle.reader.proofs.Frames.{Shifted, due-take, due-skip, due-done, frame-shift, dues-last, frames-last}
+use Rattle.reader.proofs.Frames.{Shifted, due-take, due-skip, due-done, frame-shift, dues-last, all-last}
 use Rattle.reader.proofs.Names.{Named, named-clash, named-none, named-more}
 use Rattle.reader.proofs.Nodes.{seenNode, node-seen}
 use Rattle.reader.proofs.Levels.{frame-reaches}
@@ -56,7 +56,7 @@ scanning-begins v t frames W depth at deepest h some inside = record {
 module _ (v : List ℕ) (root : ℕ) (h : FrameIn v root) where
   pub root-frames : FramesIn v (set (replicate 32 0) 0 root) 1 2
   root-frames = record {
-    sound = frames-last v (replicate 32 0) 0 root (omega arith) (λ i p. absurd (omega arith)) h;
+    sound = all-last (FrameIn v) (replicate 32 0) 0 root (omega arith) (λ i p. absurd (omega arith)) h;
     shallow = omega arith;
     reached = omega arith;
     entries = refl;
@@ -104,7 +104,7 @@ module _ (v t : List ℕ) (W : Vocabulary) (g : Got Tally) (names frames : List 
       top-sound = frame-shift v (getD frames n 0) y (c .sound n (omega arith)) shifted
 
       all-sound : (i : ℕ) → i < suc n → FrameIn v (getD (set frames n y) i 0)
-      all-sound = frames-last v frames n y top-inside (λ i p. c .sound i (omega arith)) top-sound
+      all-sound = all-last (FrameIn v) frames n y top-inside (λ i p. c .sound i (omega arith)) top-sound
 
       -- A place that is not written is passed.
       pub pass : (getD frames n 0 % 2 ≡ 1 → ⊥) → Scanning v t W g names (set frames n y) (suc n) at singles deepest
@@ -240,7 +240,7 @@ module _ (v t : List ℕ) (W : Vocabulary) (g : Got Tally) (names frames : List 
                 ∙ frame-reaches W v (suc (suc (suc n))) z fits some (duesOf v (set frames n y) (suc n)) (c .seen) (wordsBy (at + 2) singles) deepest (drop (at + 2) t)
                 ∙ ap (λ ds. run W (ds ++ duesOf v (set frames n y) (suc n)) (c .seen) (tallyOf (wordsBy (at + 2) singles) deepest) (drop (at + 2) t)) dues
                 ∙ behind-word;
-            sound = rw add-one (frames-last v (set frames n y) (suc n) z size all-sound fits);
+            sound = rw add-one (all-last (FrameIn v) (set frames n y) (suc n) z size all-sound fits);
             shallow = omega arith;
             reached = omega arith;
             inside = omega (arith, length-drop at t);

@@ -32,6 +32,7 @@ use Rattle.wire.proofs.Inputs.{TermIn, checked-in, in-checked}
 use Rattle.wire.proofs.Entries.{entries-are-good}
 use Rattle.wire.proofs.EntryLevels.{entries-deepest}
 use Rattle.wire.proofs.EntriesRead.{GoodKinded, read-all-entries, entries-same}
+use Rattle.wire.proofs.Matching.{not-accepted}
 use Rattle.wire.proofs.Repeats.{unrepeated-is-linear}
 
 -- ---- a pattern to be listed is accepted exactly where it is linear and the writing of a good one within the limits
@@ -119,9 +120,6 @@ record Answer (out : List ℕ) (n : ℕ) (b : List ℕ) (n′ m : ℕ) (after : 
   count : n ≡ n′
   size : length b ≡ m
   written : after ≡ b ++ drop (length b) out
-
-not-accepted : (n i q : ℕ) (l : List ℕ) → refused n i q ≡ accepted l → ⊥
-not-accepted n i q l e = let z : _≡_ {A = ℕ} 0 1 = cc in omega arith
 
 -- The lent slice and the reply by the test for room.
 abbrev intoIf : Bool → List ℕ → ℕ → List ℕ → Listed

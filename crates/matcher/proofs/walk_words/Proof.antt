@@ -10,7 +10,7 @@ use lib.ListN.{getD, set}
 use borrow.Author.Needs.{scaled-fits}
 use Rattle.reader.specs.Frames.{placesIn}
 use Rattle.matcher.specs.Walking.{InputsRead}
-use Rattle.matcher.proofs.Parts.{not-true, not-false}
+use borrow.Author.Tests.{not-true, not-false}
 use Rattle.matcher.proofs.Turns.{Walking, walking-begins, walking-ends, turn-leave, top-slot, offset-fits, level-fits, Turn, AtPlace, turn-gap, at-open, at-written, standing, turn-opened, AtWord, AtName, at-word, at-name, pattern-inside, word-pattern, word-situation, pattern-second, situation-second, situation-first, word-room, word-slot, word-differs, turn-worded, name-inside, name-covers, turn-named, turn-unnamed, end-later, end-inside, leftOf, left-leave, left-on, left-word}
 use Rattle.matcher.proofs.walk_words.Statement.{statement}
 use Rattle.matcher.proofs.walk_words.Tie as tie

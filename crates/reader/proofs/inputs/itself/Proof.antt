@@ -1,9 +1,10 @@
 -- `reader::inputs::itself` meets its contract.
 use borrow.Author.Needs.{needs}
+use borrow.Author.Tests.{not-false}
 use mathlib.Core.Bool.{false≢true}
 use denote.Ref.{now}
 use Rattle.signature.specs.Tables.{vocabularyIn}
-use Rattle.reader.proofs.Judging.{not-false, itself-clear}
+use Rattle.reader.proofs.Judging.{itself-clear}
 use Rattle.reader.proofs.inputs.itself.Statement.{statement}
 use Rattle.reader.proofs.inputs.itself.Tie as tie
 
