@@ -4,13 +4,15 @@ use mathlib.Core.List.{List, []}
 use Prim.Native.Nat.{ℕ, _<_, _≤_}
 use native.Mathlib.Omega.{arith}
 use lib.ListN.{length, getD, drop, length-map, List·getD-append, List·getD-map}
-use Rattle.terms.proofs.All.{at-all}
-use Rattle.wire.specs.Reply.{Reply, accepted, refused, Reading, accept, refuse, replyOf, IsBytes}
-use Rattle.wire.specs.Vocabulary.{Word, Vocabulary, word, noWord, encodeVocabulary}
-use Rattle.wire.specs.Reading.{readVocabulary, Kinded}
+use Rattle.wire.specs.Reply.{Reply, accepted, refused, IsBytes, Kinded, kinded}
+use Rattle.wire.specs.Parser.{Reading, accept, refuse, readVocabulary}
+use Rattle.wire.specs.CheckComputed.{replyOf, checkedTerm, termValues, termReplyUnder, termReply}
+use Rattle.wire.specs.Vocabulary.{Word, Vocabulary, word, noWord, HoldsVocabulary}
 use Rattle.wire.specs.VocabularyLines.{byteAt}
-use Rattle.wire.specs.Checks.{GoodVocabulary, checkedTerm, termValues, termReplyUnder, termReply}
-use Rattle.wire.specs.Listed.{Listed, placed, repeatedIn, linearOf, linearIn, kinded, entriesBytes, entriesOf, listedInto, listedPattern, listedVocabulary, listed, ListPromise}
+use Rattle.wire.specs.ListComputed.{Listed, repeatedIn, linearOf, linearIn, listedInto, listedPattern, listedVocabulary, listed, ListShown}
+use Rattle.wire.specs.PatternLines.{sightings}
+use Rattle.wire.specs.Leftovers.{entriesOf, listingBytes, ListPromise}
+use Rattle.wire.proofs.Bytes.{bytes-of}
 use Rattle.wire.proofs.Inputs.{checked-in}
 use Rattle.wire.proofs.Listed.{list-keeps}
 use Rattle.wire.proofs.VocabulariesInverse.{vocabularies-inverse}
@@ -22,40 +24,40 @@ use Rattle.signature.proofs.Accepted.{accepted-words}
 use Rattle.reader.specs.Answers.{termRefused}
 use Rattle.reader.specs.declared.TermRefusal.{TermRefusal}
 use Rattle.reader.specs.declared.TermRefusal.the-variants as T
-use Rattle.complement.specs.Listing.{placedIn, repeatOf}
-use Rattle.complement.specs.Calls.{Patterned, Shows, ListsPattern}
+use Rattle.complement.specs.Listing.{sightingsIn, repeatOf}
+use Rattle.complement.specs.Calls.{Patterned, ListsPattern}
 use Rattle.complement.specs.declared.Repeat.{Repeat}
 use Rattle.complement.specs.declared.Repeat.the-variants.{At, Nothing}
-use Rattle.complement.proofs.Repeating.{placed-pattern}
+use Rattle.complement.proofs.Repeating.{sightings-pattern}
 
 -- ---- a name that stands twice
 
 module _ {p : List ℕ} {words : ℕ} {results : List ℕ} (h : Patterned p words results) (before : List ℕ) where
-  repeats : (r : Repeat) → repeatOf r ≡ repeatedIn [] (placedIn words 1 p 0) → repeatOf r ≡ repeatedIn [] (placed (h .vocabulary) (h .term))
+  repeats : (r : Repeat) → repeatOf r ≡ repeatedIn [] (sightingsIn words 1 p 0) → repeatOf r ≡ repeatedIn [] (sightings (h .vocabulary) (h .term))
   repeats r e =
       e
-      ∙ ap₂ (λ n b. repeatedIn [] (placedIn n 1 b 0)) (h .tabled .words) (h .written)
-      ∙ ap (repeatedIn []) (placed-pattern (h .vocabulary) (h .inOrder) (h .kind) (h .term) (h .good))
+      ∙ ap₂ (λ n b. repeatedIn [] (sightingsIn n 1 b 0)) (h .tabled .words) (h .held .written)
+      ∙ ap (repeatedIn []) (sightings-pattern (h .vocabulary) (h .inOrder) (h .kind) (h .term) (h .held .good))
 
-  judged : (r : Repeat) → repeatOf r ≡ repeatedIn [] (placedIn words 1 p 0) →
+  judged : (r : Repeat) → repeatOf r ≡ repeatedIn [] (sightingsIn words 1 p 0) →
       listedPattern (h .vocabulary) before (linearIn (h .vocabulary) (accept (kinded (h .kind) (h .term))))
       ≡ listedPattern (h .vocabulary) before (linearOf (kinded (h .kind) (h .term)) (repeatOf r))
   judged r e = ap (λ o. listedPattern (h .vocabulary) before (linearOf (kinded (h .kind) (h .term)) o)) (sym (repeats r e))
 
-  pub pattern-repeated : (r : Repeat) → repeatOf r ≡ repeatedIn [] (placedIn words 1 p 0) → (q : ℕ) → r ≡ At q →
-      Shows (listedPattern (h .vocabulary) before (linearIn (h .vocabulary) (accept (kinded (h .kind) (h .term))))) (refused 18 1 q) before
+  pub pattern-repeated : (r : Repeat) → repeatOf r ≡ repeatedIn [] (sightingsIn words 1 p 0) → (q : ℕ) → r ≡ At q →
+      ListShown (listedPattern (h .vocabulary) before (linearIn (h .vocabulary) (accept (kinded (h .kind) (h .term))))) (refused 18 1 q) before
   pattern-repeated r e q f =
       let g = judged r e ∙ ap (λ r. listedPattern (h .vocabulary) before (linearOf (kinded (h .kind) (h .term)) (repeatOf r))) f in
       record { reply = sym (ap (λ (l : Listed). l .reply) g); out = sym (ap (λ (l : Listed). l .out) g) }
 
-  pub pattern-linear : (r : Repeat) → repeatOf r ≡ repeatedIn [] (placedIn words 1 p 0) → r ≡ Nothing → {reply : Reply} {after : List ℕ} →
-      Shows
+  pub pattern-linear : (r : Repeat) → repeatOf r ≡ repeatedIn [] (sightingsIn words 1 p 0) → r ≡ Nothing → {reply : Reply} {after : List ℕ} →
+      ListShown
       (listedInto before (length (entriesOf (h .vocabulary) (h .kind) (h .term)))
-      (entriesBytes (h .vocabulary) (entriesOf (h .vocabulary) (h .kind) (h .term)))) reply after →
-      Shows (listedPattern (h .vocabulary) before (linearIn (h .vocabulary) (accept (kinded (h .kind) (h .term))))) reply after
+      (listingBytes (h .vocabulary) (h .kind) (h .term))) reply after →
+      ListShown (listedPattern (h .vocabulary) before (linearIn (h .vocabulary) (accept (kinded (h .kind) (h .term))))) reply after
   pattern-linear r e f {reply} {after} s =
       let g = judged r e ∙ ap (λ r. listedPattern (h .vocabulary) before (linearOf (kinded (h .kind) (h .term)) (repeatOf r))) f in
-      subst (λ l. Shows l reply after) (sym g) s
+      subst (λ l. ListShown l reply after) (sym g) s
 
 -- ---- refusals of the vocabulary and of the pattern
 
@@ -83,14 +85,14 @@ term-refuses (T.StrayBit q) = tt
 term-refuses (T.Continues q) = tt
 
 -- Where the check of the term refuses, so does list, in the same way.
-refused-listed : (v p before : List ℕ) (r : Reply) → Refuses r → r ≡ termReply v p → Shows (listed v p before) r before
+refused-listed : (v p before : List ℕ) (r : Reply) → Refuses r → r ≡ termReply v p → ListShown (listed v p before) r before
 refused-listed v p before r k e = vocabulary (readVocabulary v) e
   where
-    pattern : (W : Vocabulary) (x : Reading Kinded) → r ≡ replyOf 1 termValues x → Shows (listedPattern W before (linearIn W x)) r before
+    pattern : (W : Vocabulary) (x : Reading Kinded) → r ≡ replyOf 1 termValues x → ListShown (listedPattern W before (linearIn W x)) r before
     pattern W (refuse n q) e = record { reply = e; out = refl }
     pattern W (accept x) e = absurd (subst Refuses e k)
 
-    vocabulary : (x : Reading Vocabulary) → r ≡ termReplyUnder p x → Shows (listedVocabulary p before x) r before
+    vocabulary : (x : Reading Vocabulary) → r ≡ termReplyUnder p x → ListShown (listedVocabulary p before x) r before
     vocabulary (refuse n q) e = record { reply = e; out = refl }
     vocabulary (accept W) e = pattern W (checkedTerm W p) e
 
@@ -98,20 +100,26 @@ refused-listed v p before r k e = vocabulary (readVocabulary v) e
 
 module _ (v p before : List ℕ) (vocabularyBytes : (i : ℕ) → getD v i 0 < 256) (patternBytes : (i : ℕ) → getD p i 0 < 256) where
   bv : IsBytes v
-  bv = at-all (λ b. b < 256) 0 v (λ i h. vocabularyBytes i)
+  bv = bytes-of v vocabularyBytes
 
   bp : IsBytes p
-  bp = at-all (λ b. b < 256) 0 p (λ i h. patternBytes i)
+  bp = bytes-of p patternBytes
 
-  pub promised : {r : Reply} {after : List ℕ} → Shows (listed v p before) r after → ListPromise v p before after r
-  promised {r} {after} s =
-      subst (λ r. ListPromise v p before after r) (sym (s .reply))
-      (subst (λ a. ListPromise v p before a (listed v p before .reply)) (sym (s .out)) (list-keeps v p before bv bp))
+  -- What list ensures of a reply and the lent slice.
+  abbrev Ensured : Reply → List ℕ → Type 0
+  Ensured r after = ListPromise v p before after r × ListShown (listed v p before) r after
 
-  pub list-vocabulary : (why : VocabularyRefusal) → vocabularyRefused why ≡ termReply v p → ListPromise v p before before (vocabularyRefused why)
+  promised : {r : Reply} {after : List ℕ} → ListShown (listed v p before) r after → Ensured r after
+  promised {r} {after} s = (
+    subst (λ r. ListPromise v p before after r) (sym (s .reply))
+        (subst (λ a. ListPromise v p before a (listed v p before .reply)) (sym (s .out)) (list-keeps v p before bv bp)),
+    s,
+  )
+
+  pub list-vocabulary : (why : VocabularyRefusal) → vocabularyRefused why ≡ termReply v p → Ensured (vocabularyRefused why) before
   list-vocabulary why e = promised (refused-listed v p before (vocabularyRefused why) (vocabulary-refuses why) e)
 
-  pub list-term : (why : TermRefusal) → termRefused 1 why ≡ termReply v p → ListPromise v p before before (termRefused 1 why)
+  pub list-term : (why : TermRefusal) → termRefused 1 why ≡ termReply v p → Ensured (termRefused 1 why) before
   list-term why e = promised (refused-listed v p before (termRefused 1 why) (term-refuses why) e)
 
   -- Both are accepted.
@@ -140,14 +148,14 @@ module _ (v p before : List ℕ) (vocabularyBytes : (i : ℕ) → getD v i 0 < 2
         go (accept x) e = (x, refl)
         go (refuse n q) e = absurd (never n 1 q e)
 
-    bytes-of : GoodVocabulary W × (v ≡ encodeVocabulary W)
-    bytes-of = vocabularies-inverse v W bv .0 read
+    held : HoldsVocabulary v W
+    held = vocabularies-inverse v W bv .0 read
 
     word-count : byteAt v 1 ≡ length (W .words)
-    word-count = ap (λ l. getD l 1 0) (bytes-of .1)
+    word-count = ap (λ l. getD l 1 0) (held .written)
 
     pub some-bytes : 2 ≤ length v
-    some-bytes = let e = ap length (bytes-of .1) in omega arith
+    some-bytes = let e = ap length (held .written) in omega arith
 
     module _ {words : ℕ} {results : List ℕ} (counted : words ≡ byteAt v 1) (blank : List ℕ) (table : results ≡ laid (resultsOf (wordsBefore v)) blank) where
       result-is : (f : ℕ) → f < words → getD results f 0 ≡ word W f .result
@@ -159,23 +167,20 @@ module _ (v p before : List ℕ) (vocabularyBytes : (i : ℕ) → getD v i 0 < 2
 
       pub patterned : Patterned p words results
       patterned =
-          let inOrder = bytes-of .0 .inOrder in
+          let inOrder = held .good .inOrder in
           let x : Kinded = found .0 in
-          let h = checked-in W p x inOrder bp (found .1) in
           record {
             vocabulary = W;
             kind = x .kind;
             term = x .term;
             inOrder = inOrder;
             tabled = record { words = counted ∙ word-count; result = result-is };
-            good = h .good;
-            written = h .written;
-            limits = h .limits;
+            held = checked-in W p x inOrder bp (found .1);
           }
 
-      pub list-pattern : {r : Reply} {after : List ℕ} → ListsPattern p words results before after r → ListPromise v p before after r
+      pub list-pattern : {r : Reply} {after : List ℕ} → ListsPattern p words results before after r → Ensured r after
       unfolding patterned
       list-pattern {r} {after} s =
           promised
-          (subst (λ l. Shows l r after)
+          (subst (λ l. ListShown l r after)
           (sym (ap (listedVocabulary p before) read ∙ ap (λ x. listedPattern W before (linearIn W x)) (found .1))) (s patterned))

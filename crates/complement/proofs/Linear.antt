@@ -13,20 +13,20 @@ use Rattle.terms.specs.Term.{Term, any, var, app}
 use Rattle.wire.specs.Reply.{accepted, refused}
 use Rattle.wire.specs.Map.{isOpen}
 use Rattle.wire.specs.Vocabulary.{Vocabulary}
-use Rattle.wire.specs.Written.{encodeAt, encodeRoot, levels}
-use Rattle.wire.specs.Checks.{mostBytes}
-use Rattle.wire.specs.Listed.{Listed, entriesBytes, entriesOf, listedInto}
+use Rattle.wire.specs.TermBytes.{encodeAt, encodeRoot, levels, mostBytes}
+use Rattle.wire.specs.ListComputed.{Listed, listedInto, ListShown}
+use Rattle.wire.specs.Leftovers.{entriesBytes, entriesOf}
 use Rattle.wire.proofs.Cond.{cond-true, cond-false}
 use Rattle.wire.proofs.EntryBytes.{entries-bytes}
 use Rattle.wire.proofs.EntrySizes.{countAt, sizeAt, summedIn, pattern-count, pattern-length}
 use Rattle.complement.specs.Listing.{KindsFew, Measures, TermAt, TermListed}
-use Rattle.complement.specs.Calls.{Patterned, bytesOf, Shows}
+use Rattle.complement.specs.Calls.{Patterned, bytesOf}
 use Rattle.complement.proofs.Tallying.{kinds-few}
 
 -- ---- what listedInto shows
 
 module _ (before : List ℕ) (n : ℕ) (b : List ℕ) (entries bytes : ℕ) (counts : entries ≡ n) (sizes : bytes ≡ length b) where
-  pub shows-no-room : length before < bytes → Shows (listedInto before n b) (refused 20 3 bytes) before
+  pub shows-no-room : length before < bytes → ListShown (listedInto before n b) (refused 20 3 bytes) before
   shows-no-room h =
       let e : listedInto before n b ≡ record { reply = refused 20 3 (length b); out = before } =
       cond-false (leb (length b) (length before)) _ _ (lt-leb (length b) (length before) (omega arith)) in
@@ -36,7 +36,7 @@ module _ (before : List ℕ) (n : ℕ) (b : List ℕ) (entries bytes : ℕ) (cou
       }
 
   pub shows-written : bytes ≤ length before → {after : List ℕ} → after ≡ b ++ drop (length b) before →
-      Shows (listedInto before n b) (accepted (entries ∷ bytes ∷ [])) after
+      ListShown (listedInto before n b) (accepted (entries ∷ bytes ∷ [])) after
   shows-written h {after} a =
       let e : listedInto before n b ≡ record { reply = accepted (n ∷ length b ∷ []); out = b ++ drop (length b) before } =
       cond-true (leb (length b) (length before)) _ _ (le-leb (length b) (length before) (omega arith)) in
@@ -74,20 +74,20 @@ module _ {p : List ℕ} {words : ℕ} {results : List ℕ} (h : Patterned p word
   few-kinds = kinds-few (h .inOrder) (h .tabled)
 
   pub most-bytes : length p ≤ 4096
-  most-bytes = h .limits .most
+  most-bytes = h .held .limits .most
 
   module _ {entries bytes : ℕ} (m : Measures p words results entries bytes) where
     pub count-is : entries ≡ entryCount
     count-is =
         m W (h .tabled) .0
-        ∙ ap (λ b. summedIn W (countAt W) 1 b 0) (h .written)
-        ∙ sym (pattern-count W (h .inOrder) s t (h .good))
+        ∙ ap (λ b. summedIn W (countAt W) 1 b 0) (h .held .written)
+        ∙ sym (pattern-count W (h .inOrder) s t (h .held .good))
 
     pub size-is : bytes ≡ length entryBytes
     size-is =
         m W (h .tabled) .1
-        ∙ ap (λ b. summedIn W (sizeAt W) 1 b 0) (h .written)
-        ∙ sym (pattern-length W (h .inOrder) s t (h .good))
+        ∙ ap (λ b. summedIn W (sizeAt W) 1 b 0) (h .held .written)
+        ∙ sym (pattern-length W (h .inOrder) s t (h .held .good))
 
   -- A pattern with entries is no open place.
   not-open : (t : Term) → (length (entriesBytes W (entriesOf W s t)) ≡ 0 → ⊥) → isOpen t ≡ false
@@ -117,11 +117,11 @@ module _ {p : List ℕ} {words : ℕ} {results : List ℕ} (h : Patterned p word
       tabled = h .tabled;
       size = size;
       begins = refl;
-      sorted = h .good .sorted .sorted;
+      sorted = h .held .good .sorted .sorted;
       closed = closed;
       stands =
-          c ∙ ap (λ l. l ++ drop (length p) copy) (take-length p ∙ h .written ∙ ap (λ l. s ∷ l) (root-same t closed));
-      deep = omega (arith, h .limits .levels, le-max-right 1 (levels t));
+          c ∙ ap (λ l. l ++ drop (length p) copy) (take-length p ∙ h .held .written ∙ ap (λ l. s ∷ l) (root-same t closed));
+      deep = omega (arith, h .held .limits .levels, le-max-right 1 (levels t));
       fits = let k = room .1 in omega (arith, ap length (entries-bytes W s t));
     }
 
@@ -132,10 +132,10 @@ module _ {p : List ℕ} {words : ℕ} {results : List ℕ} (h : Patterned p word
 
   -- The three answers.
   module _ {entries bytes : ℕ} (m : Measures p words results entries bytes) (before : List ℕ) where
-    pub linear-no-room : length before < bytes → Shows (listedInto before entryCount entryBytes) (refused 20 3 bytes) before
+    pub linear-no-room : length before < bytes → ListShown (listedInto before entryCount entryBytes) (refused 20 3 bytes) before
     linear-no-room = shows-no-room before entryCount entryBytes entries bytes (count-is m) (size-is m)
 
-    pub linear-none : bytes ≤ length before → bytes ≡ 0 → Shows (listedInto before entryCount entryBytes) (accepted (entries ∷ bytes ∷ [])) before
+    pub linear-none : bytes ≤ length before → bytes ≡ 0 → ListShown (listedInto before entryCount entryBytes) (accepted (entries ∷ bytes ∷ [])) before
     linear-none k e =
         shows-written before entryCount entryBytes entries bytes (count-is m) (size-is m) k
         (sym (ap (λ b. b ++ drop (length b) before) (nothing entryBytes (sym (size-is m) ∙ e))))
@@ -144,5 +144,5 @@ module _ {p : List ℕ} {words : ℕ} {results : List ℕ} (h : Patterned p word
     linear-room k e = (omega (arith, size-is m), omega (arith, size-is m))
 
     pub linear-written : bytes ≤ length before → {after : List ℕ} → after ≡ entryBytes ++ drop (length entryBytes) before →
-        Shows (listedInto before entryCount entryBytes) (accepted (entries ∷ bytes ∷ [])) after
+        ListShown (listedInto before entryCount entryBytes) (accepted (entries ∷ bytes ∷ [])) after
     linear-written k = shows-written before entryCount entryBytes entries bytes (count-is m) (size-is m) k

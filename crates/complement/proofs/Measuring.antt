@@ -10,10 +10,11 @@ use lib.Seq.{drop-cons, drop-drop}
 use borrow.Author.Tests.{lt-ltb, le-ltb}
 use Rattle.wire.specs.Map.{mapBytes}
 use Rattle.wire.specs.Vocabulary.{Vocabulary}
-use Rattle.wire.specs.Reading.{isWord}
+use Rattle.wire.specs.Parser.{isWord}
 use Rattle.wire.proofs.Cond.{cond-true, cond-false}
 use Rattle.wire.proofs.EntrySizes.{countAt, sizeAt, summedIn}
-use Rattle.complement.specs.Listing.{Tabled, othersIn, Measures}
+use Rattle.signature.specs.Tables.{Tabled}
+use Rattle.complement.specs.Listing.{othersIn, Measures}
 use Rattle.complement.proofs.Others.{others-tabled}
 use Rattle.complement.proofs.Tallying.{others-few}
 

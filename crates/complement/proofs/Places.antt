@@ -13,7 +13,7 @@ use Rattle.terms.specs.Lists.{All}
 use Rattle.terms.specs.Term.{Term, Terms, nil, cons}
 use Rattle.wire.specs.Map.{mapBits, mapBytes, writeMap, flags}
 use Rattle.wire.specs.Vocabulary.{Vocabulary}
-use Rattle.wire.specs.Written.{encodeAt, encodeAll, levels, levelsAll}
+use Rattle.wire.specs.TermBytes.{encodeAt, encodeAll, levels, levelsAll}
 use Rattle.wire.proofs.EntryBytes.{spots, spotsBytes, spots-bytes-append}
 use Rattle.wire.proofs.EntryMaps.{bitSpots}
 use Rattle.wire.proofs.EntryWalk.{Stands, flags-at, copy-patched}
@@ -79,7 +79,7 @@ bit-at m b x h e = flags-at b m h ∙ ap₂ (λ x i. eqb x 1 ∷ drop i (flags m
 -- The word's map stands inside the copy.
 pub map-inside : {copy : List ℕ} {at map words : ℕ} {results : List ℕ} {left room : ℕ} → PlacesAt copy at map words results left room → at + 1 < length copy
 map-inside {copy} {at} {map} h =
-    let l : List ℕ = h .symbol ∷ (writeMap map ++ (encodeAll (h .vocabulary) (h .terms) ++ h .rest)) in
+    let l : List ℕ = h .top ∷ (writeMap map ++ (encodeAll (h .vocabulary) (h .terms) ++ h .rest)) in
     omega (arith, ap length (h .stands), length-append (h .front) l, h .begins)
 
 module _ {copy : List ℕ} {at map words : ℕ} {results : List ℕ} {left : ℕ} (before : List ℕ) (h : PlacesAt copy at map words results left (length before)) where
@@ -87,7 +87,7 @@ module _ {copy : List ℕ} {at map words : ℕ} {results : List ℕ} {left : ℕ
   W = h .vocabulary
 
   abbrev f : ℕ
-  f = h .symbol
+  f = h .top
 
   abbrev from : List Bool → ℕ → List ℕ → Terms → List ℕ
   from ws b body ts = spotsBytes W (bitSpots W f map (h .front) ws b body ts)

@@ -18,12 +18,13 @@ use Rattle.terms.proofs.All.{all-left, all-right}
 use Rattle.terms.proofs.Bools.{or-neither, or-left, or-right}
 use Rattle.wire.specs.Map.{mapBytes, writeMap}
 use Rattle.wire.specs.Vocabulary.{Vocabulary, InOrder, signature}
-use Rattle.wire.specs.Written.{nameCount, firstNameByte, nameByte, wholeByte, writtenMap, encodeAt, encodeAll, encodeTerm, GoodTerm}
-use Rattle.wire.specs.Reading.{isName}
-use Rattle.wire.specs.Listed.{placedFrom, placedAll, placed, repeatedIn}
+use Rattle.wire.specs.TermBytes.{nameCount, firstNameByte, nameByte, wholeByte, writtenMap, encodeAt, encodeAll, encodeTerm, GoodTerm}
+use Rattle.wire.specs.Parser.{isName}
+use Rattle.wire.specs.PatternLines.{sightingsFrom, sightingsAll, sightings}
+use Rattle.wire.specs.ListComputed.{repeatedIn}
 use Rattle.wire.proofs.Cond.{cond-true, cond-false}
 use Rattle.wire.proofs.Words.{length-symbols}
-use Rattle.complement.specs.Listing.{placedIn}
+use Rattle.complement.specs.Listing.{sightingsIn}
 use Rattle.complement.proofs.Measuring.{none-left}
 
 -- ---- which bytes are names
@@ -40,43 +41,43 @@ high-byte b h = ap not (or-right (ltb b 128) (ltb 191 b) (lt-ltb 191 b (omega ar
 -- ---- the steps of the pass
 
 module _ (n : ℕ) where
-  skip-one : (l : List ℕ) (at : ℕ) → placedIn n 1 l at ≡ placedIn n 0 (drop 1 l) (at + 1)
+  skip-one : (l : List ℕ) (at : ℕ) → sightingsIn n 1 l at ≡ sightingsIn n 0 (drop 1 l) (at + 1)
   skip-one [] at = refl
   skip-one (b ∷ l) at = refl
 
-  at-word : (f m : ℕ) (l : List ℕ) (at : ℕ) → f < n → placedIn n 0 (f ∷ (m ∷ l)) at ≡ placedIn n 0 l (at + 2)
+  at-word : (f m : ℕ) (l : List ℕ) (at : ℕ) → f < n → sightingsIn n 0 (f ∷ (m ∷ l)) at ≡ sightingsIn n 0 l (at + 2)
   at-word f m l at h =
-      cond-true (ltb f n) _ _ (lt-ltb f n h) ∙ ap (placedIn n 0 l) (let e : at + 1 + 1 ≡ at + 2 = omega arith in e)
+      cond-true (ltb f n) _ _ (lt-ltb f n h) ∙ ap (sightingsIn n 0 l) (let e : at + 1 + 1 ≡ at + 2 = omega arith in e)
 
-  at-other : (b : ℕ) (l : List ℕ) (at : ℕ) → n ≤ b → isName b ≡ false → placedIn n 0 (b ∷ l) at ≡ placedIn n 0 l (at + 1)
+  at-other : (b : ℕ) (l : List ℕ) (at : ℕ) → n ≤ b → isName b ≡ false → sightingsIn n 0 (b ∷ l) at ≡ sightingsIn n 0 l (at + 1)
   at-other b l at h k = cond-false (ltb b n) _ _ (le-ltb b n h) ∙ cond-false (isName b) _ _ k
 
   at-name : (b : ℕ) (l : List ℕ) (at : ℕ) → n ≤ b → isName b ≡ true →
-      placedIn n 0 (b ∷ l) at ≡ record { name = b - firstNameByte; offset = at } ∷ placedIn n 0 l (at + 1)
+      sightingsIn n 0 (b ∷ l) at ≡ record { name = b - firstNameByte; offset = at } ∷ sightingsIn n 0 l (at + 1)
   at-name b l at h k = cond-false (ltb b n) _ _ (le-ltb b n h) ∙ cond-true (isName b) _ _ k
 
   module _ (p : List ℕ) (at : ℕ) (inside : at < length p) where
-    pass-word : getD p at 0 < n → placedIn n 0 (drop at p) at ≡ placedIn n 0 (drop (at + 2) p) (at + 2)
+    pass-word : getD p at 0 < n → sightingsIn n 0 (drop at p) at ≡ sightingsIn n 0 (drop (at + 2) p) (at + 2)
     pass-word k =
-        ap (λ l. placedIn n 0 l at) (drop-cons p at 0 inside)
+        ap (λ l. sightingsIn n 0 l at) (drop-cons p at 0 inside)
         ∙ cond-true (ltb (getD p at 0) n) _ _ (lt-ltb (getD p at 0) n k)
         ∙ skip-one (drop (suc at) p) (at + 1)
-        ∙ ap₂ (λ l q. placedIn n 0 l q)
+        ∙ ap₂ (λ l q. sightingsIn n 0 l q)
         (drop-drop 1 (suc at) p ∙ ap (λ i. drop i p) (let e : suc at + 1 ≡ at + 2 = omega arith in e))
         (let e : at + 1 + 1 ≡ at + 2 = omega arith in e)
 
-    pass-other : n ≤ getD p at 0 → isName (getD p at 0) ≡ false → placedIn n 0 (drop at p) at ≡ placedIn n 0 (drop (at + 1) p) (at + 1)
+    pass-other : n ≤ getD p at 0 → isName (getD p at 0) ≡ false → sightingsIn n 0 (drop at p) at ≡ sightingsIn n 0 (drop (at + 1) p) (at + 1)
     pass-other h k =
-        ap (λ l. placedIn n 0 l at) (drop-cons p at 0 inside)
+        ap (λ l. sightingsIn n 0 l at) (drop-cons p at 0 inside)
         ∙ at-other (getD p at 0) (drop (suc at) p) at h k
-        ∙ ap (λ i. placedIn n 0 (drop i p) (at + 1)) (sym (add-one at))
+        ∙ ap (λ i. sightingsIn n 0 (drop i p) (at + 1)) (sym (add-one at))
 
     pass-name : n ≤ getD p at 0 → isName (getD p at 0) ≡ true →
-        placedIn n 0 (drop at p) at ≡ record { name = getD p at 0 - 128; offset = at } ∷ placedIn n 0 (drop (at + 1) p) (at + 1)
+        sightingsIn n 0 (drop at p) at ≡ record { name = getD p at 0 - 128; offset = at } ∷ sightingsIn n 0 (drop (at + 1) p) (at + 1)
     pass-name h k =
-        ap (λ l. placedIn n 0 l at) (drop-cons p at 0 inside)
+        ap (λ l. sightingsIn n 0 l at) (drop-cons p at 0 inside)
         ∙ at-name (getD p at 0) (drop (suc at) p) at h k
-        ∙ ap (λ i. record { name = getD p at 0 - 128; offset = at } ∷ placedIn n 0 (drop i p) (at + 1)) (sym (add-one at))
+        ∙ ap (λ i. record { name = getD p at 0 - 128; offset = at } ∷ sightingsIn n 0 (drop i p) (at + 1)) (sym (add-one at))
 
 -- ---- the table of names seen
 
@@ -116,15 +117,15 @@ pub record Searched (p : List ℕ) (words : ℕ) (seen : List ℕ) (at : ℕ) : 
   pub before : List ℕ
   pub low : at ≤ 4097
   pub marked : Marked seen before
-  pub same : repeatedIn [] (placedIn words 1 p 0) ≡ repeatedIn before (placedIn words 0 (drop at p) at)
+  pub same : repeatedIn [] (sightingsIn words 1 p 0) ≡ repeatedIn before (sightingsIn words 0 (drop at p) at)
 
 module _ {p : List ℕ} {words : ℕ} (long : length p ≤ 4096) where
   pub searched-none : Searched p words (replicate 64 0) 1
   searched-none = record { before = []; low = omega arith; marked = marked-none; same = ap (repeatedIn []) (skip-one words p 0) }
 
-  pub searched-all : {seen : List ℕ} {at : ℕ} → Searched p words seen at → length p ≤ at → none ≡ repeatedIn [] (placedIn words 1 p 0)
+  pub searched-all : {seen : List ℕ} {at : ℕ} → Searched p words seen at → length p ≤ at → none ≡ repeatedIn [] (sightingsIn words 1 p 0)
   searched-all {seen} {at} s k =
-      sym (s .same ∙ ap (λ l. repeatedIn (s .before) (placedIn words 0 l at)) (none-left p at k))
+      sym (s .same ∙ ap (λ l. repeatedIn (s .before) (sightingsIn words 0 l at)) (none-left p at k))
 
   module _ {seen : List ℕ} {at : ℕ} (s : Searched p words seen at) (inside : at < length p) (b : ℕ) (byte : b ≡ getD p at 0) where
     pub searched-word : b < words → Searched p words seen (at + 2)
@@ -151,21 +152,21 @@ module _ {p : List ℕ} {words : ℕ} (long : length p ≤ 4096) where
     searched-high k l = other k (high-byte b l)
 
     module _ (k : words ≤ b) (low : 128 ≤ b) (high : b < 192) where
-      at-this : repeatedIn [] (placedIn words 1 p 0)
-          ≡ cond (occurs (b - 128) (s .before)) (some at) (repeatedIn ((b - 128) ∷ s .before) (placedIn words 0 (drop (at + 1) p) (at + 1)))
+      at-this : repeatedIn [] (sightingsIn words 1 p 0)
+          ≡ cond (occurs (b - 128) (s .before)) (some at) (repeatedIn ((b - 128) ∷ s .before) (sightingsIn words 0 (drop (at + 1) p) (at + 1)))
       at-this =
           s .same
           ∙ ap (repeatedIn (s .before))
           (pass-name words p at inside (subst (λ b. words ≤ b) byte k) (subst (λ b. isName b ≡ true) byte (name-byte b low high)))
           ∙ ap
-          (λ n. cond (occurs (n - 128) (s .before)) (some at) (repeatedIn ((n - 128) ∷ s .before) (placedIn words 0 (drop (at + 1) p) (at + 1))))
+          (λ n. cond (occurs (n - 128) (s .before)) (some at) (repeatedIn ((n - 128) ∷ s .before) (sightingsIn words 0 (drop (at + 1) p) (at + 1))))
           (sym byte)
 
       mark-known : eqb (getD seen (b - 128) 0) 0 ≡ not (occurs (b - 128) (s .before))
       mark-known = s .marked .each (b - 128) (omega arith)
 
       -- It stood before.
-      pub searched-found : (getD seen (b - 128) 0 ≡ 0 → ⊥) → some at ≡ repeatedIn [] (placedIn words 1 p 0)
+      pub searched-found : (getD seen (b - 128) 0 ≡ 0 → ⊥) → some at ≡ repeatedIn [] (sightingsIn words 1 p 0)
       searched-found e =
           sym (at-this
           ∙ cond-true (occurs (b - 128) (s .before)) _ _
@@ -193,44 +194,44 @@ module _ (W : Vocabulary) (inOrder : InOrder W) where
   no-word b h = let few = inOrder .fewWords in omega arith
 
   mutual
-    placed-bytes : (t : Term) (s : ℕ) → Sorted (signature W) t s → All (λ n. n < nameCount) (names t) → (at : ℕ) (r : List ℕ) →
-        placedIn count 0 (encodeAt W t ++ r) at ≡ placedFrom W t at ++ placedIn count 0 r (at + length (encodeAt W t))
-    placed-bytes any s h a at r = ap (placedIn count 0 r) (let e : at ≡ at + 0 = omega arith in e)
-    placed-bytes (var n) s h a at r =
+    sightings-bytes : (t : Term) (s : ℕ) → Sorted (signature W) t s → All (λ n. n < nameCount) (names t) → (at : ℕ) (r : List ℕ) →
+        sightingsIn count 0 (encodeAt W t ++ r) at ≡ sightingsFrom W t at ++ sightingsIn count 0 r (at + length (encodeAt W t))
+    sightings-bytes any s h a at r = ap (sightingsIn count 0 r) (let e : at ≡ at + 0 = omega arith in e)
+    sightings-bytes (var n) s h a at r =
         at-name count (nameByte n) r at (no-word (nameByte n) (omega arith)) (name-byte (nameByte n) (omega arith) (omega (arith, a .0)))
-        ∙ ap (λ m. record { name = m; offset = at } ∷ placedIn count 0 r (at + 1)) (let e : 128 + n - 128 ≡ n = omega arith in e)
-    placed-bytes (app f ts) s h a at r =
+        ∙ ap (λ m. record { name = m; offset = at } ∷ sightingsIn count 0 r (at + 1)) (let e : 128 + n - 128 ≡ n = omega arith in e)
+    sightings-bytes (app f ts) s h a at r =
         let m : ℕ = writtenMap W f ts in
         let known : f < count = rw (length-symbols W) at (h .0) in
         let behind : at + 1 + mapBytes + length (encodeAll W ts) ≡ at + length (encodeAt W (app f ts)) =
         omega (arith, length-append (writeMap m) (encodeAll W ts)) in
         at-word count f m (encodeAll W ts ++ r) at known
-        ∙ ap (placedIn count 0 (encodeAll W ts ++ r)) (let e : at + 2 ≡ at + 1 + mapBytes = omega arith in e)
-        ∙ placed-bytes-all ts (arguments (signature W) f) (h .2) a (at + 1 + mapBytes) r
-        ∙ ap (λ q. placedAll W ts (at + 1 + mapBytes) ++ placedIn count 0 r q) behind
+        ∙ ap (sightingsIn count 0 (encodeAll W ts ++ r)) (let e : at + 2 ≡ at + 1 + mapBytes = omega arith in e)
+        ∙ sightings-bytes-all ts (arguments (signature W) f) (h .2) a (at + 1 + mapBytes) r
+        ∙ ap (λ q. sightingsAll W ts (at + 1 + mapBytes) ++ sightingsIn count 0 r q) behind
 
-    placed-bytes-all : (ts : Terms) (ks : List ℕ) → SortedAll (signature W) ts ks → All (λ n. n < nameCount) (namesAll ts) →
+    sightings-bytes-all : (ts : Terms) (ks : List ℕ) → SortedAll (signature W) ts ks → All (λ n. n < nameCount) (namesAll ts) →
         (at : ℕ) (r : List ℕ) →
-        placedIn count 0 (encodeAll W ts ++ r) at ≡ placedAll W ts at ++ placedIn count 0 r (at + length (encodeAll W ts))
-    placed-bytes-all nil ks h a at r = ap (placedIn count 0 r) (let e : at ≡ at + 0 = omega arith in e)
-    placed-bytes-all (cons t ts) [] h a at r = absurd h
-    placed-bytes-all (cons t ts) (k ∷ ks) h a at r =
+        sightingsIn count 0 (encodeAll W ts ++ r) at ≡ sightingsAll W ts at ++ sightingsIn count 0 r (at + length (encodeAll W ts))
+    sightings-bytes-all nil ks h a at r = ap (sightingsIn count 0 r) (let e : at ≡ at + 0 = omega arith in e)
+    sightings-bytes-all (cons t ts) [] h a at r = absurd h
+    sightings-bytes-all (cons t ts) (k ∷ ks) h a at r =
         let next : ℕ = at + length (encodeAt W t) in
         let behind : next + length (encodeAll W ts) ≡ at + length (encodeAll W (cons t ts)) =
         omega (arith, length-append (encodeAt W t) (encodeAll W ts)) in
-        ap (λ l. placedIn count 0 l at) (append-assoc (encodeAt W t) (encodeAll W ts) r)
-        ∙ placed-bytes t k (h .0) (all-left (λ n. n < nameCount) (names t) (namesAll ts) a) at (encodeAll W ts ++ r)
-        ∙ ap (λ l. placedFrom W t at ++ l)
-        (placed-bytes-all ts ks (h .1) (all-right (λ n. n < nameCount) (names t) (namesAll ts) a) next r
-        ∙ ap (λ q. placedAll W ts next ++ placedIn count 0 r q) behind)
-        ∙ sym (append-assoc (placedFrom W t at) (placedAll W ts next) (placedIn count 0 r (at + length (encodeAll W (cons t ts)))))
+        ap (λ l. sightingsIn count 0 l at) (append-assoc (encodeAt W t) (encodeAll W ts) r)
+        ∙ sightings-bytes t k (h .0) (all-left (λ n. n < nameCount) (names t) (namesAll ts) a) at (encodeAll W ts ++ r)
+        ∙ ap (λ l. sightingsFrom W t at ++ l)
+        (sightings-bytes-all ts ks (h .1) (all-right (λ n. n < nameCount) (names t) (namesAll ts) a) next r
+        ∙ ap (λ q. sightingsAll W ts next ++ sightingsIn count 0 r q) behind)
+        ∙ sym (append-assoc (sightingsFrom W t at) (sightingsAll W ts next) (sightingsIn count 0 r (at + length (encodeAll W (cons t ts)))))
 
   placed-alone : (t : Term) (s : ℕ) → Sorted (signature W) t s → All (λ n. n < nameCount) (names t) →
-      placedIn count 0 (encodeAt W t) 1 ≡ placedFrom W t 1
+      sightingsIn count 0 (encodeAt W t) 1 ≡ sightingsFrom W t 1
   placed-alone t s h a =
-      ap (λ l. placedIn count 0 l 1) (sym (append-nil (encodeAt W t))) ∙ placed-bytes t s h a 1 [] ∙ append-nil (placedFrom W t 1)
+      ap (λ l. sightingsIn count 0 l 1) (sym (append-nil (encodeAt W t))) ∙ sightings-bytes t s h a 1 [] ∙ append-nil (sightingsFrom W t 1)
 
-  pub placed-pattern : (s : ℕ) (t : Term) → GoodTerm W s t → placedIn count 1 (encodeTerm W s t) 0 ≡ placed W t
-  placed-pattern s any good = at-other count wholeByte [] 1 (no-word wholeByte (omega arith)) (high-byte wholeByte (omega arith))
-  placed-pattern s (var n) good = placed-alone (var n) s (good .sorted .sorted) (good .named)
-  placed-pattern s (app f ts) good = placed-alone (app f ts) s (good .sorted .sorted) (good .named)
+  pub sightings-pattern : (s : ℕ) (t : Term) → GoodTerm W s t → sightingsIn count 1 (encodeTerm W s t) 0 ≡ sightings W t
+  sightings-pattern s any good = at-other count wholeByte [] 1 (no-word wholeByte (omega arith)) (high-byte wholeByte (omega arith))
+  sightings-pattern s (var n) good = placed-alone (var n) s (good .sorted .sorted) (good .named)
+  sightings-pattern s (app f ts) good = placed-alone (app f ts) s (good .sorted .sorted) (good .named)

@@ -12,7 +12,8 @@ use Rattle.terms.specs.Lists.{range, keep}
 use Rattle.terms.proofs.Count.{bit, count, count-append, count-le, count-range, length-range}
 use Rattle.wire.specs.Vocabulary.{Vocabulary, InOrder}
 use Rattle.wire.proofs.Words.{word-in-order}
-use Rattle.complement.specs.Listing.{Tabled, KindsFew, isOther, othersIn, hasKind, Tallied}
+use Rattle.signature.specs.Tables.{Tabled}
+use Rattle.complement.specs.Listing.{KindsFew, isOther, othersIn, hasKind, Tallied}
 use Rattle.complement.proofs.Others.{range-next}
 
 length-keep : (t : ℕ → Bool) (l : List ℕ) → length (keep t l) ≡ count t l

@@ -11,7 +11,7 @@ use Rattle.terms.specs.Term.{Term, any, var, app, Terms, nil, cons, Sorted}
 use Rattle.terms.specs.Listing.{others}
 use Rattle.wire.specs.Map.{writeMap, flags, isOpen}
 use Rattle.wire.specs.Vocabulary.{Vocabulary, signature}
-use Rattle.wire.specs.Written.{nameByte, writtenMap, encodeAt, encodeAll, levels, levelsAll}
+use Rattle.wire.specs.TermBytes.{nameByte, writtenMap, encodeAt, encodeAll, levels, levelsAll}
 use Rattle.wire.proofs.Words.{length-symbols}
 use Rattle.wire.proofs.EntryBytes.{othersBytes, spots, spotsBytes}
 use Rattle.wire.proofs.EntryMaps.{closed, closed-bytes, bitSpots, spots-by-bits}
@@ -178,7 +178,7 @@ module _ {copy : List ℕ} {at words : ℕ} {results : List ℕ} {left : ℕ} (b
     word-places = record {
       vocabulary = U;
       front = h .front;
-      symbol = f;
+      top = f;
       terms = ts;
       rest = h .rest;
       inOrder = h .inOrder;

@@ -34,12 +34,6 @@ back-same n out = ap (λ l. take n out ++ l) (take-append-drop (length out - n) 
 pub part-length : (n : ℕ) (out : List ℕ) → length (part n out) ≡ length out - n
 part-length n out = ap length (part-is n out) ∙ length-drop n out
 
-pub back-length : (n : ℕ) (out ys : List ℕ) → n ≤ length out → length ys ≡ length (part n out) → length (back n out ys) ≡ length out
-back-length n out ys h e =
-    ap (λ z. length (take n out ++ (ys ++ z))) (part-end n out)
-    ∙ length-append (take n out) (ys ++ [])
-    ∙ omega (arith, length-append ys [], part-length n out, lib.Seq.length-take-le n out h)
-
 module _ {bytes before out : List ℕ} {n : ℕ} (h : Written bytes before n out) (room : length bytes ≤ length before) where
   behind : drop n out ≡ drop (length bytes) before
   behind = ap₂ drop (h .count) (h .same) ∙ drop-at bytes (drop (length bytes) before) (length bytes) refl

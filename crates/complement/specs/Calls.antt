@@ -1,10 +1,9 @@
 -- Calls: what the parts of the call list promise each other; no public contract cites it.
 --
---   Patterned p n results    p is the writing of a good term of a vocabulary in order, within the limits; the table is the vocabulary's
+--   Patterned p n results    the bytes p are accepted under a vocabulary in order, whose result kinds the table has
 --   bytesOf h                the bytes of its entries
 --   HasRoom                  where list_in begins: there are entries, and room for them
 --   WritesEntries            what list_in does: the entries are written
---   Shows l r after          reply and lent slice are those of l
 --   ListsLinear              what list_linear does: the entries are written, or there is no room
 --   ListsPattern             what list_pattern does: the same, or a name stands twice
 --
@@ -13,12 +12,13 @@ use mathlib.Core.List.{List, _++_}
 use Prim.Native.Nat.{ℕ, _<_, _≤_}
 use lib.ListN.{length, drop}
 use Rattle.terms.specs.Term.{Term}
-use Rattle.wire.specs.Reply.{Reply, accept}
+use Rattle.wire.specs.Reply.{Reply, kinded}
+use Rattle.wire.specs.Parser.{accept}
 use Rattle.wire.specs.Vocabulary.{Vocabulary, InOrder}
-use Rattle.wire.specs.Written.{encodeTerm, GoodTerm}
-use Rattle.wire.specs.Matching.{Limits}
-use Rattle.wire.specs.Listed.{Listed, linearIn, kinded, entriesBytes, entriesOf, listedInto, listedPattern}
-use Rattle.complement.specs.Listing.{Tabled}
+use Rattle.wire.specs.TermBytes.{HoldsTerm}
+use Rattle.wire.specs.ListComputed.{linearIn, listedInto, listedPattern, ListShown}
+use Rattle.wire.specs.Leftovers.{entriesOf, listingBytes}
+use Rattle.signature.specs.Tables.{Tabled}
 
 pub record Patterned (p : List ℕ) (words : ℕ) (results : List ℕ) : Type 0 where
   pub vocabulary : Vocabulary
@@ -26,12 +26,10 @@ pub record Patterned (p : List ℕ) (words : ℕ) (results : List ℕ) : Type 0 
   pub term : Term
   pub inOrder : InOrder vocabulary
   pub tabled : Tabled vocabulary words results
-  pub good : GoodTerm vocabulary kind term
-  pub written : p ≡ encodeTerm vocabulary kind term
-  pub limits : Limits p term
+  pub held : HoldsTerm vocabulary p kind term
 
 abbrev pub bytesOf : {p : List ℕ} {words : ℕ} {results : List ℕ} → Patterned p words results → List ℕ
-bytesOf h = entriesBytes (h .vocabulary) (entriesOf (h .vocabulary) (h .kind) (h .term))
+bytesOf h = listingBytes (h .vocabulary) (h .kind) (h .term)
 
 abbrev pub HasRoom : List ℕ → ℕ → List ℕ → ℕ → Type 0
 HasRoom p words results room = (h : Patterned p words results) → (0 < length (bytesOf h)) × (length (bytesOf h) ≤ room)
@@ -39,16 +37,12 @@ HasRoom p words results room = (h : Patterned p words results) → (0 < length (
 abbrev pub WritesEntries : List ℕ → ℕ → List ℕ → List ℕ → List ℕ → Type 0
 WritesEntries p words results before after = (h : Patterned p words results) → after ≡ bytesOf h ++ drop (length (bytesOf h)) before
 
-pub record Shows (l : Listed) (r : Reply) (after : List ℕ) : Type 0 where
-  pub reply : r ≡ l .reply
-  pub out : after ≡ l .out
-
 abbrev pub ListsLinear : List ℕ → ℕ → List ℕ → List ℕ → List ℕ → Reply → Type 0
 ListsLinear p words results before after r =
     (h : Patterned p words results) →
-    Shows (listedInto before (length (entriesOf (h .vocabulary) (h .kind) (h .term))) (bytesOf h)) r after
+    ListShown (listedInto before (length (entriesOf (h .vocabulary) (h .kind) (h .term))) (bytesOf h)) r after
 
 abbrev pub ListsPattern : List ℕ → ℕ → List ℕ → List ℕ → List ℕ → Reply → Type 0
 ListsPattern p words results before after r =
     (h : Patterned p words results) →
-    Shows (listedPattern (h .vocabulary) before (linearIn (h .vocabulary) (accept (kinded (h .kind) (h .term))))) r after
+    ListShown (listedPattern (h .vocabulary) before (linearIn (h .vocabulary) (accept (kinded (h .kind) (h .term))))) r after

@@ -1,7 +1,6 @@
 -- Listing: what the functions that list promise each other; no public contract cites it.
 --
 --   Byte b n                   n is the byte b
---   Tabled W n results         the first n entries of the table are the result kinds of W's words, which are n
 --   KindsFew n results         the first n words have result kinds below 16, by the table
 --   isOther results f h        the word h is another than f and has its result kind, by the table
 --   othersIn n results f       the other words of f's result kind, by the table
@@ -11,7 +10,7 @@
 --   Chained n results firsts nexts   firsts has the lowest word of each result kind, nexts for each word the next of its kind
 --   Tallied n results counts   counts says how many of the first n words have each result kind, by the table
 --   Measures p n results e m   the listing of the pattern p has e entries and m bytes, where the table is a vocabulary's
---   placedIn n skip l at       the names of the bytes l at an offset with theirs, where n numbers are words' and the first
+--   sightingsIn n skip l at       the names of the bytes l at an offset with theirs, where n numbers are words' and the first
 --                              `skip` bytes are not looked at
 --   repeatOf r                 where a name stands again, as an Option
 --   Written bytes before n after   n bytes are written into the lent slice, and those behind them are as before
@@ -31,25 +30,21 @@ use Rattle.terms.specs.Lists.{range, keep}
 use Rattle.terms.specs.Term.{Term, Terms, Sorted}
 use Rattle.terms.proofs.Count.{count}
 use Rattle.wire.specs.Map.{mapBytes, writeMap, flags, isOpen}
-use Rattle.wire.specs.Vocabulary.{Vocabulary, mostKinds, InOrder, signature, word}
-use Rattle.wire.specs.Written.{firstNameByte, encodeAt, encodeAll, levels, levelsAll}
-use Rattle.wire.specs.Reading.{isName}
-use Rattle.wire.specs.Checks.{mostBytes}
-use Rattle.wire.specs.Listed.{Placed}
+use Rattle.wire.specs.Vocabulary.{Vocabulary, mostKinds, InOrder, signature}
+use Rattle.wire.specs.TermBytes.{firstNameByte, encodeAt, encodeAll, levels, levelsAll, mostBytes}
+use Rattle.wire.specs.Parser.{isName}
+use Rattle.wire.specs.PatternLines.{Sighting}
 use Rattle.wire.proofs.EntrySizes.{countAt, sizeAt, summedIn}
 use Rattle.wire.proofs.EntryBytes.{spots, spotsBytes}
 use Rattle.wire.proofs.EntryMaps.{bitSpots}
 use Rattle.wire.proofs.EntryWalk.{Stands}
+use Rattle.signature.specs.Tables.{Tabled}
 use Rattle.complement.specs.declared.Repeat.{Repeat}
 use Rattle.complement.specs.declared.Repeat.the-variants.{At, Nothing}
 
 pub record Byte (b n : ℕ) : Type 0 where
   pub same : n ≡ b
   pub small : n < 256
-
-pub record Tabled (W : Vocabulary) (n : ℕ) (results : List ℕ) : Type 0 where
-  pub words : n ≡ length (W .words)
-  pub result : (f : ℕ) → f < n → getD results f 0 ≡ word W f .result
 
 pub record KindsFew (n : ℕ) (results : List ℕ) : Type 0 where
   pub low : (h : ℕ) → h < n → getD results h 0 < mostKinds
@@ -78,12 +73,12 @@ abbrev pub Measures : List ℕ → ℕ → List ℕ → ℕ → ℕ → Type 0
 Measures p n results entries bytes =
     (W : Vocabulary) → Tabled W n results → (entries ≡ summedIn W (countAt W) 1 p 0) × (bytes ≡ summedIn W (sizeAt W) 1 p 0)
 
-abbrev pub placedIn : ℕ → ℕ → List ℕ → ℕ → List Placed
-placedIn n skip [] at = []
-placedIn n (suc skip) (b ∷ l) at = placedIn n skip l (at + 1)
-placedIn n zero (b ∷ l) at =
-    cond (ltb b n) (placedIn n mapBytes l (at + 1))
-    (cond (isName b) (record { name = b - firstNameByte; offset = at } ∷ placedIn n zero l (at + 1)) (placedIn n zero l (at + 1)))
+abbrev pub sightingsIn : ℕ → ℕ → List ℕ → ℕ → List Sighting
+sightingsIn n skip [] at = []
+sightingsIn n (suc skip) (b ∷ l) at = sightingsIn n skip l (at + 1)
+sightingsIn n zero (b ∷ l) at =
+    cond (ltb b n) (sightingsIn n mapBytes l (at + 1))
+    (cond (isName b) (record { name = b - firstNameByte; offset = at } ∷ sightingsIn n zero l (at + 1)) (sightingsIn n zero l (at + 1)))
 
 abbrev pub repeatOf : Repeat → Option ℕ
 repeatOf (At q) = some q
@@ -125,17 +120,17 @@ ListsTerm copy at words results left before copied after end n =
 pub record PlacesAt (copy : List ℕ) (at map words : ℕ) (results : List ℕ) (left room : ℕ) : Type 0 where
   pub vocabulary : Vocabulary
   pub front : List ℕ
-  pub symbol : ℕ
+  pub top : ℕ
   pub terms : Terms
   pub rest : List ℕ
   pub inOrder : InOrder vocabulary
   pub tabled : Tabled vocabulary words results
   pub size : length copy ≤ mostBytes
   pub begins : length front ≡ at
-  pub stands : copy ≡ front ++ (symbol ∷ (writeMap map ++ (encodeAll vocabulary terms ++ rest)))
+  pub stands : copy ≡ front ++ (top ∷ (writeMap map ++ (encodeAll vocabulary terms ++ rest)))
   pub due : Stands vocabulary (flags map) terms
   pub deep : suc (levelsAll terms) ≤ left
-  pub fits : length (spotsBytes vocabulary (bitSpots vocabulary symbol map front (flags map) 0 [] terms)) ≤ room
+  pub fits : length (spotsBytes vocabulary (bitSpots vocabulary top map front (flags map) 0 [] terms)) ≤ room
 
 -- The copy is as before, and the entries are written.
 pub record PlacesListed {copy : List ℕ} {at map words : ℕ} {results : List ℕ} {left room : ℕ} (h : PlacesAt copy at map words results left room)
@@ -143,7 +138,7 @@ pub record PlacesListed {copy : List ℕ} {at map words : ℕ} {results : List �
   pub passed : end ≡ at + 1 + mapBytes + length (encodeAll (h .vocabulary) (h .terms))
   pub restored : copied ≡ copy
   pub written :
-      Written (spotsBytes (h .vocabulary) (bitSpots (h .vocabulary) (h .symbol) map (h .front) (flags map) 0 [] (h .terms))) before n after
+      Written (spotsBytes (h .vocabulary) (bitSpots (h .vocabulary) (h .top) map (h .front) (flags map) 0 [] (h .terms))) before n after
 
 abbrev pub ListsPlaces : List ℕ → ℕ → ℕ → ℕ → List ℕ → ℕ → List ℕ → List ℕ → List ℕ → ℕ → ℕ → Type 0
 ListsPlaces copy at map words results left before copied after end n =

@@ -5,11 +5,12 @@ ghost use Prim.Native.Nat.{_+_, _≤_, _<_, _%_, _^_, suc};
 ghost use lib.ListN.{length, take, drop, replicate};
 ghost use lib.Seq.{paste};
 ghost use Rattle.wire.specs.Map.{writeMap};
-ghost use Rattle.wire.specs.Listed.{repeatedIn, ListPromise};
+ghost use Rattle.wire.specs.Leftovers.{ListPromise};
+ghost use Rattle.wire.specs.ListComputed.{repeatedIn, listed, ListShown};
 ghost use Rattle.wire.proofs.EntryBytes.{othersBytes};
 ghost use Rattle.complement.specs.Answers.{listNumbers};
 ghost use Rattle.complement.specs.Calls.{Patterned, HasRoom, WritesEntries, ListsLinear, ListsPattern};
-ghost use Rattle.complement.specs.Listing.{KindsFew, Byte, Tallied, Measures, placedIn, repeatOf, othersIn, Chained, Written, TermAt, ListsTerm, PlacesAt, ListsPlaces};
+ghost use Rattle.complement.specs.Listing.{KindsFew, Byte, Tallied, Measures, sightingsIn, repeatOf, othersIn, Chained, Written, TermAt, ListsTerm, PlacesAt, ListsPlaces};
 use reader::TermAnswer;
 use reader::TermRefusal;
 use signature::VocabularyRefusal;
@@ -349,7 +350,7 @@ enum Repeat {
 // The earliest byte at which a name stands for the second time, in one pass over the pattern.
 fn first_repeat(p: &[u8], words: usize) -> Repeat
     requires { ⌜ length (now p) ≤ 4096 ⌝ }
-    ensures { λ r. ⌜ repeatOf r ≡ repeatedIn [] (placedIn words 1 (now (p .entry)) 0) ⌝ }
+    ensures { λ r. ⌜ repeatOf r ≡ repeatedIn [] (sightingsIn words 1 (now (p .entry)) 0) ⌝ }
 {
     let mut seen = [0u8; 64];
     let mut at = 1;
@@ -426,9 +427,11 @@ fn list_pattern(pattern: &[u8], words: usize, results: &[u8; 96], out: &mut [u8]
     }
 }
 
-// Lists the leftovers of a pattern into a lent slice.
+// Writes the leftovers of a pattern into the lent slice, one directly behind the other, and says how many entries and bytes
+// they are. A refusal leaves the slice as it was.
 pub fn list(vocabulary: &[u8], pattern: &[u8], out: &mut [u8]) -> ListAnswer
     ensures { λ r. ⌜ ListPromise (now (vocabulary .entry)) (now (pattern .entry)) (now (out .entry)) (now (out .exit)) (listNumbers r) ⌝ }
+    ensures { λ r. ⌜ ListShown (listed (now (vocabulary .entry)) (now (pattern .entry)) (now (out .entry))) (listNumbers r) (now (out .exit)) ⌝ }
 {
     let mut results = [0u8; 96];
     match reader::load_term(vocabulary, pattern, &mut results) {

@@ -9,18 +9,21 @@ use lib.Dec.{eqb}
 use lib.ListN.{length, getD, drop, replicate, getD-replicate, length-replicate}
 use lib.Seq.{ext-getD}
 use borrow.Author.Tests.{eqb-true}
-use Rattle.terms.specs.Lists.{All}
+use Rattle.terms.specs.Lists.{All, orElse}
 use Rattle.terms.specs.Term.{Term, any, var, app, Terms, nil, cons, Ground, gapp, Grounds, gnil, gcons, Sorted, SortedAll, SortedGs, names}
 use Rattle.terms.specs.Filling.{Filling}
 use Rattle.terms.specs.Matcher.{matchAll, matcher, noFilling}
 use Rattle.wire.specs.Map.{isOpen}
 use Rattle.wire.specs.Vocabulary.{Vocabulary, signature, InOrder}
-use Rattle.wire.specs.Written.{nameCount, wholeByte, encodeAt, encodeAll, encodeRoot, asTerm, levels}
-use Rattle.wire.specs.Matching.{Inputs, Reads, Span, spanElse, orNoSpan, span, spanFrom, spanIn, spanTable}
+use Rattle.wire.specs.TermBytes.{nameCount, wholeByte, encodeAt, encodeAll, encodeRoot, asTerm, levels}
+use Rattle.wire.specs.Matching.{Inputs, HoldsInputs, Span, orNoSpan, span, spanFrom, spanIn}
+use Rattle.wire.specs.MatchComputed.{spanTable}
 use Rattle.wire.proofs.Words.{length-symbols}
+use Rattle.wire.proofs.Complete.{sorted-ground}
 use Rattle.wire.proofs.GroundBytes.{root-ground}
 use Rattle.wire.proofs.SpanTable.{length-table, table-span}
-use Rattle.matcher.specs.Walking.{Framed, found, WalkedOver}
+use Rattle.reader.specs.Frames.{Framed}
+use Rattle.matcher.specs.Walking.{found, WalkedOver}
 use Rattle.matcher.proofs.Marks.{Mark, Marked, marks, marks-one}
 use Rattle.matcher.proofs.Joined.{onward, match-first}
 use Rattle.matcher.proofs.Side.{spanAt, Told, Side}
@@ -38,7 +41,7 @@ onward-some : (o : Option Filling) → onward o (matchAll nil gnil) ≡ o
 onward-some none = refl
 onward-some (some f) = refl
 
-else-nothing : (o : Option Span) → spanElse o none ≡ o
+else-nothing : (o : Option Span) → orElse o none ≡ o
 else-nothing none = refl
 else-nothing (some x) = refl
 
@@ -55,8 +58,8 @@ root-bytes W (app f ts) = sym (append-nil (encodeAll W (cons (app f ts) nil)) �
 
 -- The frame z of the root says whether the byte b there is another than 255.
 pub record RootFrame (b z : ℕ) : Type 0 where
-  pub whole : b ≡ 255 → Framed z 0 1
-  pub written : (b ≡ 255 → ⊥) → Framed z 1 1
+  pub whole : b ≡ 255 → Framed z 0 1 0
+  pub written : (b ≡ 255 → ⊥) → Framed z 1 1 0
 
 root-marked : (W : Vocabulary) (t : Term) (z : ℕ) (r : List ℕ) → InOrder W → All (λ n. n < nameCount) (names t) →
     ((k : ℕ) (ts : Terms) → t ≡ app k ts → k < length (W .words)) →
@@ -69,39 +72,39 @@ root-marked W (app k ts) z r inOrder low known deep h =
     subst (λ ms. Marked (cons (app k ts) nil) (ms ++ []))
     (sym (marks-one 0 z 1 (h .written (λ e. let l = known k ts refl in let few = inOrder .fewWords in omega arith)))) (refl, omega arith, tt)
 
-module _ (v p s : List ℕ) (x : Inputs) (reads : Reads v p s x) where
+module _ (v p s : List ℕ) (x : Inputs) (held : HoldsInputs v p s x) where
   abbrev W : Vocabulary
   W = x .vocabulary
 
   root-byte : getD p 1 0 ≡ getD (encodeRoot W (x .pattern)) 0 0
-  root-byte = ap (λ l. getD l 1 0) (reads .patternWritten)
+  root-byte = ap (λ l. getD l 1 0) (held .pattern .written)
 
   root-known : (t : Term) → t ≡ x .pattern → (k : ℕ) (ts : Terms) → t ≡ app k ts → k < length (W .words)
   root-known t e k ts q =
-      let h = subst (λ t. Sorted (signature W) t (x .kind)) (sym e ∙ q) (reads .pattern .sorted .sorted) in
+      let h = subst (λ t. Sorted (signature W) t (x .kind)) (sym e ∙ q) (held .pattern .good .sorted .sorted) in
       rw (length-symbols W) at (h .0)
 
   pub side-begins : (z : ℕ) → RootFrame (getD p 1 0) z →
       Side W (x .pattern) (x .situation) p s blank (cons (x .pattern) nil) (gcons (x .situation) gnil) (marks 0 z ++ []) noFilling 1 1
   side-begins z h = record {
     sorts = x .kind ∷ [];
-    sorted = (reads .pattern .sorted .sorted, tt);
-    sortedGrounds = (reads .situation, tt);
-    named = subst (All (λ n. n < nameCount)) (sym (append-nil (names (x .pattern)))) (reads .pattern .named);
+    sorted = (held .pattern .good .sorted .sorted, tt);
+    sortedGrounds = (sorted-ground (signature W) (x .situation) (x .kind) (held .situation .good .sorted .sorted), tt);
+    named = subst (All (λ n. n < nameCount)) (sym (append-nil (names (x .pattern)))) (held .pattern .good .named);
     outcome = match-first (x .pattern) nil (x .situation) gnil noFilling ∙ onward-some (matcher (x .pattern) (x .situation));
     behind = rootBehind (x .pattern);
-    pattern = ap (drop 1) (reads .patternWritten) ∙ root-bytes W (x .pattern);
-    situation = ap (drop 1) (reads .situationWritten) ∙ root-ground W (x .situation) ∙ sym (append-nil (encodeAt W (asTerm (x .situation))));
+    pattern = ap (drop 1) (held .pattern .written) ∙ root-bytes W (x .pattern);
+    situation = ap (drop 1) (held .situation .written) ∙ root-ground W (x .situation) ∙ sym (append-nil (encodeAt W (asTerm (x .situation))));
     marked =
-        root-marked W (x .pattern) z [] (reads .vocabulary .inOrder) (reads .pattern .named) (root-known (x .pattern) refl)
-        (let deep = reads .patternLimits .levels in omega arith) (subst (λ b. RootFrame b z) root-byte h);
+        root-marked W (x .pattern) z [] (held .vocabulary .good .inOrder) (held .pattern .good .named) (root-known (x .pattern) refl)
+        (let deep = held .pattern .limits .levels in omega arith) (subst (λ b. RootFrame b z) root-byte h);
     told = λ n l. subst (λ o. Told W s o none) (sym (span-new blank n (blank-at (2 * n + 1) (omega arith)))) tt;
     reported = λ n l.
-        ap (λ o. spanElse o (spanElse (spanFrom W (x .pattern) (x .situation) n 1) none)) (span-new blank n (blank-at (2 * n + 1) (omega arith)))
+        ap (λ o. orElse o (orElse (spanFrom W (x .pattern) (x .situation) n 1) none)) (span-new blank n (blank-at (2 * n + 1) (omega arith)))
         ∙ else-nothing (spanFrom W (x .pattern) (x .situation) n 1);
     blank = λ n l e. blank-at (2 * n) (omega arith);
-    insidePattern = let long = reads .patternLimits .least in omega arith;
-    insideSituation = let long = reads .situationLimits .least in omega arith;
+    insidePattern = let long = held .pattern .limits .least in omega arith;
+    insideSituation = let long = held .situation .limits .least in omega arith;
     spanEntries = refl;
   }
 

@@ -6,9 +6,9 @@ use mathlib.Core.Option.{Option, some, none}
 use Prim.Native.Nat.{ℕ}
 use lib.Dec.{eqb}
 use Rattle.terms.specs.Lists.{occurs}
-use Rattle.terms.specs.Term.{Ground, same}
+use Rattle.terms.specs.Term.{Ground}
+use Rattle.terms.specs.Matcher.{same, withName, matchName}
 use Rattle.terms.specs.Filling.{Binding, Filling, valueOf}
-use Rattle.terms.specs.Matcher.{withName, matchName}
 use Rattle.wire.proofs.Spans.{coverElse}
 
 abbrev pub bound : List Binding → ℕ → Option Ground

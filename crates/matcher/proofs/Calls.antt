@@ -13,10 +13,11 @@ use Rattle.terms.specs.Term.{Ground, names}
 use Rattle.terms.specs.Filling.{Filling}
 use Rattle.terms.specs.Matcher.{matcher}
 use Rattle.wire.specs.Reply.{Reply, accepted, refused, IsBytes}
-use Rattle.wire.specs.Written.{nameCount, encodeAt, asTerm}
+use Rattle.wire.specs.TermBytes.{nameCount, encodeAt, asTerm}
 use Rattle.wire.specs.Vocabulary.{Vocabulary}
-use Rattle.wire.specs.Matching.{Inputs, Judged, clear, refusal, judged, clearReply, tableLength, Span, orNoSpan, noSpan, span, spanFrom, spanTable, spanIn, yes, no, verdict, matchedWith, matched, cutOut, spanFound, spanWith, partSpan, Reads, MatchPromise, PartPromise}
-use Rattle.wire.proofs.Inputs.{clear-is-reads}
+use Rattle.wire.specs.Matching.{Inputs, tableLength, Span, orNoSpan, noSpan, span, spanFrom, spanIn, yes, no, cutOut, HoldsInputs, MatchPromise, PartPromise}
+use Rattle.wire.specs.MatchComputed.{Judged, clear, refusal, judged, clearReply, spanTable, verdict, matchedWith, matched, MatchShown, spanFound, spanWith, partSpan}
+use Rattle.wire.proofs.Inputs.{clear-is-held}
 use Rattle.wire.proofs.Matching.{match-keeps, part-keeps}
 use Rattle.wire.proofs.GroundBytes.{size-least, root-ground}
 use Rattle.wire.proofs.Spans.{coverFrom, Covers, SpanHolds, span-covers, span-absent}
@@ -26,12 +27,6 @@ use Rattle.reader.specs.declared.InputsRefusal.{InputsRefusal}
 use Rattle.reader.specs.declared.InputsAnswer.the-variants.{Clear, Refused}
 use Rattle.reader.proofs.Answers.{inputs-answers-differ}
 use Rattle.matcher.specs.Walking.{InputsRead, found, Walked}
-
--- ---- bytes
-
-pub bytes-of : (l : List ℕ) → ((i : ℕ) → getD l i 0 < 256) → IsBytes l
-bytes-of [] h = tt
-bytes-of (b ∷ l) h = (h 0, bytes-of l (λ i. h (suc i)))
 
 -- ---- what the inputs are judged to be
 
@@ -59,16 +54,23 @@ module _ {v p s : List ℕ} (lent : Lent v p s) where
   pub inputs-read : accepted [] ≡ clearReply (judged v p s) → InputsRead p s
   inputs-read e =
       let j = judged-clear (judged v p s) e in
-      record { bytes = v; inputs = j .0; reads = clear-is-reads v p s (j .0) (lent .vocabulary) (lent .pattern) (lent .situation) .0 (j .1) }
+      record { bytes = v; inputs = j .0; held = clear-is-held v p s (j .0) (lent .vocabulary) (lent .pattern) (lent .situation) .0 (j .1) }
 
   -- ---- match
 
   module _ (before after : List ℕ) where
-    promised : (r : Reply) → r ≡ matched v p s before .reply → after ≡ matched v p s before .table → MatchPromise v p s before after r
-    promised r e t = subst₂ (λ a r. MatchPromise v p s before a r) (sym t) (sym e) (match-keeps v p s before (lent .vocabulary) (lent .pattern) (lent .situation))
+    -- What match ensures of a reply.
+    abbrev Ensured : Reply → Type 0
+    Ensured r = MatchPromise v p s before after r × MatchShown (matched v p s before) r after
+
+    promised : (r : Reply) → r ≡ matched v p s before .reply → after ≡ matched v p s before .table → Ensured r
+    promised r e t = (
+      subst₂ (λ a r. MatchPromise v p s before a r) (sym t) (sym e) (match-keeps v p s before (lent .vocabulary) (lent .pattern) (lent .situation)),
+      record { reply = e; table = t },
+    )
 
     pub match-refused : (why : InputsRefusal) → inputsRefused why ≡ clearReply (judged v p s) → after ≡ before →
-        MatchPromise v p s before after (inputsRefused why)
+        Ensured (inputsRefused why)
     match-refused why e t = promised (inputsRefused why) (reply (judged v p s) e) (t ∙ table (judged v p s) e)
       where
         reply : (j : Judged) → inputsRefused why ≡ clearReply j → inputsRefused why ≡ matchedWith before j .reply
@@ -87,7 +89,7 @@ module _ {v p s : List ℕ} (lent : Lent v p s) where
       unfolding here inputs-read
       matched-here = ap (matchedWith before) (judged-clear (judged v p s) clears .1)
 
-      pub match-length : (length before ≡ tableLength → ⊥) → after ≡ before → MatchPromise v p s before after (refused 19 3 0)
+      pub match-length : (length before ≡ tableLength → ⊥) → after ≡ before → Ensured (refused 19 3 0)
       match-length d t =
           let e = matched-here ∙ ap (λ b. cond b (verdict before (here .inputs) (matcher (here .inputs .pattern) (here .inputs .situation)))
           (record { reply = refused 19 3 0; table = before })) (ne-eqb (length before) tableLength d) in
@@ -99,7 +101,7 @@ module _ {v p s : List ℕ} (lent : Lent v p s) where
             matched-here ∙ ap (λ b. cond b (verdict before (here .inputs) (matcher (here .inputs .pattern) (here .inputs .situation)))
             (record { reply = refused 19 3 0; table = before })) (eq-eqb (length before) tableLength long)
 
-        pub match-yes : {spans : List ℕ} → Walked p s spans true → after ≡ spans → MatchPromise v p s before after yes
+        pub match-yes : {spans : List ℕ} → Walked p s spans true → after ≡ spans → Ensured yes
         match-yes {spans} walked t =
             promised yes (sym (ap (λ m. m .reply) judged-here ∙ reply (matcher (here .inputs .pattern) (here .inputs .situation)) (walked here .answer)))
             (t ∙ walked here .table refl ∙ sym (ap (λ m. m .table) judged-here ∙ table (matcher (here .inputs .pattern) (here .inputs .situation)) (walked here .answer)))
@@ -113,7 +115,7 @@ module _ {v p s : List ℕ} (lent : Lent v p s) where
             table (some f) e = refl
             table none e = absurd (true≢false e)
 
-        pub match-no : {spans : List ℕ} → Walked p s spans false → after ≡ before → MatchPromise v p s before after no
+        pub match-no : {spans : List ℕ} → Walked p s spans false → after ≡ before → Ensured no
         match-no walked t =
             promised no (sym (ap (λ m. m .reply) judged-here ∙ reply (matcher (here .inputs .pattern) (here .inputs .situation)) (walked here .answer)))
             (t ∙ sym (ap (λ m. m .table) judged-here ∙ table (matcher (here .inputs .pattern) (here .inputs .situation)) (walked here .answer)))
@@ -131,11 +133,11 @@ module _ {v p s : List ℕ} (lent : Lent v p s) where
   module _ (n : ℕ) where
     -- The part has these bytes, and stands at this offset of the situation.
     abbrev Stands : ℕ → List ℕ → Type 0
-    Stands from r = PartPromise v p s n r × (from ≡ partSpan v p s n .offset)
+    Stands from r = PartPromise v p s n (partSpan v p s n) r × (from ≡ partSpan v p s n .offset)
 
     stands : (y : Span) → partSpan v p s n ≡ y → Stands (y .offset) (cutOut s y)
     stands y e = (
-      subst (PartPromise v p s n) (ap (cutOut s) e) (part-keeps v p s n (lent .vocabulary) (lent .pattern) (lent .situation)),
+      subst (PartPromise v p s n (partSpan v p s n)) (ap (cutOut s) e) (part-keeps v p s n (lent .vocabulary) (lent .pattern) (lent .situation)),
       ap (λ (z : Span). z .offset) (sym e),
     )
 
@@ -177,11 +179,11 @@ module _ {v p s : List ℕ} (lent : Lent v p s) where
         pub part-inside : getD spans (2 * n) 0 + getD spans (2 * n + 1) 0 ≤ length s
         part-inside =
             let x = inputs-read clears .inputs in
-            let reads = inputs-read clears .reads in
+            let held = inputs-read clears .held in
             subst (λ (y : Span). y .offset + y .bytes ≤ length s) (sym span-here)
             (go (spanFrom (x .vocabulary) (x .pattern) (x .situation) n 1) (coverFrom (x .pattern) (x .situation) n)
             (span-covers (x .vocabulary) (x .pattern) (x .situation) n 1 s []
-            (ap (drop 1) (reads .situationWritten) ∙ root-ground (x .vocabulary) (x .situation)
+            (ap (drop 1) (held .situation .written) ∙ root-ground (x .vocabulary) (x .situation)
             ∙ sym (append-nil (encodeAt (x .vocabulary) (asTerm (x .situation)))))))
           where
             go : (o : Option Span) (c : Option Ground) → SpanHolds (inputs-read clears .inputs .vocabulary) s o c → orNoSpan o .offset + orNoSpan o .bytes ≤ length s
@@ -196,7 +198,7 @@ module _ {v p s : List ℕ} (lent : Lent v p s) where
             Stands from (take (from + long - from) (drop from s))
         part-found from long e l =
             let h = stands (spanIn spans n) (found-here ∙ reply (matcher (inputs-read clears .inputs .pattern) (inputs-read clears .inputs .situation)) (walked (inputs-read clears) .answer) ∙ sym span-here) in
-            (subst (PartPromise v p s n) (sym (part-cut s spans n from long e l)) (h .0), e ∙ h .1)
+            (subst (PartPromise v p s n (partSpan v p s n)) (sym (part-cut s spans n from long e l)) (h .0), e ∙ h .1)
           where
             go : (b : Bool) → occurs n (names (inputs-read clears .inputs .pattern)) ≡ b →
                 cond b (span (inputs-read clears .inputs .vocabulary) (inputs-read clears .inputs .pattern) (inputs-read clears .inputs .situation) n) noSpan

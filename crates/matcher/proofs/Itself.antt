@@ -7,17 +7,17 @@ use Prim.Native.Nat.{ℕ, _+_}
 use lib.Dec.{eqb}
 use lib.ListN.{length, replicate}
 use borrow.Author.Tests.{eq-eqb}
-use Rattle.terms.specs.Lists.{range}
+use Rattle.terms.specs.Lists.{range, orElse}
 use Rattle.terms.specs.Term.{Term, any, Ground, gapp, Grounds, gnil, gcons}
 use Rattle.terms.specs.Filling.{Filling}
 use Rattle.terms.specs.Matcher.{matchFrom, matchAll, matcher, noFilling}
-use Rattle.wire.specs.Reply.{Reading, accept, refuse}
+use Rattle.wire.specs.Parser.{Reading, accept, refuse}
 use Rattle.wire.specs.Map.{mapBytes}
 use Rattle.wire.specs.Vocabulary.{Vocabulary}
-use Rattle.wire.specs.Written.{asTerm, asTerms}
-use Rattle.wire.specs.Reading.{Kinded}
-use Rattle.wire.specs.Matching.{Inputs, Reads, size, Span, spanElse, spanFrom, spanAll, orNoSpan, spansOf, spanTable}
-use Rattle.wire.proofs.Complete.{ground-good}
+use Rattle.wire.specs.TermBytes.{asTerm, asTerms}
+use Rattle.wire.specs.Reply.{Kinded}
+use Rattle.wire.specs.Matching.{Inputs, HoldsInputs, size, Span, spanFrom, spanAll, orNoSpan}
+use Rattle.wire.specs.MatchComputed.{spansOf, spanTable}
 use Rattle.wire.proofs.TermsInverse.{deepest-length}
 use Rattle.wire.proofs.WholeTerms.{writes-whole}
 use Rattle.matcher.specs.Walking.{found, Walked, WalkedOver}
@@ -28,18 +28,18 @@ termIn (accept k) = k .term
 termIn (refuse n q) = any
 
 -- The bytes are one term's only.
-same-term : (v p s : List ℕ) (x : Inputs) → Reads v p s x → p ≡ s → x .pattern ≡ asTerm (x .situation)
-same-term v p s x reads same =
+same-term : (v p s : List ℕ) (x : Inputs) → HoldsInputs v p s x → p ≡ s → x .pattern ≡ asTerm (x .situation)
+same-term v p s x held same =
     let W : Vocabulary = x .vocabulary in
-    let inOrder = reads .vocabulary .inOrder in
-    let written = sym same ∙ reads .patternWritten in
+    let inOrder = held .vocabulary .good .inOrder in
+    let written = sym same ∙ held .pattern .written in
     let one = writes-whole W (length s) s (record { kind = x .kind; term = x .pattern }) inOrder
-    (record { good = reads .pattern; bytes = written; fits = deepest-length W s (x .kind) (x .pattern) written }) in
+    (record { good = held .pattern .good; bytes = written; fits = deepest-length W s (x .kind) (x .pattern) written }) in
     let other = writes-whole W (length s) s (record { kind = x .kind; term = asTerm (x .situation) }) inOrder
     (record {
-      good = ground-good W (x .kind) (x .situation) (reads .pattern .kind) (reads .situation);
-      bytes = reads .situationWritten;
-      fits = deepest-length W s (x .kind) (asTerm (x .situation)) (reads .situationWritten);
+      good = held .situation .good;
+      bytes = held .situation .written;
+      fits = deepest-length W s (x .kind) (asTerm (x .situation)) (held .situation .written);
     }) in
     ap termIn (sym one ∙ other)
 
@@ -63,7 +63,7 @@ mutual
   no-spans : (W : Vocabulary) (gs : Grounds) (n at : ℕ) → spanAll W (asTerms gs) gs n at ≡ none
   no-spans W gnil n at = refl
   no-spans W (gcons g gs) n at =
-      ap (λ o. spanElse o (spanAll W (asTerms gs) gs n (at + size W g))) (no-span W g n at) ∙ no-spans W gs n (at + size W g)
+      ap (λ o. orElse o (spanAll W (asTerms gs) gs n (at + size W g))) (no-span W g n at) ∙ no-spans W gs n (at + size W g)
 
 -- The table is that of a pattern without names.
 blank-spans : (W : Vocabulary) (g : Ground) (ns : List ℕ) → spansOf W (asTerm g) g ns ≡ spansOf W any g ns
@@ -75,7 +75,7 @@ pub itself-walked : (p s spans : List ℕ) → spans ≡ replicate 128 0 → p �
 itself-walked p s spans blank same a =
     let x = a .inputs in
     let W = x .vocabulary in
-    let term = same-term (a .bytes) p s x (a .reads) same in
+    let term = same-term (a .bytes) p s x (a .held) same in
     record {
       answer = sym (ap (λ t. found (matcher t (x .situation))) term ∙ ap found (match-itself (x .situation) noFilling));
       table = λ q. blank ∙ sym (ap (λ t. spanTable W t (x .situation)) term ∙ blank-spans W (x .situation) (range 0 64));

@@ -10,8 +10,9 @@ use Rattle.terms.specs.Term.{Term, Terms, nil, cons, Ground, Grounds, gnil, gco
 use Rattle.terms.specs.Filling.{Filling}
 use Rattle.terms.specs.Matcher.{matchFrom, matchAll}
 use Rattle.wire.specs.Vocabulary.{Vocabulary}
-use Rattle.wire.specs.Written.{encodeAt, encodeAll, asTerm, asTerms}
-use Rattle.wire.specs.Matching.{size, Span, spanElse, spanFrom, spanAll}
+use Rattle.wire.specs.TermBytes.{encodeAt, encodeAll, asTerm, asTerms}
+use Rattle.wire.specs.Matching.{size, Span, spanFrom, spanAll}
+use Rattle.terms.specs.Lists.{orElse}
 use Rattle.wire.proofs.GroundBytes.{joined}
 use Rattle.matcher.proofs.Marks.{chained}
 
@@ -50,13 +51,13 @@ match-chained S (cons t us) ts (gcons g hs) gs (x ∷ ks) f h k =
     ∙ sym (onward-twice (matchFrom t g f) (matchAll us hs) (matchAll ts gs))
     ∙ ap (λ o. onward o (matchAll ts gs)) (sym (match-first t us g hs f))
 
-pub else-else : (a b c : Option Span) → spanElse (spanElse a b) c ≡ spanElse a (spanElse b c)
+pub else-else : (a b c : Option Span) → orElse (orElse a b) c ≡ orElse a (orElse b c)
 else-else none b c = refl
 else-else (some x) b c = refl
 
 pub span-chained : (W : Vocabulary) (S : Signature) (us ts : Terms) (hs gs : Grounds) (ks : List ℕ) (n at : ℕ) → SortedAll S us ks → SortedGs S hs ks →
     spanAll W (chained us ts) (joined hs gs) n at ≡
-    spanElse (spanAll W us hs n at) (spanAll W ts gs n (at + length (encodeAll W (asTerms hs))))
+    orElse (spanAll W us hs n at) (spanAll W ts gs n (at + length (encodeAll W (asTerms hs))))
 span-chained W S nil ts gnil gs ks n at h k = ap (spanAll W ts gs n) (let e : at ≡ at + 0 = omega arith in e)
 span-chained W S nil ts (gcons g hs) gs [] n at h k = absurd k
 span-chained W S nil ts (gcons g hs) gs (x ∷ ks) n at h k = absurd h
@@ -64,9 +65,9 @@ span-chained W S (cons t us) ts gnil gs [] n at h k = absurd h
 span-chained W S (cons t us) ts gnil gs (x ∷ ks) n at h k = absurd k
 span-chained W S (cons t us) ts (gcons g hs) gs [] n at h k = absurd h
 span-chained W S (cons t us) ts (gcons g hs) gs (x ∷ ks) n at h k =
-    ap (spanElse (spanFrom W t g n at))
+    ap (orElse (spanFrom W t g n at))
     (span-chained W S us ts hs gs ks n (at + size W g) (h .1) (k .1)
-    ∙ ap (λ c. spanElse (spanAll W us hs n (at + size W g)) (spanAll W ts gs n c))
+    ∙ ap (λ c. orElse (spanAll W us hs n (at + size W g)) (spanAll W ts gs n c))
     (let e : at + size W g + length (encodeAll W (asTerms hs)) ≡ at + length (encodeAll W (asTerms (gcons g hs))) =
     omega (arith, length-append (encodeAt W (asTerm g)) (encodeAll W (asTerms hs))) in e))
     ∙ sym (else-else (spanFrom W t g n at) (spanAll W us hs n (at + size W g)) _)

@@ -20,9 +20,8 @@ use borrow.Author.Tests.{eq-eqb, ne-eqb}
 use Rattle.terms.specs.Signature.{Signature}
 use Rattle.terms.specs.Term.{Term, any, var, app, Terms, nil, cons, SortedAll}
 use Rattle.wire.specs.Map.{flagsIn, flags, bit, number, ones, isOpen, writtenFlags}
-use Rattle.wire.specs.Written.{levels, levelsAll}
-use Rattle.reader.specs.Frames.{writtenIn, placesIn}
-use Rattle.matcher.specs.Walking.{Framed}
+use Rattle.wire.specs.TermBytes.{levels, levelsAll}
+use Rattle.reader.specs.Frames.{writtenIn, placesIn, Framed}
 
 pub record Mark : Type 0 where
   pub written : Bool
@@ -63,7 +62,7 @@ marks-none n x e = ap (λ p. marksIn 8 n p (writtenIn x)) e ∙ no-marks 8 n (wr
 
 -- y is the frame x without its lowest place.
 abbrev pub Shifted : ℕ → ℕ → Type 0
-Shifted x y = Framed y (writtenIn x / 2) (placesIn x / 2)
+Shifted x y = Framed y (writtenIn x / 2) (placesIn x / 2) 0
 
 marks-halves : (n x y : ℕ) → Shifted x y → marksIn 7 n (placesIn x / 2) (writtenIn x / 2) ≡ marks n y
 unfolding marks
@@ -85,7 +84,7 @@ marks-gap n x y h e =
     ∙ marks-halves n x y h
 
 -- A frame of one place.
-pub marks-one : (n x w : ℕ) → Framed x w 1 → marks n x ≡ record { written = eqb (w % 2) 1; level = n } ∷ []
+pub marks-one : (n x w : ℕ) → Framed x w 1 0 → marks n x ≡ record { written = eqb (w % 2) 1; level = n } ∷ []
 unfolding marks marksIn
 marks-one n x w h = ap₂ (λ p w. marksIn 8 n p w) (h .places) (h .written)
 
@@ -172,7 +171,7 @@ marked-places S zero n p (cons t ts) (k ∷ ks) h c l = absurd (omega arith)
 marked-places S (suc d) n p ts ks h c l = marked-more S d n (p / 2) (marked-places S d n (p / 2)) (eqb (p % 2) 1) ts ks h c l
 
 pub marked-word : (S : Signature) (n p x : ℕ) (ts : Terms) (ks : List ℕ) → SortedAll S ts ks → length ks ≡ ones (flags p) → levelsAll ts + n ≤ 32 →
-    Framed x (number (writtenFlags (flags p) ts)) p → Marked ts (marks n x)
+    Framed x (number (writtenFlags (flags p) ts)) p 0 → Marked ts (marks n x)
 unfolding marks
 marked-word S n p x ts ks h c l f =
     subst (λ q. Marked ts (marksIn 8 n q (writtenIn x))) (sym (f .places))

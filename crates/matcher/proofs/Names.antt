@@ -11,14 +11,15 @@ use lib.Dec.{eqb}
 use lib.ListN.{length, getD, take, drop, set, length-set, length-drop, length-append}
 use lib.Seq.{take-at, getD-set-same, getD-set-other}
 use borrow.Author.Tests.{eqb-true, eq-eqb, ne-eqb}
-use Rattle.terms.specs.Term.{Term, var, Terms, cons, Ground, Grounds, gcons, same as sameGround}
+use Rattle.terms.specs.Term.{Term, var, Terms, cons, Ground, Grounds, gcons}
+use Rattle.terms.specs.Matcher.{same as sameGround, withName, matchName, matchAll, matcher}
 use Rattle.terms.specs.Filling.{Filling}
-use Rattle.terms.specs.Matcher.{withName, matchName, matchAll, matcher}
 use Rattle.terms.proofs.Bools.{eqb-refl, false-of-not}
 use Rattle.terms.proofs.Term.{same-true, same-refl}
 use Rattle.wire.specs.Vocabulary.{Vocabulary, signature, InOrder}
-use Rattle.wire.specs.Written.{nameCount, nameByte, encodeAt, encodeAll, asTerm, asTerms}
-use Rattle.wire.specs.Matching.{size, Span, spanElse, spanAll, spanFrom, spanIn, cutOut}
+use Rattle.wire.specs.TermBytes.{nameCount, nameByte, encodeAt, encodeAll, asTerm, asTerms}
+use Rattle.wire.specs.Matching.{size, Span, spanAll, spanFrom, spanIn, cutOut}
+use Rattle.terms.specs.Lists.{orElse}
 use Rattle.wire.proofs.GroundBytes.{size-least, ground-same}
 use Rattle.wire.proofs.Spans.{coverElse, Covers, covers-cut}
 use Rattle.matcher.specs.Walking.{Covered}
@@ -122,7 +123,7 @@ module _ {W : Vocabulary} {P : Term} {G : Ground} {p s spans : List ℕ} {n : �
   -- What is due next, where the name is bound by f′ and noted in after.
   next : (f′ : Filling) (after : List ℕ) → matchName n g f ≡ some f′ →
       ((m : ℕ) → m < nameCount → Told W s (spanAt after m) (bound (f′ .named) m)) →
-      ((m : ℕ) → m < nameCount → spanElse (spanAt after m) (spanAll W ts gs m (j + size W g)) ≡ spanFrom W P G m 1) →
+      ((m : ℕ) → m < nameCount → orElse (spanAt after m) (spanAll W ts gs m (j + size W g)) ≡ spanFrom W P G m 1) →
       ((m : ℕ) → m < nameCount → getD after (2 * m + 1) 0 ≡ 0 → getD after (2 * m) 0 ≡ 0) → length after ≡ 128 →
       Side W P G p s after ts gs ms f′ (i + 1) (j + size W g)
   next f′ after e told reported blank long = record {
@@ -145,9 +146,9 @@ module _ {W : Vocabulary} {P : Term} {G : Ground} {p s spans : List ℕ} {n : �
   }
 
   -- What is reported of another name than n.
-  report-other : (k : ℕ) → k < nameCount → (k ≡ n → ⊥) → spanElse (spanAt spans k) (spanAll W ts gs k (j + size W g)) ≡ spanFrom W P G k 1
+  report-other : (k : ℕ) → k < nameCount → (k ≡ n → ⊥) → orElse (spanAt spans k) (spanAll W ts gs k (j + size W g)) ≡ spanFrom W P G k 1
   report-other k l d =
-      ap (λ b. spanElse (spanAt spans k) (spanElse (cond b (some (record { offset = j; bytes = size W g })) none) (spanAll W ts gs k (j + size W g)))) (sym (ne-eqb k n d))
+      ap (λ b. orElse (spanAt spans k) (orElse (cond b (some (record { offset = j; bytes = size W g })) none) (spanAll W ts gs k (j + size W g)))) (sym (ne-eqb k n d))
       ∙ c .reported k l
 
   turn-new : NotYet spans (bound (f .named) n) n →
@@ -179,15 +180,15 @@ module _ {W : Vocabulary} {P : Term} {G : Ground} {p s spans : List ℕ} {n : �
           (c .told k l)
 
       reported : (k : ℕ) → k < nameCount → Dec (k ≡ n) →
-          spanElse (spanAt (withSpan spans n j (size W g)) k) (spanAll W ts gs k (j + size W g)) ≡ spanFrom W P G k 1
+          orElse (spanAt (withSpan spans n j (size W g)) k) (spanAll W ts gs k (j + size W g)) ≡ spanFrom W P G k 1
       reported k l (yes e) =
-          subst (λ k. spanElse (spanAt (withSpan spans n j (size W g)) k) (spanAll W ts gs k (j + size W g)) ≡ spanFrom W P G k 1) (sym e)
-          (ap (λ x. spanElse x (spanAll W ts gs n (j + size W g))) here
-          ∙ ap₂ (λ x b. spanElse x (spanElse (cond b (some (record { offset = j; bytes = size W g })) none) (spanAll W ts gs n (j + size W g))))
+          subst (λ k. orElse (spanAt (withSpan spans n j (size W g)) k) (spanAll W ts gs k (j + size W g)) ≡ spanFrom W P G k 1) (sym e)
+          (ap (λ x. orElse x (spanAll W ts gs n (j + size W g))) here
+          ∙ ap₂ (λ x b. orElse x (orElse (cond b (some (record { offset = j; bytes = size W g })) none) (spanAll W ts gs n (j + size W g))))
           (sym (span-new spans n (h .zero))) (sym (eqb-refl n))
           ∙ c .reported n name-low)
       reported k l (no d) =
-          ap (λ x. spanElse x (spanAll W ts gs k (j + size W g))) (set-other spans n j (size W g) (c .spanEntries) name-low k d)
+          ap (λ x. orElse x (spanAll W ts gs k (j + size W g))) (set-other spans n j (size W g) (c .spanEntries) name-low k d)
           ∙ report-other k l d
 
       blank : (k : ℕ) → k < nameCount → Dec (k ≡ n) → getD (withSpan spans n j (size W g)) (2 * k + 1) 0 ≡ 0 → getD (withSpan spans n j (size W g)) (2 * k) 0 ≡ 0
@@ -211,11 +212,11 @@ module _ {W : Vocabulary} {P : Term} {G : Ground} {p s spans : List ℕ} {n : �
         next f spans (name-again f n g (h .ground) (h .bound) (subst (λ x. sameGround (h .ground) x ≡ true) e (same-refl (h .ground))))
         (c .told) (λ k l. reported k l (ℕ-discrete k n)) (c .blank) (c .spanEntries)
       where
-        reported : (k : ℕ) → k < nameCount → Dec (k ≡ n) → spanElse (spanAt spans k) (spanAll W ts gs k (j + size W g)) ≡ spanFrom W P G k 1
+        reported : (k : ℕ) → k < nameCount → Dec (k ≡ n) → orElse (spanAt spans k) (spanAll W ts gs k (j + size W g)) ≡ spanFrom W P G k 1
         reported k l (yes e) =
-            subst (λ k. spanElse (spanAt spans k) (spanAll W ts gs k (j + size W g)) ≡ spanFrom W P G k 1) (sym e)
-            (ap (λ x. spanElse x (spanAll W ts gs n (j + size W g))) (span-noted spans n (h .long))
-            ∙ ap (λ x. spanElse x (spanElse (cond (eqb n n) (some (record { offset = j; bytes = size W g })) none) (spanAll W ts gs n (j + size W g))))
+            subst (λ k. orElse (spanAt spans k) (spanAll W ts gs k (j + size W g)) ≡ spanFrom W P G k 1) (sym e)
+            (ap (λ x. orElse x (spanAll W ts gs n (j + size W g))) (span-noted spans n (h .long))
+            ∙ ap (λ x. orElse x (orElse (cond (eqb n n) (some (record { offset = j; bytes = size W g })) none) (spanAll W ts gs n (j + size W g))))
             (sym (span-noted spans n (h .long)))
             ∙ c .reported n name-low)
         reported k l (no d) = report-other k l d

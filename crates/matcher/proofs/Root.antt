@@ -21,10 +21,10 @@ use Rattle.matcher.proofs.Turns.{walking-begins, Turn, at-written, AtNa
 pub root-whole : (p s spans : List ℕ) → spans ≡ replicate 128 0 → getD p 1 0 ≡ 255 → Walked p s spans true
 root-whole p s spans blank e a =
     subst (λ l. WalkedOver (a .inputs) l true) (sym blank)
-    (side-ends (turn-open (subst (λ ms. Due ms) one (side-begins (a .bytes) p s (a .inputs) (a .reads) 256 frame)) refl))
+    (side-ends (turn-open (subst (λ ms. Due ms) one (side-begins (a .bytes) p s (a .inputs) (a .held) 256 frame)) refl))
   where
     frame : RootFrame (getD p 1 0) 256
-    frame = record { whole = λ q. record { written = refl; places = refl }; written = λ d. absurd (d e) }
+    frame = record { whole = λ q. record { written = refl; places = refl; kinds = refl }; written = λ d. absurd (d e) }
 
     Due : List Mark → Type 0
     Due ms =
@@ -32,7 +32,7 @@ root-whole p s spans blank e a =
         (gcons (a .inputs .situation) gnil) ms noFilling 1 1
 
     one : marks 0 256 ++ [] ≡ record { written = false; level = 0 } ∷ []
-    one = ap (λ l. l ++ []) (marks-one 0 256 0 (record { written = refl; places = refl }))
+    one = ap (λ l. l ++ []) (marks-one 0 256 0 (record { written = refl; places = refl; kinds = refl }))
 
 -- ---- a name
 
@@ -50,9 +50,9 @@ last-ends {W} {s = s} nil {g = g} gnil {j = j} c = omega (arith, situation-insid
 module _ (p s spans : List ℕ) (blank : spans ≡ replicate 128 0) (high : 127 < getD p 1 0) (named : getD p 1 0 ≡ 255 → ⊥) where
   turn : Turn p s (set (replicate 33 0) 0 257) spans 1 1 1 0
   turn = record {
-    inv = walking-begins p s spans 257 blank (record { whole = λ e. absurd (named e); written = λ d. record { written = refl; places = refl } });
+    inv = walking-begins p s spans 257 blank (record { whole = λ e. absurd (named e); written = λ d. record { written = refl; places = refl; kinds = refl } });
     some = omega arith;
-    shifted = record { written = refl; places = refl };
+    shifted = record { written = refl; places = refl; kinds = refl };
   }
 
   pub at-root : (a : InputsRead p s) → AtName (a .inputs) p s (set (set (replicate 33 0) 0 257) 0 0) spans 1 1 1
@@ -73,8 +73,8 @@ module _ (p s spans : List ℕ) (blank : spans ≡ replicate 128 0) (high : 127 
       ((b - 128 < 64) × (1 + (length s - 1) ≤ length s) × (length s ≤ 4096)) × (getD spans (2 * (b - 128)) 0 + getD spans (2 * (b - 128) + 1) 0 ≤ length s)
   root-covers a q =
       let low = name-known a (at-root a) in
-      let long = a .reads .situationLimits .least in
-      ((omega arith, omega arith, a .reads .situationLimits .most), rw q (name-spans a (at-root a)))
+      let long = a .held .situation .limits .least in
+      ((omega arith, omega arith, a .held .situation .limits .most), rw q (name-spans a (at-root a)))
 
   pub root-covered : {after : List ℕ} {r : Bool} {b : ℕ} → b ≡ getD p 1 0 → Covered s spans after (b - 128) 1 (length s - 1) r → Walked p s after r
   root-covered {after} {r} {b} q covered a =

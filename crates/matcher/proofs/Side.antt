@@ -13,15 +13,15 @@ use native.Mathlib.Omega.{arith}
 use lib.Dec.{eqb}
 use lib.ListN.{length, getD, take, drop, set, length-set, length-drop, length-append}
 use lib.Seq.{drop-drop, drop-at, take-at, getD-drop, getD-set-same, getD-set-other}
-use Rattle.terms.specs.Lists.{All}
+use Rattle.terms.specs.Lists.{All, orElse}
 use Rattle.terms.specs.Signature.{arguments}
-use Rattle.terms.specs.Term.{Term, any, var, app, Terms, nil, cons, Ground, gapp, Grounds, gnil, gcons, SortedAll, SortedG, SortedGs, namesAll, same}
+use Rattle.terms.specs.Term.{Term, any, var, app, Terms, nil, cons, Ground, gapp, Grounds, gnil, gcons, SortedAll, SortedG, SortedGs, namesAll}
+use Rattle.terms.specs.Matcher.{same, withOpen, withName, matchName, matchFrom, matchAll, matcher}
 use Rattle.terms.specs.Filling.{Filling}
-use Rattle.terms.specs.Matcher.{withOpen, withName, matchName, matchFrom, matchAll, matcher}
 use Rattle.wire.specs.Map.{isOpen}
 use Rattle.wire.specs.Vocabulary.{Vocabulary, signature, mapOf, InOrder}
-use Rattle.wire.specs.Written.{nameCount, encodeAt, encodeAll, asTerm, asTerms}
-use Rattle.wire.specs.Matching.{size, Span, spanElse, spanFrom, spanAll, spanIn}
+use Rattle.wire.specs.TermBytes.{nameCount, encodeAt, encodeAll, asTerm, asTerms}
+use Rattle.wire.specs.Matching.{size, Span, spanFrom, spanAll, spanIn}
 use Rattle.wire.proofs.GroundBytes.{size-least, node-bytes}
 use Rattle.wire.proofs.Spans.{Covers}
 use Rattle.matcher.specs.Walking.{Standing}
@@ -57,7 +57,7 @@ pub record Side (W : Vocabulary) (P : Term) (G : Ground) (p s spans : List ℕ) 
   pub situation : drop j s ≡ encodeAll W (asTerms gs)
   pub marked : Marked ts ms
   pub told : (n : ℕ) → n < nameCount → Told W s (spanAt spans n) (bound (f .named) n)
-  pub reported : (n : ℕ) → n < nameCount → spanElse (spanAt spans n) (spanAll W ts gs n j) ≡ spanFrom W P G n 1
+  pub reported : (n : ℕ) → n < nameCount → orElse (spanAt spans n) (spanAll W ts gs n j) ≡ spanFrom W P G n 1
   pub blank : (n : ℕ) → n < nameCount → getD spans (2 * n + 1) 0 ≡ 0 → getD spans (2 * n) 0 ≡ 0
   pub insidePattern : i ≤ length p
   pub insideSituation : j ≤ length s

@@ -16,12 +16,12 @@ use Rattle.terms.specs.Term.{Term, any, var, app, Terms, nil, cons, Ground, gap
 use Rattle.terms.specs.Filling.{Filling}
 use Rattle.terms.specs.Matcher.{withOpen, noFilling}
 use Rattle.wire.specs.Vocabulary.{Vocabulary, signature, mapOf}
-use Rattle.wire.specs.Written.{writtenMap}
+use Rattle.wire.specs.TermBytes.{writtenMap}
 use Rattle.wire.specs.Matching.{Inputs, size}
 use Rattle.wire.proofs.Words.{length-symbols}
 use Rattle.wire.proofs.GroundBytes.{joined}
-use Rattle.reader.specs.Frames.{writtenIn, placesIn}
-use Rattle.matcher.specs.Walking.{Framed, Standing, ends, Covered, InputsRead, Walked, WalkedOver}
+use Rattle.reader.specs.Frames.{writtenIn, placesIn, Framed}
+use Rattle.matcher.specs.Walking.{Standing, ends, Covered, InputsRead, Walked, WalkedOver}
 use Rattle.matcher.proofs.Marks.{Mark, marks, marksOf, marks-none, Shifted, marks-place, marks-gap, marks-last, turnsOf, turns-last, chained}
 use Rattle.matcher.proofs.Side.{Side, Facing, facing, due, stands, situation-inside, turn-open}
 use Rattle.matcher.proofs.Words.{pattern-word, situation-word, words-differ, turn-word}
@@ -54,7 +54,7 @@ walking-begins p s spans z e h = record {
     terms = cons (a .inputs .pattern) nil;
     grounds = gcons (a .inputs .situation) gnil;
     filling = noFilling;
-    side = rw e (side-begins (a .bytes) p s (a .inputs) (a .reads) z h);
+    side = rw e (side-begins (a .bytes) p s (a .inputs) (a .held) z h);
   };
   shallow = omega arith;
   frameEntries = refl;
@@ -154,7 +154,7 @@ module _ {p s frames spans : List ℕ} {depth i j y : ℕ} (c : Turn p s frames 
 
   -- The part that is due.
   abbrev pub standing : {w : Bool} → ((a : InputsRead p s) → AtPlace (a .inputs) p s (set frames (depth - 1) y) spans depth i j w) → InputsRead p s → Standing s j
-  standing at a = stands (at a .facing .side) (a .reads .vocabulary .inOrder)
+  standing at a = stands (at a .facing .side) (a .held .vocabulary .good .inOrder)
 
   pub turn-opened : ((a : InputsRead p s) → AtPlace (a .inputs) p s (set frames (depth - 1) y) spans depth i j false) →
       (end : ℕ) → ((b : Standing s j) → end ≡ ends b) → Walking p s (set frames (depth - 1) y) spans depth i end
@@ -229,7 +229,7 @@ module _ {p s frames spans : List ℕ} {depth i j : ℕ} (a : InputsRead p s) (a
       go (app k us) (gapp h hs) c = absurd (omega (arith, pattern-word c .first, few (due c .1 .1 .term .0 .0)))
         where
           few : k < length (signature (a .inputs .vocabulary) .symbols) → k < 96
-          few q = omega (arith, length-symbols (a .inputs .vocabulary), a .reads .vocabulary .inOrder .fewWords)
+          few q = omega (arith, length-symbols (a .inputs .vocabulary), a .held .vocabulary .good .inOrder .fewWords)
 
   -- A byte of the pattern is there to read.
   pub pattern-inside : i < length p
@@ -247,7 +247,7 @@ module _ {p s frames spans : List ℕ} {depth i j : ℕ} (a : InputsRead p s) (a
   word-pattern = pattern-word (at .side) .inside
 
   pub word-situation : j + 2 ≤ length s
-  word-situation = situation-word (at .side) (a .reads .vocabulary .inOrder) .inside
+  word-situation = situation-word (at .side) (a .held .vocabulary .good .inOrder) .inside
 
   pub pattern-second : i + 1 < length p
   pattern-second = omega (arith, word-pattern)
@@ -266,17 +266,17 @@ module _ {p s frames spans : List ℕ} {depth i j : ℕ} (a : InputsRead p s) (a
 
   pub word-differs : (getD p i 0 ≡ getD s j 0 → ⊥) → WalkedOver (a .inputs) spans false
   word-differs d =
-      walked-none (words-differ (at .side) (λ e. d (pattern-word (at .side) .first ∙ e ∙ sym (situation-word (at .side) (a .reads .vocabulary .inOrder) .first))))
+      walked-none (words-differ (at .side) (λ e. d (pattern-word (at .side) .first ∙ e ∙ sym (situation-word (at .side) (a .held .vocabulary .good .inOrder) .first))))
 
-  pub word-goes : 0 < depth → length frames ≡ 33 → getD p i 0 ≡ getD s j 0 → (z : ℕ) → Framed z (getD p (i + 1) 0) (getD s (j + 1) 0) →
+  pub word-goes : 0 < depth → length frames ≡ 33 → getD p i 0 ≡ getD s j 0 → (z : ℕ) → Framed z (getD p (i + 1) 0) (getD s (j + 1) 0) 0 →
       WalkingOver (a .inputs) p s (set frames depth z) spans (depth + 1) (i + 2) (j + 2)
   word-goes some long e z framed =
       let W = a .inputs .vocabulary in
-      let inOrder = a .reads .vocabulary .inOrder in
+      let inOrder = a .held .vocabulary .good .inOrder in
       let same : at .head ≡ at .symbol =
       sym (situation-word (at .side) inOrder .first) ∙ sym e ∙ pattern-word (at .side) .first in
-      let here : Framed z (writtenMap W (at .symbol) (at .arguments)) (mapOf W (at .symbol)) =
-      subst₂ (λ w m. Framed z w m) (pattern-word (at .side) .second)
+      let here : Framed z (writtenMap W (at .symbol) (at .arguments)) (mapOf W (at .symbol)) 0 =
+      subst₂ (λ w m. Framed z w m 0) (pattern-word (at .side) .second)
       (situation-word (at .side) inOrder .second ∙ ap (mapOf W) same) framed in
       let level : suc (depth - 1) ≡ depth = omega arith in
       let room = word-room some in
@@ -316,18 +316,18 @@ module _ {p s frames spans : List ℕ} {depth i j : ℕ} (a : InputsRead p s) (a
         subst₂ (λ n l. Covered s spans after n j l r) name-here long covered
 
     pub name-differs : r ≡ false → WalkedOver (a .inputs) after false
-    name-differs q = walked-none (turn-name-none (at .side) (a .reads .vocabulary .inOrder) covered-here q)
+    name-differs q = walked-none (turn-name-none (at .side) (a .held .vocabulary .good .inOrder) covered-here q)
 
     pub name-goes : r ≡ true → WalkingOver (a .inputs) p s frames after depth (i + 1) end
     name-goes q =
-        let next = turn-name (at .side) (a .reads .vocabulary .inOrder) covered-here q in
+        let next = turn-name (at .side) (a .held .vocabulary .good .inOrder) covered-here q in
         record { terms = at .terms; grounds = at .grounds; filling = next .0; side = moved (sym e) (next .1) }
 
 -- ---- the turn at a written place
 
 module _ {p s frames spans : List ℕ} {depth i j y : ℕ} (c : Turn p s frames spans depth i j y) where
   pub turn-worded : InputsRead p s → ((a : InputsRead p s) → AtWord (a .inputs) p s (set frames (depth - 1) y) spans depth i j) → getD p i 0 ≡ getD s j 0 → (z : ℕ) →
-      Framed z (getD p (i + 1) 0) (getD s (j + 1) 0) → Walking p s (set (set frames (depth - 1) y) depth z) spans (depth + 1) (i + 2) (j + 2)
+      Framed z (getD p (i + 1) 0) (getD s (j + 1) 0) 0 → Walking p s (set (set frames (depth - 1) y) depth z) spans (depth + 1) (i + 2) (j + 2)
   turn-worded a at e z framed =
       let room = word-room a (at a) (c .some) in
       record {
@@ -339,7 +339,7 @@ module _ {p s frames spans : List ℕ} {depth i j y : ℕ} (c : Turn p s frames 
   module _ (at : (a : InputsRead p s) → AtName (a .inputs) p s (set frames (depth - 1) y) spans depth i j) {after : List ℕ} {r : Bool} {end b : ℕ}
       (e : (t : Standing s j) → end ≡ ends t) (q : b ≡ getD p i 0) (covered : Covered s spans after (b - 128) j (end - j) r) where
     ends-here : (a : InputsRead p s) → end ≡ j + size (a .inputs .vocabulary) (at a .ground)
-    ends-here a = e (stands (at a .side) (a .reads .vocabulary .inOrder))
+    ends-here a = e (stands (at a .side) (a .held .vocabulary .good .inOrder))
 
     covered-byte : Covered s spans after (getD p i 0 - 128) j (end - j) r
     covered-byte = subst (λ n. Covered s spans after (n - 128) j (end - j) r) q covered
@@ -360,7 +360,7 @@ end-later t e = omega arith
 pub end-inside : {p s frames spans : List ℕ} {depth i j end : ℕ} (a : InputsRead p s) (at : AtName (a .inputs) p s frames spans depth i j) →
     ((t : Standing s j) → end ≡ ends t) → (j ≤ end) × (end ≤ length s)
 end-inside a at e =
-    let h = e (stands (at .side) (a .reads .vocabulary .inOrder)) in
+    let h = e (stands (at .side) (a .held .vocabulary .good .inOrder)) in
     (omega arith, omega (arith, situation-inside (at .side)))
 
 pub name-covers : {p s frames spans : List ℕ} {depth i j end b : ℕ} (a : InputsRead p s) → AtName (a .inputs) p s frames spans depth i j →
@@ -369,7 +369,7 @@ pub name-covers : {p s frames spans : List ℕ} {depth i j end b : ℕ} (a : Inp
 name-covers a at e q =
     let inside = end-inside a at e in
     let low = name-known a at in
-    ((omega arith, omega arith, a .reads .situationLimits .most), rw q (name-spans a at))
+    ((omega arith, omega arith, a .held .situation .limits .most), rw q (name-spans a at))
 
 -- ---- the measure
 

@@ -9,7 +9,7 @@ use lib.Dec.{eqb}
 use lib.ListN.{length, getD, drop, length-drop}
 use lib.Seq.{drop-drop, getD-drop}
 use borrow.Author.Tests.{ne-eqb}
-use Rattle.terms.specs.Lists.{All}
+use Rattle.terms.specs.Lists.{All, orElse}
 use Rattle.terms.specs.Signature.{arguments}
 use Rattle.terms.specs.Term.{Term, any, var, app, Terms, nil, cons, Ground, gapp, Grounds, gnil, gcons, namesAll}
 use Rattle.terms.specs.Filling.{Filling}
@@ -18,11 +18,11 @@ use Rattle.terms.proofs.Bools.{eqb-refl}
 use Rattle.terms.proofs.Matcher.{match-app}
 use Rattle.wire.specs.Map.{flags}
 use Rattle.wire.specs.Vocabulary.{Vocabulary, signature, mapOf, InOrder}
-use Rattle.wire.specs.Written.{nameCount, writtenMap, encodeAt, encodeAll, asTerm, asTerms}
-use Rattle.wire.specs.Matching.{size, spanElse, spanAll}
+use Rattle.wire.specs.TermBytes.{nameCount, writtenMap, encodeAt, encodeAll, asTerm, asTerms}
+use Rattle.wire.specs.Matching.{size, spanAll}
 use Rattle.wire.proofs.Words.{length-symbols}
 use Rattle.wire.proofs.GroundBytes.{node-bytes, known-word, count-arguments, joined, joined-sorted, joined-bytes}
-use Rattle.matcher.specs.Walking.{Framed}
+use Rattle.reader.specs.Frames.{Framed}
 use Rattle.matcher.proofs.Marks.{Mark, marks, Marked, chained, marked-chained, marked-word}
 use Rattle.matcher.proofs.Joined.{onward, match-first, match-chained, span-chained, chained-bytes, chained-sorted, chained-names}
 use Rattle.matcher.proofs.Side.{spanAt, Side, due}
@@ -76,7 +76,7 @@ module _ {W : Vocabulary} {P : Term} {G : Ground} {p s spans : List ℕ} {k : �
 -- The same word in both: its places are due, and z is its frame.
 module _ {W : Vocabulary} {P : Term} {G : Ground} {p s spans : List ℕ} {k : ℕ} {us ts : Terms} {hs gs : Grounds} {m : Mark} {ms : List Mark} {f : Filling} {i j : ℕ}
     (c : Side W P G p s spans (cons (app k us) ts) (gcons (gapp k hs) gs) (m ∷ ms) f i j) (inOrder : InOrder W) where
-  pub turn-word : (z : ℕ) → Framed z (writtenMap W k us) (mapOf W k) →
+  pub turn-word : (z : ℕ) → Framed z (writtenMap W k us) (mapOf W k) 0 →
       Side W P G p s spans (chained us ts) (joined hs gs) (marks (suc (m .level)) z ++ ms) f (i + 2) (j + 2)
   turn-word z framed =
       let first = due c .1 .1 in
@@ -101,9 +101,9 @@ module _ {W : Vocabulary} {P : Term} {G : Ground} {p s spans : List ℕ} {k : �
             (c .marked .2);
         told = c .told;
         reported = λ n l.
-            ap (spanElse (spanAt spans n))
+            ap (orElse (spanAt spans n))
             (span-chained W (signature W) us ts hs gs args n (j + 2) (first .term .0 .2) (first .ground .0 .2)
-            ∙ ap₂ (λ a b. spanElse (spanAll W us hs n a) (spanAll W ts gs n b))
+            ∙ ap₂ (λ a b. orElse (spanAll W us hs n a) (spanAll W ts gs n b))
             (let e : j + 2 ≡ j + 1 + 1 = omega arith in e)
             (let e : j + 2 + length (encodeAll W (asTerms hs)) ≡ j + size W (gapp k hs) = omega arith in e))
             ∙ c .reported n l;

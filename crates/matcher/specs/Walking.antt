@@ -1,6 +1,5 @@
 -- Walking: what the functions that match promise each other; no public contract cites it.
 --
---   Framed x w p                x is the frame of a written map and a place map, past the places that are done
 --   Standing s at               a ground term stands in the bytes s at an offset
 --   ends a                      where it ends
 --   Covered                     what noting a name's part does to the spans, and its answer
@@ -15,17 +14,13 @@ use mathlib.Core.List.{List, _++_}
 use mathlib.Core.Option.{Option, some, none}
 use Prim.Native.Nat.{ℕ, _+_, _*_, _/_, _%_, _≤_}
 use lib.ListN.{length, getD, take, drop, set}
-use Rattle.reader.specs.Frames.{writtenIn, placesIn}
 use Rattle.terms.specs.Term.{Ground, SortedG}
 use Rattle.terms.specs.Filling.{Filling}
 use Rattle.terms.specs.Matcher.{matcher}
 use Rattle.wire.specs.Vocabulary.{Vocabulary, signature, InOrder}
-use Rattle.wire.specs.Written.{encodeAt, asTerm}
-use Rattle.wire.specs.Matching.{Inputs, Reads, size, spanTable}
-
-pub record Framed (x w p : ℕ) : Type 0 where
-  pub written : writtenIn x ≡ w
-  pub places : placesIn x ≡ p
+use Rattle.wire.specs.TermBytes.{encodeAt, asTerm}
+use Rattle.wire.specs.Matching.{Inputs, HoldsInputs, size}
+use Rattle.wire.specs.MatchComputed.{spanTable}
 
 pub record Standing (s : List ℕ) (at : ℕ) : Type 0 where
   pub vocabulary : Vocabulary
@@ -53,7 +48,7 @@ pub record Covered (s before after : List ℕ) (name at n : ℕ) (r : Bool) : Ty
 pub record InputsRead (p s : List ℕ) : Type 0 where
   pub bytes : List ℕ
   pub inputs : Inputs
-  pub reads : Reads bytes p s inputs
+  pub held : HoldsInputs bytes p s inputs
 
 abbrev pub found : Option Filling → Bool
 found (some f) = true

@@ -3,9 +3,10 @@ ghost use mathlib.Core.Path.{_≡_};
 ghost use Prim.Native.Nat.{_+_, _*_, _/_, _<_, _≤_};
 ghost use lib.Count.{ones};
 ghost use lib.ListN.{length, getD, replicate};
-ghost use Rattle.reader.specs.Frames.{placesIn, writtenIn};
-ghost use Rattle.matcher.specs.Walking.{Framed, Standing, ends, Covered, InputsRead, Walked};
-ghost use Rattle.wire.specs.Matching.{partSpan, MatchPromise, PartPromise};
+ghost use Rattle.reader.specs.Frames.{placesIn, writtenIn, Framed};
+ghost use Rattle.matcher.specs.Walking.{Standing, ends, Covered, InputsRead, Walked};
+ghost use Rattle.wire.specs.Matching.{MatchPromise, PartPromise};
+ghost use Rattle.wire.specs.MatchComputed.{matched, MatchShown, partSpan};
 ghost use Rattle.matcher.specs.Answers.{matchNumbers};
 use reader::InputsAnswer;
 use reader::InputsRefusal;
@@ -73,17 +74,17 @@ fn cover(s: &[u8], spans: &mut [u16; 128], name: usize, at: usize, n: usize) -> 
 }
 
 // The places of a word that are due: its written map, and behind it its place map, both shifted past
-// the places that are done.
+// the places that are done. No kinds are asked for, so their offset is 0.
 fn frame(written: u8, places: u8) -> u16
-    ensures { λ r. ⌜ Framed r written places ⌝ }
+    ensures { λ r. ⌜ Framed r written places 0 ⌝ }
 {
     (written as u16) + 256 * (places as u16)
 }
 
 // The frame of the root: one place, which is written unless it is 255.
 fn root_frame(b: u8) -> u16
-    ensures { λ r. ⌜ (b ≡ 255 → Framed r 0 1) ⌝ }
-    ensures { λ r. ⌜ ((b ≡ 255 → ⊥) → Framed r 1 1) ⌝ }
+    ensures { λ r. ⌜ (b ≡ 255 → Framed r 0 1 0) ⌝ }
+    ensures { λ r. ⌜ ((b ≡ 255 → ⊥) → Framed r 1 1 0) ⌝ }
 {
     if b == 255 {
         return frame(0, 1);
@@ -99,7 +100,7 @@ fn places_due(frame: u16) -> u16
 
 // The frame without its lowest place.
 fn passed(frame: u16) -> u16
-    ensures { λ r. ⌜ Framed r (writtenIn frame / 2) (placesIn frame / 2) ⌝ }
+    ensures { λ r. ⌜ Framed r (writtenIn frame / 2) (placesIn frame / 2) 0 ⌝ }
 {
     let written = frame % 256;
     let places = frame / 256 % 256;
@@ -203,6 +204,7 @@ pub fn match_pattern(
     table: &mut [u16],
 ) -> MatchAnswer
     ensures { λ r. ⌜ MatchPromise (now (vocabulary .entry)) (now (pattern .entry)) (now (situation .entry)) (now (table .entry)) (now (table .exit)) (matchNumbers r) ⌝ }
+    ensures { λ r. ⌜ MatchShown (matched (now (vocabulary .entry)) (now (pattern .entry)) (now (situation .entry)) (now (table .entry))) (matchNumbers r) (now (table .exit)) ⌝ }
 {
     match reader::judge(vocabulary, pattern, situation) {
         InputsAnswer::Refused(why) => {
@@ -224,7 +226,7 @@ pub fn match_pattern(
 // The part of the situation that a name of the pattern covers, as a part of the lent situation. It is
 // empty where match would not say yes or the name does not stand in the pattern.
 pub fn part<'a>(vocabulary: &[u8], pattern: &[u8], situation: &'a [u8], name: usize) -> &'a [u8]
-    ensures { λ r. ⌜ PartPromise (now (vocabulary .entry)) (now (pattern .entry)) (now (situation .entry)) name (now r) ⌝ }
+    ensures { λ r. ⌜ PartPromise (now (vocabulary .entry)) (now (pattern .entry)) (now (situation .entry)) name (partSpan (now (vocabulary .entry)) (now (pattern .entry)) (now (situation .entry)) name) (now r) ⌝ }
     ensures { λ r. ⌜ r .ptr .0 ≡ situation .entry .ptr .0 ⌝ }
     ensures { λ r. ⌜ r .ptr .1 ≡ situation .entry .ptr .1 + partSpan (now (vocabulary .entry)) (now (pattern .entry)) (now (situation .entry)) name .offset ⌝ }
 {

@@ -5,10 +5,11 @@ use mathlib.Core.Logic.{_⊎_, inl, inr}
 use Prim.Native.Nat.{ℕ, _+_, _*_, _<_}
 use native.Mathlib.Omega.{arith}
 use lib.ListN.{getD, replicate, getD-replicate}
-use Rattle.wire.specs.Written.{nameCount}
-use Rattle.wire.specs.Matching.{tableLength, Span, noSpan, spanIn, yes, matched, cutOut, partSpan, partOf, PartPromise}
-use Rattle.wire.proofs.Matching.{part-keeps}
-use Rattle.wire.proofs.PartTable.{part-is-table, yes-or-kept}
+use Rattle.wire.specs.TermBytes.{nameCount}
+use Rattle.wire.specs.Matching.{tableLength, Span, noSpan, spanIn, yes, cutOut, PartPromise}
+use Rattle.wire.specs.MatchComputed.{matched, partSpan}
+use Rattle.wire.proofs.Matching.{yes-or-kept, part-keeps}
+use Rattle.wire.proofs.PartTable.{part-is-table}
 use Rattle.matcher.proofs.Calls.{Lent}
 use Rattle.pheasantry.specs.Replies.{PartReplied}
 
@@ -23,13 +24,13 @@ blank-span n low =
 
 module _ {v p s : List ℕ} (lent : Lent v p s) (n : ℕ) where
   replied : (x : Span) → x ≡ partSpan v p s n → PartReplied v p s n (0 ∷ x .offset ∷ x .bytes ∷ [])
-  replied x e =
-      let cut : cutOut s x ≡ partOf v p s n = ap (cutOut s) e in
-      record {
-        reply = ap {B = List ℕ} (λ (y : Span). 0 ∷ y .offset ∷ y .bytes ∷ []) e;
-        part = cut;
-        promise = subst (PartPromise v p s n) (sym cut) (part-keeps v p s n (lent .vocabulary) (lent .pattern) (lent .situation));
-      }
+  replied x e = record {
+    form = refl;
+    promise =
+        subst (λ y. PartPromise v p s n y (cutOut s y)) (sym e)
+        (part-keeps v p s n (lent .vocabulary) (lent .pattern) (lent .situation));
+    shown = e;
+  }
 
   pub part-above : 63 < n → PartReplied v p s n (0 ∷ 0 ∷ 0 ∷ [])
   part-above l = replied noSpan (sym (part-is-table v p s blank n refl .1 (inr (omega arith))))

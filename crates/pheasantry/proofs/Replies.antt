@@ -2,9 +2,13 @@
 use mathlib.Core.Path.{_≡_, refl, sym, ap, _∙_, subst}
 use mathlib.Core.List.{List}
 use Prim.Native.Nat.{ℕ}
-use Rattle.wire.specs.Checks.{vocabularyReply, termReply}
+use Rattle.wire.specs.Reply.{Reply}
+use Rattle.wire.specs.Checking.{VocabularyPromise, TermPromise}
 use Rattle.wire.specs.Matching.{MatchPromise}
-use Rattle.wire.specs.Listed.{ListPromise}
+use Rattle.wire.specs.Leftovers.{ListPromise}
+use Rattle.wire.specs.CheckComputed.{vocabularyReply, termReply}
+use Rattle.wire.specs.MatchComputed.{matched, MatchShown}
+use Rattle.wire.specs.ListComputed.{listed, ListShown}
 use Rattle.signature.specs.Answers.{vocabularyRefused, vocabularyNumbers}
 use Rattle.signature.specs.declared.VocabularyRefusal.{VocabularyRefusal}
 use Rattle.signature.specs.declared.VocabularyRefusal.the-variants as W
@@ -80,26 +84,41 @@ list-back (L.NoRoom m) = refl
 
 -- ---- promises
 
+-- The numbers of an answer that can be read back are those of the reply that they say.
+formed : (k : ℕ) {numbers : List ℕ} (r : Reply) → numbers ≡ replyNumbers r → replyIn k (replyNumbers r) ≡ r →
+    (numbers ≡ replyNumbers (replyIn k numbers)) × (replyIn k numbers ≡ r)
+formed k r e back = let said = ap (replyIn k) e ∙ back in (e ∙ ap replyNumbers (sym said), said)
+
 pub vocabulary-replied : {v numbers : List ℕ} (a : VocabularyAnswer) → numbers ≡ replyNumbers (vocabularyNumbers a) →
-    vocabularyNumbers a ≡ vocabularyReply v → VocabularyReplied v numbers
-vocabulary-replied a e h = record { reply = e ∙ ap replyNumbers h; says = ap (replyIn 0) e ∙ vocabulary-back a ∙ h }
+    VocabularyPromise v (vocabularyNumbers a) × (vocabularyNumbers a ≡ vocabularyReply v) → VocabularyReplied v numbers
+vocabulary-replied {v} a e (promise, shown) =
+    let f = formed 0 (vocabularyNumbers a) e (vocabulary-back a) in
+    record { form = f .0; promise = subst (VocabularyPromise v) (sym (f .1)) promise; shown = f .1 ∙ shown }
 
 pub term-replied : {v b numbers : List ℕ} (a : TermAnswer) → numbers ≡ replyNumbers (termNumbers a) →
-    termNumbers a ≡ termReply v b → TermReplied v b numbers
-term-replied a e h = record { reply = e ∙ ap replyNumbers h; says = ap (replyIn 2) e ∙ term-back a ∙ h }
+    TermPromise v b (termNumbers a) × (termNumbers a ≡ termReply v b) → TermReplied v b numbers
+term-replied {v} {b} a e (promise, shown) =
+    let f = formed 2 (termNumbers a) e (term-back a) in
+    record { form = f .0; promise = subst (TermPromise v b) (sym (f .1)) promise; shown = f .1 ∙ shown }
 
 pub match-replied : {v p s before after numbers : List ℕ} (a : MatchAnswer) → numbers ≡ replyNumbers (matchNumbers a) →
-    MatchPromise v p s before after (matchNumbers a) → MatchReplied v p s before after numbers
-match-replied {v} {p} {s} {before} {after} a e h = record {
-  reply = e ∙ ap replyNumbers (h .reply);
-  table = h .table;
-  promise = subst (MatchPromise v p s before after) (sym (ap (replyIn 1) e ∙ match-back a)) h;
-}
+    MatchPromise v p s before after (matchNumbers a) × MatchShown (matched v p s before) (matchNumbers a) after →
+    MatchReplied v p s before after numbers
+match-replied {v} {p} {s} {before} {after} a e (promise, shown) =
+    let f = formed 1 (matchNumbers a) e (match-back a) in
+    record {
+      form = f .0;
+      promise = subst (MatchPromise v p s before after) (sym (f .1)) promise;
+      shown = record { reply = f .1 ∙ shown .reply; table = shown .table };
+    }
 
 pub list-replied : {v p before after numbers : List ℕ} (a : ListAnswer) → numbers ≡ replyNumbers (listNumbers a) →
-    ListPromise v p before after (listNumbers a) → ListReplied v p before after numbers
-list-replied {v} {p} {before} {after} a e h = record {
-  reply = e ∙ ap replyNumbers (h .reply);
-  out = h .out;
-  promise = subst (ListPromise v p before after) (sym (ap (replyIn 2) e ∙ list-back a)) h;
-}
+    ListPromise v p before after (listNumbers a) × ListShown (listed v p before) (listNumbers a) after →
+    ListReplied v p before after numbers
+list-replied {v} {p} {before} {after} a e (promise, shown) =
+    let f = formed 2 (listNumbers a) e (list-back a) in
+    record {
+      form = f .0;
+      promise = subst (ListPromise v p before after) (sym (f .1)) promise;
+      shown = record { reply = f .1 ∙ shown .reply; out = shown .out };
+    }

@@ -1,13 +1,16 @@
 -- Replies: the three numbers in which other languages get a reply, and what each exported call promises of them.
 --
 --   replyNumbers r         the three numbers of a reply
---   replyIn k numbers      the reply that three numbers stand for, where an accepted one has k values
+--   replyIn k numbers      the reply that three numbers say, where an accepted one has k values
+--   spanSaid numbers       the span that three numbers say
 --   VocabularyReplied      what checking a vocabulary promises
 --   TermReplied            what checking a term promises
 --   MatchReplied           what match promises
---   partIn s numbers       the part of the situation that three numbers stand for
 --   PartReplied            what part promises
 --   ListReplied            what list promises
+--
+-- In each, `form` says that the numbers are three and are those of the reply that they say, `promise` is what the call
+-- promises of that reply, and `shown` says that it is the one that is computed.
 --
 use mathlib.Core.Path.{_≡_}
 use mathlib.Core.Bool.{cond}
@@ -16,9 +19,12 @@ use Prim.Native.Nat.{ℕ}
 use lib.Dec.{eqb}
 use lib.ListN.{getD, take, drop}
 use Rattle.wire.specs.Reply.{Reply, accepted, refused}
-use Rattle.wire.specs.Checks.{vocabularyReply, termReply}
-use Rattle.wire.specs.Matching.{matched, cutOut, partSpan, partOf, MatchPromise, PartPromise}
-use Rattle.wire.specs.Listed.{listed, ListPromise}
+use Rattle.wire.specs.Checking.{VocabularyPromise, TermPromise}
+use Rattle.wire.specs.Matching.{Span, cutOut, MatchPromise, PartPromise}
+use Rattle.wire.specs.Leftovers.{ListPromise}
+use Rattle.wire.specs.CheckComputed.{vocabularyReply, termReply}
+use Rattle.wire.specs.MatchComputed.{matched, MatchShown, partSpan}
+use Rattle.wire.specs.ListComputed.{listed, ListShown}
 
 -- Accepted: 0 and the values, 0 where there is none. Refused: number, input, place.
 abbrev pub replyNumbers : Reply → List ℕ
@@ -29,33 +35,31 @@ replyNumbers (refused n i q) = n ∷ i ∷ q ∷ []
 abbrev pub replyIn : ℕ → List ℕ → Reply
 replyIn k l = cond (eqb (getD l 0 0) 0) (accepted (take k (drop 1 l))) (refused (getD l 0 0) (getD l 1 0) (getD l 2 0))
 
+abbrev pub spanSaid : List ℕ → Span
+spanSaid numbers = record { offset = getD numbers 1 0; bytes = getD numbers 2 0 }
+
 pub record VocabularyReplied (v numbers : List ℕ) : Type 0 where
-  pub reply : numbers ≡ replyNumbers (vocabularyReply v)
-  -- The numbers say which reply it is.
-  pub says : replyIn 0 numbers ≡ vocabularyReply v
+  pub form : numbers ≡ replyNumbers (replyIn 0 numbers)
+  pub promise : VocabularyPromise v (replyIn 0 numbers)
+  pub shown : replyIn 0 numbers ≡ vocabularyReply v
 
 pub record TermReplied (v b numbers : List ℕ) : Type 0 where
-  pub reply : numbers ≡ replyNumbers (termReply v b)
-  pub says : replyIn 2 numbers ≡ termReply v b
+  pub form : numbers ≡ replyNumbers (replyIn 2 numbers)
+  pub promise : TermPromise v b (replyIn 2 numbers)
+  pub shown : replyIn 2 numbers ≡ termReply v b
 
 pub record MatchReplied (v p s before after numbers : List ℕ) : Type 0 where
-  pub reply : numbers ≡ replyNumbers (matched v p s before .reply)
-  pub table : after ≡ matched v p s before .table
-  -- Demands 1 and 2, of the numbers and the lent table.
+  pub form : numbers ≡ replyNumbers (replyIn 1 numbers)
   pub promise : MatchPromise v p s before after (replyIn 1 numbers)
+  pub shown : MatchShown (matched v p s before) (replyIn 1 numbers) after
 
-abbrev pub partIn : List ℕ → List ℕ → List ℕ
-partIn s numbers = cutOut s (record { offset = getD numbers 1 0; bytes = getD numbers 2 0 })
-
--- Part is never refused.
+-- Part is never refused. The numbers cut the very part out of the lent situation.
 pub record PartReplied (v p s : List ℕ) (n : ℕ) (numbers : List ℕ) : Type 0 where
-  pub reply : numbers ≡ replyNumbers (accepted (partSpan v p s n .offset ∷ partSpan v p s n .bytes ∷ []))
-  -- The numbers cut the very part out of the lent situation.
-  pub part : partIn s numbers ≡ partOf v p s n
-  pub promise : PartPromise v p s n (partIn s numbers)
+  pub form : numbers ≡ replyNumbers (accepted (spanSaid numbers .offset ∷ spanSaid numbers .bytes ∷ []))
+  pub promise : PartPromise v p s n (spanSaid numbers) (cutOut s (spanSaid numbers))
+  pub shown : spanSaid numbers ≡ partSpan v p s n
 
 pub record ListReplied (v p before after numbers : List ℕ) : Type 0 where
-  pub reply : numbers ≡ replyNumbers (listed v p before .reply)
-  pub out : after ≡ listed v p before .out
-  -- Demands 1 to 3, of the numbers and the lent slice.
+  pub form : numbers ≡ replyNumbers (replyIn 2 numbers)
   pub promise : ListPromise v p before after (replyIn 2 numbers)
+  pub shown : ListShown (listed v p before) (replyIn 2 numbers) after

@@ -3,10 +3,10 @@ use mathlib.Core.Path.{_≡_, sym, ap}
 use mathlib.Core.List.{List, []}
 use Prim.Native.Nat.{ℕ}
 use native.Mathlib.Omega.{arith}
-use Rattle.wire.specs.Reply.{accepted, refused, Reading, accept, refuse, replyOf}
+use Rattle.wire.specs.Reply.{accepted, refused}
+use Rattle.wire.specs.Parser.{Reading, accept, refuse, readVocabulary}
+use Rattle.wire.specs.CheckComputed.{replyOf, checkedTerm, vocabularyReply, termValues, termReplyUnder, termReply}
 use Rattle.wire.specs.Vocabulary.{Vocabulary}
-use Rattle.wire.specs.Reading.{readVocabulary}
-use Rattle.wire.specs.Checks.{checkedTerm, vocabularyReply, termValues, termReplyUnder, termReply}
 use Rattle.signature.specs.Answers.{vocabularyRefused}
 use Rattle.signature.specs.declared.VocabularyRefusal.{VocabularyRefusal}
 use Rattle.signature.specs.declared.VocabularyRefusal.the-variants.{Head, WordCount, Ends, NoSuchKind, Continues, EmptyKind}

@@ -21,7 +21,7 @@ use Rattle.wire.specs.Reply.{accepted}
 use Rattle.wire.specs.Map.{flags, within, Slot, slots}
 use Rattle.wire.specs.Vocabulary.{Vocabulary, word, mapOf, WordInOrder}
 use Rattle.wire.specs.TermLines.{Due, dueAt}
-use Rattle.wire.specs.Reading.{Got, got, stop, symbol, node}
+use Rattle.wire.specs.Parser.{Got, got, stop, wordHere, node}
 use Rattle.wire.proofs.Map.{ones-count}
 use Rattle.wire.proofs.Scan.{Tally, scanNode, run, run-node, rootDue, noTally}
 use Rattle.wire.proofs.Words.{word-in-order}
@@ -49,7 +49,7 @@ within-itself (true ∷ fs) = within-itself fs
 within-itself (false ∷ fs) = within-itself fs
 
 node-full : (W : Vocabulary) (k f : ℕ) (l : List ℕ) → 2 ≤ length l → getD l 0 0 ≡ f → getD l 1 0 ≡ mapOf W f →
-    f < length (W .words) → word W f .result ≡ k → node W false k [] l ≡ symbol f (fullSlots W f) (drop 2 l)
+    f < length (W .words) → word W f .result ≡ k → node W false k [] l ≡ wordHere f (fullSlots W f) (drop 2 l)
 node-full W k f [] h first second known result = absurd (omega arith)
 node-full W k f (b ∷ []) h first second known result = absurd (omega arith)
 node-full W k f (b ∷ m ∷ l) h first second known result =
@@ -57,7 +57,7 @@ node-full W k f (b ∷ m ∷ l) h first second known result =
 
 pub record Filling (v : List ℕ) (W : Vocabulary) (offsets maps s : List ℕ) (at kind : ℕ) : Type 0 where
   pub long : at + 2 ≤ length s
-  pub stands : node W false kind [] (drop at s) ≡ symbol (getD s at 0) (fullSlots W (getD s at 0)) (drop 2 (drop at s))
+  pub stands : node W false kind [] (drop at s) ≡ wordHere (getD s at 0) (fullSlots W (getD s at 0)) (drop 2 (drop at s))
   pub gap : gapIn maps (drop (at + 2) s) (at + 2) ≡ gapIn maps (drop at s) at
   pub dues : (level : ℕ) →
       dueAt level (fullSlots W (getD s at 0)) ≡ placesDue v level (Count.ones (getD maps (getD s at 0) 0)) (getD offsets (getD s at 0) 0 + 2)
@@ -89,7 +89,7 @@ module _ {v : List ℕ} {n : ℕ} {offsets results maps : List ℕ} (t : Tables 
 
   module _ {f : ℕ} (known : f < n) where
     among : f < length (W .words)
-    among = omega (arith, t .words)
+    among = omega (arith, t .tabled .words)
 
     ordered : WordInOrder (W .kinds) (word W f)
     ordered = word-in-order W f (in-order t bytes) among
@@ -115,7 +115,7 @@ module _ {v : List ℕ} {n : ℕ} {offsets results maps : List ℕ} (t : Tables 
         long = long;
         stands =
             node-full W kind f (drop at s) (omega (arith, length-drop at s)) (getD-drop at s 0 0 ∙ ap (λ n. getD s n 0) (add-zero at))
-            (getD-drop at s 1 0 ∙ x .full ∙ t .placeMap f known) (among known) (sym (t .result f known) ∙ x .kind);
+            (getD-drop at s 1 0 ∙ x .full ∙ t .placeMap f known) (among known) (sym (t .tabled .result f known) ∙ x .kind);
         gap = gap-full maps s at (omega arith) {b = f} refl (omega (arith, few-words t bytes)) (x .full);
         dues = all-due known;
         inside = all-inside known;
@@ -123,7 +123,7 @@ module _ {v : List ℕ} {n : ℕ} {offsets results maps : List ℕ} (t : Tables 
 
   -- Its kind is one of the vocabulary's.
   kind-known : {s : List ℕ} {at kind : ℕ} → FullAt s at kind n results maps → kind < W .kinds
-  kind-known {s} {at} x = subst (λ k. k < W .kinds) (sym (t .result (getD s at 0) (x .known)) ∙ x .kind) (ordered (x .known) .result)
+  kind-known {s} {at} x = subst (λ k. k < W .kinds) (sym (t .tabled .result (getD s at 0) (x .known)) ∙ x .kind) (ordered (x .known) .result)
 
 -- The row z of that word.
 module _ {v : List ℕ} {W : Vocabulary} {offsets maps s : List ℕ} {at kind z : ℕ} (x : Filling v W offsets maps s at kind) (w : RecordRow z (getD maps (getD s at 0) 0) (getD offsets (getD s at 0) 0)) where

@@ -14,7 +14,7 @@ use borrow.Author.Count.{below-more}
 use Rattle.wire.specs.Map.{flags, ones, slots}
 use Rattle.wire.specs.Vocabulary.{Vocabulary, word, mapOf}
 use Rattle.wire.specs.TermLines.{dueAt}
-use Rattle.wire.specs.Reading.{got}
+use Rattle.wire.specs.Parser.{got}
 use Rattle.wire.proofs.Map.{ones-count}
 use Rattle.wire.proofs.Scan.{run}
 use Rattle.signature.specs.Tables.{Tables, vocabularyIn}

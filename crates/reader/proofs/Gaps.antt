@@ -18,7 +18,9 @@ use Rattle.terms.specs.Signature.{arguments}
 use Rattle.terms.specs.Term.{Term, any, var, app, Terms, nil, cons, Sorted, SortedAll}
 use Rattle.wire.specs.Map.{mapBytes}
 use Rattle.wire.specs.Vocabulary.{Vocabulary, signature, word, mapOf, InOrder}
-use Rattle.wire.specs.Written.{nameByte, writtenMap, encodeAt, encodeAll, encodeRoot, someOpen, orElse, gapFrom, gapAll, firstGap}
+use Rattle.wire.specs.TermBytes.{nameByte, writtenMap, encodeAt, encodeAll, encodeRoot}
+use Rattle.wire.specs.SituationComputed.{someOpen, gapFrom, gapAll, firstGap}
+use Rattle.terms.specs.Lists.{orElse}
 use Rattle.wire.proofs.Cond.{cond-true, cond-false}
 use Rattle.wire.proofs.Theorems.{full-map-means-no-open-place}
 use Rattle.wire.proofs.Words.{length-symbols, arguments-word}

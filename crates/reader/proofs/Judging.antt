@@ -9,14 +9,13 @@ use lib.Dec.{eqb}
 use lib.ListN.{length, getD, drop}
 use borrow.Author.Tests.{eq-eqb, ne-eqb, eqb-true}
 use Rattle.terms.specs.Term.{Ground}
-use Rattle.terms.proofs.All.{at-all}
-use Rattle.wire.specs.Reply.{accepted, refused, Reading, accept, refuse, replyOf}
+use Rattle.wire.proofs.Bytes.{bytes-of}
+use Rattle.wire.specs.Reply.{accepted, refused, Kinded}
+use Rattle.wire.specs.Parser.{Reading, accept, refuse, readVocabulary}
+use Rattle.wire.specs.CheckComputed.{replyOf, checkedTerm, termValues, vocabularyReply}
 use Rattle.wire.specs.Vocabulary.{Vocabulary}
-use Rattle.wire.specs.Written.{ground, firstGap}
-use Rattle.wire.specs.Reading.{Kinded, readVocabulary}
-use Rattle.wire.specs.Checks.{checkedTerm, termValues, vocabularyReply}
-use Rattle.wire.specs.Situation.{situationOf, situationIn, checkedSituation}
-use Rattle.wire.specs.Matching.{judgedSituation, judgedPattern, judgedVocabulary, judged, clearReply}
+use Rattle.wire.specs.SituationComputed.{ground, firstGap, situationOf, situationIn, checkedSituation}
+use Rattle.wire.specs.MatchComputed.{judgedSituation, judgedPattern, judgedVocabulary, judged, clearReply}
 use Rattle.wire.proofs.Cond.{cond-true, cond-false}
 use Rattle.wire.proofs.Inputs.{checked-in}
 use Rattle.wire.proofs.Matching.{not-accepted}
@@ -89,7 +88,7 @@ pub taken : {v : List ℕ} {n : ℕ} {offsets results maps : List ℕ} → Table
 taken {v} {maps = maps} t bytes b small {l} e =
     let W : Vocabulary = vocabularyIn v in
     let x = accepted-reading l (checkedTerm W b) e in
-    let held = checked-in W b (x .0) (in-order t bytes) (at-all (λ b. b < 256) 0 b (λ i h. small i)) (x .1) in
+    let held = checked-in W b (x .0) (in-order t bytes) (bytes-of b small) (x .1) in
     record {
       term = x .0;
       read = x .1;
@@ -97,7 +96,7 @@ taken {v} {maps = maps} t bytes b small {l} e =
       kind = ap (λ l. getD l 0 0) (held .written);
       gap =
           ap (λ l. gapIn maps (drop 1 l) 1) (held .written)
-          ∙ gap-reads W (in-order t bytes) maps (λ f h. t .placeMap f (omega (arith, t .words))) (x .0 .term) (x .0 .kind) (held .good .sorted .sorted);
+          ∙ gap-reads W (in-order t bytes) maps (λ f h. t .placeMap f (omega (arith, t .tabled .words))) (x .0 .term) (x .0 .kind) (held .good .sorted .sorted);
     }
 
 module _ {v maps b : List ℕ} (x : Taken v maps b) where

@@ -9,8 +9,8 @@ use lib.ListN.{getD}
 use Rattle.terms.specs.Term.{Occurrence}
 use Rattle.wire.specs.Vocabulary.{Vocabulary}
 use Rattle.wire.specs.TermLines.{Due, dueAt}
-use Rattle.wire.specs.Reading.{Node, symbol, variable, whole, fault, node}
-use Rattle.wire.specs.Checks.{mostLevels}
+use Rattle.wire.specs.Parser.{Node, wordHere, nameHere, wholeHere, fault, node}
+use Rattle.wire.specs.TermBytes.{mostLevels}
 use Rattle.wire.proofs.Scan.{scanNode, run, run-node, run-limit}
 use Rattle.reader.specs.Frames.{writtenIn, kindsIn, FrameIn, frameDue}
 use Rattle.reader.specs.Nodes.{tallyOf}
@@ -30,9 +30,9 @@ module _ (W : Vocabulary) where
       twice = omega arith
 
       behind : (x : Node) → scanNode (run W) d (due ++ ds) seen (tallyOf c (max e (d .level))) x ≡ scanNode (run W) d (due ++ ds) seen (tallyOf c e) x
-      behind (symbol f ks r) = ap (λ k. run W (dueAt (suc (d .level)) ks ++ (due ++ ds)) seen (tallyOf (c + 1) k) r) twice
-      behind (variable n r) = ap (λ k. run W (due ++ ds) (seen ++ (record { name = n; sort = d .sort } ∷ [])) (tallyOf c k) r) twice
-      behind (whole r) = ap (λ k. run W (due ++ ds) seen (tallyOf c k) r) twice
+      behind (wordHere f ks r) = ap (λ k. run W (dueAt (suc (d .level)) ks ++ (due ++ ds)) seen (tallyOf (c + 1) k) r) twice
+      behind (nameHere n r) = ap (λ k. run W (due ++ ds) (seen ++ (record { name = n; sort = d .sort } ∷ [])) (tallyOf c k) r) twice
+      behind (wholeHere r) = ap (λ k. run W (due ++ ds) seen (tallyOf c k) r) twice
       behind (fault n r) = refl
 
       go : Dec (d .level ≤ mostLevels) → run W (d ∷ (due ++ ds)) seen (tallyOf c (max e (d .level))) l ≡ run W (d ∷ (due ++ ds)) seen (tallyOf c e) l

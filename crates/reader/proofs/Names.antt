@@ -11,7 +11,7 @@ use lib.ListN.{length, getD, set, replicate, getD-replicate}
 use lib.Seq.{getD-set-same, getD-set-other}
 use borrow.Author.Tests.{eqb-true, eq-eqb, ne-eqb}
 use Rattle.terms.specs.Term.{Occurrence}
-use Rattle.wire.specs.Reading.{clash}
+use Rattle.wire.specs.Parser.{clash}
 use Rattle.reader.specs.Nodes.{clashing}
 
 pub clashing-new : (k s : ℕ) → k ≡ 256 → false ≡ clashing k s

@@ -11,11 +11,10 @@ use lib.ListN.{length, getD, drop}
 use borrow.Author.Tests.{lt-ltb, le-ltb, eq-eqb, ne-eqb, eqb-true, eqb-false}
 use Rattle.terms.specs.Term.{Occurrence}
 use Rattle.terms.proofs.Bools.{and-parts, and-both}
-use Rattle.wire.specs.Map.{MapRead, readMap, flagsIn, flags, within, slots}
-use Rattle.wire.specs.Map.MapRead.{got as mapGot, missing as mapMissing}
+use Rattle.wire.specs.Map.{MapRead, readMap, flagsIn, flags, within, slots, mapGot, mapMissing}
 use Rattle.wire.specs.Vocabulary.{Vocabulary, word, mapOf}
 use Rattle.wire.specs.Reply.{outside}
-use Rattle.wire.specs.Reading.{Node, symbol, variable, whole, fault, mapNode, wordNode, nameNode, node, clash, isWord, isName}
+use Rattle.wire.specs.Parser.{Node, wordHere, nameHere, wholeHere, fault, mapNode, wordNode, nameNode, node, clash, isWord, isName}
 use Rattle.wire.proofs.Outside.{inside-outside, outside-false}
 
 -- ---- a written map against a place map
@@ -86,13 +85,13 @@ module _ (W : Vocabulary) (s : ℕ) where
 
   pub node-word : (l : List ℕ) → 2 ≤ length l → getD l 0 0 < length (W .words) → word W (getD l 0 0) .result ≡ s →
       within (flags (getD l 1 0)) (flags (mapOf W (getD l 0 0))) ≡ true →
-      node W false s [] l ≡ symbol (getD l 0 0) (slots (flags (mapOf W (getD l 0 0))) (flags (getD l 1 0)) (word W (getD l 0 0) .kinds)) (drop 2 l)
+      node W false s [] l ≡ wordHere (getD l 0 0) (slots (flags (mapOf W (getD l 0 0))) (flags (getD l 1 0)) (word W (getD l 0 0) .kinds)) (drop 2 l)
   node-word [] h k e w = absurd (omega arith)
   node-word (b ∷ []) h k e w = absurd (omega arith)
   node-word (b ∷ m ∷ l) h k e w = rw (lt-ltb b (length (W .words)) k, eq-eqb (word W b .result) s e, w)
 
   pub node-name : (l : List ℕ) → 0 < length l → length (W .words) ≤ getD l 0 0 → 128 ≤ getD l 0 0 → getD l 0 0 < 192 →
-      node W false s [] l ≡ variable (getD l 0 0 - 128) (drop 1 l)
+      node W false s [] l ≡ nameHere (getD l 0 0 - 128) (drop 1 l)
   node-name [] h k p q = absurd (omega arith)
   node-name (b ∷ l) h k p q = rw (le-ltb b (length (W .words)) k, inside-outside 128 191 b p (omega arith))
 
@@ -101,7 +100,7 @@ module _ (W : Vocabulary) (s : ℕ) where
   node-unknown [] h k n = absurd (omega arith)
   node-unknown (b ∷ l) h k n = rw (le-ltb b (length (W .words)) k) (go (outside 128 191 b) refl)
     where
-      go : (t : Bool) → outside 128 191 b ≡ t → cond (not t) (cond (clash [] (b - 128) s) (fault 13 (b ∷ l)) (variable (b - 128) l)) (fault 11 (b ∷ l)) ≡ fault 11 (b ∷ l)
+      go : (t : Bool) → outside 128 191 b ≡ t → cond (not t) (cond (clash [] (b - 128) s) (fault 13 (b ∷ l)) (nameHere (b - 128) l)) (fault 11 (b ∷ l)) ≡ fault 11 (b ∷ l)
       go true e = refl
       go false e = absurd (n (outside-false 128 191 b e .0) (omega (arith, outside-false 128 191 b e .1)))
 
@@ -109,9 +108,9 @@ module _ (W : Vocabulary) (s : ℕ) where
 
 -- What stands there once names have been seen.
 abbrev pub seenNode : List Occurrence → ℕ → List ℕ → Node → Node
-seenNode seen s l (symbol f ks r) = symbol f ks r
-seenNode seen s l (variable k r) = cond (clash seen k s) (fault 13 l) (variable k r)
-seenNode seen s l (whole r) = whole r
+seenNode seen s l (wordHere f ks r) = wordHere f ks r
+seenNode seen s l (nameHere k r) = cond (clash seen k s) (fault 13 l) (nameHere k r)
+seenNode seen s l (wholeHere r) = wholeHere r
 seenNode seen s l (fault k r) = fault k r
 
 seen-cond : (seen : List Occurrence) (s : ℕ) (l : List ℕ) (b : Bool) (x y z : Node) → x ≡ seenNode seen s l x → y ≡ seenNode seen s l z →
@@ -145,11 +144,11 @@ node-seen W root s seen (b ∷ l) =
     seen-cond seen s (b ∷ l) (isWord W b) (wordNode W s b l) _ _ (nameless-word W s b l seen s (b ∷ l)) (go (isName b))
   where
     last : Node
-    last = cond (root && eqb b 255) (whole l) (fault 11 (b ∷ l))
+    last = cond (root && eqb b 255) (wholeHere l) (fault 11 (b ∷ l))
 
-    go : (t : Bool) → cond t (nameNode s seen b l) last ≡ seenNode seen s (b ∷ l) (cond t (variable (b - 128) l) last)
+    go : (t : Bool) → cond t (nameNode s seen b l) last ≡ seenNode seen s (b ∷ l) (cond t (nameHere (b - 128) l) last)
     go true = refl
-    go false = nameless-cond (root && eqb b 255) (whole l) (fault 11 (b ∷ l)) (λ seen s l. refl) (λ seen s l. refl) seen s (b ∷ l)
+    go false = nameless-cond (root && eqb b 255) (wholeHere l) (fault 11 (b ∷ l)) (λ seen s l. refl) (λ seen s l. refl) seen s (b ∷ l)
 
 -- Only 255 is another thing at the root than below it.
 pub node-root : (W : Vocabulary) (s : ℕ) (seen : List Occurrence) (l : List ℕ) → (getD l 0 0 ≡ 255 → ⊥) → node W true s seen l ≡ node W false s seen l
@@ -157,6 +156,6 @@ node-root W s seen [] n = refl
 node-root W s seen (b ∷ l) n = rw (ne-eqb b 255 n)
 
 pub node-whole : (W : Vocabulary) (s : ℕ) (seen : List Occurrence) (l : List ℕ) → 0 < length l → getD l 0 0 ≡ 255 → length (W .words) ≤ 96 →
-    node W true s seen l ≡ whole (drop 1 l)
+    node W true s seen l ≡ wholeHere (drop 1 l)
 node-whole W s seen [] h e few = absurd (omega arith)
 node-whole W s seen (b ∷ l) h e few = rw (e, le-ltb 255 (length (W .words)) (omega arith))

@@ -5,9 +5,9 @@ use Prim.Native.Nat.{ℕ, suc, _+_, _-_, _<_, _≤_}
 use native.Mathlib.Omega.{arith}
 use lib.ListN.{length, getD, drop, length-drop, drop-of-length-le}
 use lib.Seq.{drop-cons, drop-drop}
-use Rattle.wire.specs.Reply.{accepted, refused, replyOf}
-use Rattle.wire.specs.Reading.{Got, got, stop, Read, offset, line15}
-use Rattle.wire.specs.Checks.{termValues}
+use Rattle.wire.specs.Reply.{accepted, refused}
+use Rattle.wire.specs.CheckComputed.{replyOf, termValues}
+use Rattle.wire.specs.Parser.{Got, got, stop, Read, offset, line15}
 use Rattle.wire.proofs.Bytes.{offset-drop}
 use Rattle.wire.proofs.Scan.{Tally, tallied}
 use Rattle.reader.specs.Answers.{termRefused, termNumbers}

@@ -9,12 +9,13 @@ use lib.ListN.{length, getD, drop, length-drop}
 use lib.Seq.{getD-drop, drop-drop}
 use borrow.Author.Tests.{lt-ltb, le-ltb}
 use Rattle.terms.proofs.Bools.{or-left, or-right}
-use Rattle.wire.specs.Reply.{refused, refuse, replyOf, outside}
+use Rattle.wire.specs.Reply.{refused, outside}
+use Rattle.wire.specs.Parser.{refuse, Got, got, Node, wholeHere, node, line15, readTerm, readWhole}
+use Rattle.wire.specs.CheckComputed.{replyOf, checkedTerm, termValues}
 use Rattle.wire.specs.Map.{flags, slots}
 use Rattle.wire.specs.Vocabulary.{Vocabulary, word, mapOf}
 use Rattle.wire.specs.TermLines.{Due, dueAt}
-use Rattle.wire.specs.Reading.{Got, got, Node, whole, node, line15, readTerm, readWhole}
-use Rattle.wire.specs.Checks.{mostBytes, mostLevels, checkedTerm, termValues}
+use Rattle.wire.specs.TermBytes.{mostBytes, mostLevels}
 use Rattle.wire.proofs.Cond.{cond-true, cond-false}
 use Rattle.wire.proofs.Outside.{inside-outside}
 use Rattle.wire.proofs.Scan.{Tally, scanNode, run, run-node, rootDue, noTally, scan-reads}
@@ -42,7 +43,7 @@ module _ (W : Vocabulary) (s : ℕ) (t : List ℕ) where
   pub root-whole : 2 ≤ length t → getD t 1 0 ≡ 255 → length (W .words) ≤ 96 → got (tallyOf 0 1) (drop 2 t) ≡ rootRun
   root-whole h e few =
       ap (got (tallyOf 0 1)) (sym (drop-drop 1 1 t))
-      ∙ root-step (whole (drop 1 (drop 1 t))) (node-whole W s [] (drop 1 t) (omega (arith, length-drop 1 t)) (getD-drop 1 t 0 0 ∙ e) few)
+      ∙ root-step (wholeHere (drop 1 (drop 1 t))) (node-whole W s [] (drop 1 t) (omega (arith, length-drop 1 t)) (getD-drop 1 t 0 0 ∙ e) few)
 
   -- A word stands behind the kind byte with its map.
   pub root-long : {f m n : ℕ} {maps : List ℕ} → Stood W 0 n maps s 1 (drop 1 t) (Word f m) → 3 ≤ length t

@@ -11,7 +11,7 @@ use Rattle.terms.specs.Term.{Occurrence}
 use Rattle.wire.specs.Map.{Slot}
 use Rattle.wire.specs.Vocabulary.{Vocabulary}
 use Rattle.wire.specs.TermLines.{Due, dueAt}
-use Rattle.wire.specs.Reading.{Got, got, stop, Node, symbol, variable, fault, node, atLimit}
+use Rattle.wire.specs.Parser.{Got, got, stop, Node, wordHere, nameHere, fault, node, atLimit}
 use Rattle.wire.proofs.Scan.{Tally, scanNode, run, run-node, run-limit}
 use Rattle.reader.specs.Frames.{writtenIn, kindsIn, FrameIn, FramesIn, frameDue, duesOf}
 use Rattle.reader.specs.Nodes.{clashing, tallyOf}
@@ -155,13 +155,13 @@ module _ (v t : List ℕ) (W : Vocabulary) (g : Got Tally) (names frames : List 
         pub refuse : suc n < 32 → (k : ℕ) (r : List ℕ) → node W false kind [] (drop at t) ≡ fault k r → stop k r ≡ g
         refuse h k r e = behind h (fault k r) e
 
-        pub disagree : suc n < 32 → (k : ℕ) → k < 64 → node W false kind [] (drop at t) ≡ variable k (drop 1 (drop at t)) →
+        pub disagree : suc n < 32 → (k : ℕ) → k < 64 → node W false kind [] (drop at t) ≡ nameHere k (drop 1 (drop at t)) →
             clashing (getD names k 0) kind ≡ true → stop 13 (drop at t) ≡ g
         disagree h k known e clashes =
             sym (ap (λ b. scanNode (run W) due (duesOf v (set frames n y) (suc n)) (c .seen) (tallyOf count deepest)
-            (cond b (fault 13 (drop at t)) (variable k (drop 1 (drop at t)))))
+            (cond b (fault 13 (drop at t)) (nameHere k (drop 1 (drop at t)))))
             (named-clash names (c .seen) k kind known (c .named) ∙ clashes))
-            ∙ behind h (variable k (drop 1 (drop at t))) e
+            ∙ behind h (nameHere k (drop 1 (drop at t))) e
 
         -- A node at this level changes nothing of the deepest level.
         same-level : deepest ≡ max deepest (suc (suc n))
@@ -174,7 +174,7 @@ module _ (v t : List ℕ) (W : Vocabulary) (g : Got Tally) (names frames : List 
         more-words = omega (arith, c .fewer)
 
         -- A name is read.
-        pub name : suc n < 32 → (k : ℕ) → k < 64 → kind < 256 → 1 ≤ length (drop at t) → node W false kind [] (drop at t) ≡ variable k (drop 1 (drop at t)) →
+        pub name : suc n < 32 → (k : ℕ) → k < 64 → kind < 256 → 1 ≤ length (drop at t) → node W false kind [] (drop at t) ≡ nameHere k (drop 1 (drop at t)) →
             clashing (getD names k 0) kind ≡ false →
             Scanning v t W g (set names k kind) (set frames n y) (suc n) (at + 1) (singles + 1) deepest
         name h k known small long e agrees = record {
@@ -186,9 +186,9 @@ module _ (v t : List ℕ) (W : Vocabulary) (g : Got Tally) (names frames : List 
               ∙ ap (run W (duesOf v (set frames n y) (suc n)) (c .seen ++ (record { name = k; sort = kind } ∷ [])) (tallyOf count (max deepest (suc (suc n)))))
               (sym (drop-drop 1 at t))
               ∙ sym (ap (λ b. scanNode (run W) due (duesOf v (set frames n y) (suc n)) (c .seen) (tallyOf count deepest)
-              (cond b (fault 13 (drop at t)) (variable k (drop 1 (drop at t)))))
+              (cond b (fault 13 (drop at t)) (nameHere k (drop 1 (drop at t)))))
               (named-clash names (c .seen) k kind known (c .named) ∙ agrees))
-              ∙ behind h (variable k (drop 1 (drop at t))) e;
+              ∙ behind h (nameHere k (drop 1 (drop at t))) e;
           sound = all-sound;
           shallow = c .shallow;
           reached = c .reached;
@@ -199,14 +199,14 @@ module _ (v t : List ℕ) (W : Vocabulary) (g : Got Tally) (names frames : List 
         }
 
         -- A word is read.
-        module _ (h : suc n < 32) (f : ℕ) (ks : List Slot) (long : 2 ≤ length (drop at t)) (e : node W false kind [] (drop at t) ≡ symbol f ks (drop 2 (drop at t))) where
+        module _ (h : suc n < 32) (f : ℕ) (ks : List Slot) (long : 2 ≤ length (drop at t)) (e : node W false kind [] (drop at t) ≡ wordHere f ks (drop 2 (drop at t))) where
           behind-word : run W (dueAt (suc (suc (suc n))) ks ++ duesOf v (set frames n y) (suc n)) (c .seen) (tallyOf (wordsBy (at + 2) singles) deepest) (drop (at + 2) t) ≡ g
           behind-word =
               ap₂ (λ w d. run W (dueAt (suc (suc (suc n))) ks ++ duesOf v (set frames n y) (suc n)) (c .seen) (tallyOf w d) (drop (at + 2) t))
               more-words same-level
               ∙ ap (run W (dueAt (suc (suc (suc n))) ks ++ duesOf v (set frames n y) (suc n)) (c .seen) (tallyOf (count + 1) (max deepest (suc (suc n)))))
               (sym (drop-drop 2 at t))
-              ∙ behind h (symbol f ks (drop 2 (drop at t))) e
+              ∙ behind h (wordHere f ks (drop 2 (drop at t))) e
 
           -- It has no written places.
           pub bare : dueAt (suc (suc (suc n))) ks ≡ [] → Scanning v t W g names (set frames n y) (suc n) (at + 2) singles deepest

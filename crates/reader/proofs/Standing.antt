@@ -9,9 +9,9 @@ use lib.ListN.{length, getD, take, drop, length-drop, drop-of-length-le}
 use lib.Seq.{take-all}
 use Rattle.wire.specs.Map.{flags, within}
 use Rattle.wire.specs.Vocabulary.{Vocabulary}
-use Rattle.wire.specs.Reading.{stop, variable, fault, node, atLimit}
+use Rattle.wire.specs.Parser.{stop, nameHere, fault, node, atLimit}
 use Rattle.wire.proofs.Scan.{Tally}
-use Rattle.reader.specs.Nodes.{Tabled, nodeOf, Inside, Limited, NodeAt, WordAt}
+use Rattle.reader.specs.Nodes.{TablesOf, nodeOf, Inside, Limited, NodeAt, WordAt}
 use Rattle.reader.specs.declared.TermRefusal.the-variants as T
 use Rattle.reader.specs.declared.term.Node.{Node as Answer}
 use Rattle.reader.specs.declared.term.Node.the-variants.{Word, Name, Fault}
@@ -80,7 +80,7 @@ module _ (depth n : ℕ) (results maps : List ℕ) (s at : ℕ) (rest : List ℕ
       at-word x k w = record {
         inside = w .inside n maps k refl;
         limit = λ deep. absurd (omega arith);
-        same = λ shallow W t. w .same W (let e = t .words in omega arith) (t .result b k) (t .placeMap b k);
+        same = λ shallow W t. w .same W (let e = t .tabled .words in omega arith) (t .tabled .result b k) (t .placeMap b k);
       }
 
       module _ (first : b ≡ getD rest 0 0) (k : n ≤ b) where
@@ -89,8 +89,8 @@ module _ (depth n : ℕ) (results maps : List ℕ) (s at : ℕ) (rest : List ℕ
           inside = record { known = omega arith; long = some };
           limit = λ deep. absurd (omega arith);
           same = λ shallow W t.
-              node-name W s rest some (let e = t .words in omega arith) (omega arith) (omega arith)
-              ∙ ap (λ b. variable (b - 128) (drop 1 rest)) (sym first);
+              node-name W s rest some (let e = t .tabled .words in omega arith) (omega arith) (omega arith)
+              ∙ ap (λ b. nameHere (b - 128) (drop 1 rest)) (sym first);
         }
 
         pub at-unknown : (b / 64 ≡ 2 → ⊥) → NodeAt depth n results maps s at rest (Fault (T.NoWordOrName at))
@@ -98,7 +98,7 @@ module _ (depth n : ℕ) (results maps : List ℕ) (s at : ℕ) (rest : List ℕ
           inside = record { from = omega arith; upTo = omega arith };
           limit = λ deep. absurd (omega arith);
           same = λ shallow W t.
-              node-unknown W s rest some (let e = t .words in omega arith) (λ p q. d (omega arith))
+              node-unknown W s rest some (let e = t .tabled .words in omega arith) (λ p q. d (omega arith))
               ∙ fault-at 11 at at 0 rest (omega arith);
         }
 
@@ -115,7 +115,7 @@ pub rest-whole : (t : List ℕ) (at : ℕ) → take (length t - at) (drop at t) 
 rest-whole t at = take-all (length t - at) (drop at t) (omega (arith, length-drop at t))
 
 pub stood : (t : List ℕ) {W : Vocabulary} {depth n : ℕ} {results maps : List ℕ} {s at : ℕ} {x y : Answer} →
-    NodeAt depth n results maps s at (take (length t - at) (drop at t)) x → Tabled W n results maps → x ≡ y → Stood W depth n maps s at (drop at t) y
+    NodeAt depth n results maps s at (take (length t - at) (drop at t)) x → TablesOf W n results maps → x ≡ y → Stood W depth n maps s at (drop at t) y
 stood t {W = W} {depth = depth} {n = n} {results = results} {maps = maps} {s = s} {at = at} a tables e =
     let whole = subst₂ (λ rest x. NodeAt depth n results maps s at rest x) (rest-whole t at) e a in
     record { inside = whole .inside; limit = whole .limit; same = λ shallow. whole .same shallow W tables }

@@ -6,16 +6,15 @@ use native.Mathlib.Omega.{arith}
 use lib.Bits.{bitAnd}
 use lib.Count
 use lib.ListN.{length, getD}
-use Rattle.terms.proofs.All.{at-all}
 use Rattle.wire.specs.Map.{flags, ones}
-use Rattle.wire.specs.Vocabulary.{word, mapOf, InOrder, encodeVocabulary}
-use Rattle.wire.specs.Checks.{GoodVocabulary}
+use Rattle.wire.specs.Vocabulary.{word, mapOf, InOrder, HoldsVocabulary}
+use Rattle.wire.proofs.Bytes.{bytes-of}
 use Rattle.wire.proofs.Map.{ones-count}
 use Rattle.wire.proofs.Words.{word-in-order}
 use Rattle.wire.proofs.Theorems.{vocabularies-inverse}
 use Rattle.signature.specs.Tables.{Tables, vocabularyIn}
 use Rattle.reader.specs.Frames.{Framed}
-use Rattle.reader.specs.Nodes.{Tabled, WordInside}
+use Rattle.reader.specs.Nodes.{TablesOf, WordInside}
 use Rattle.reader.proofs.Frames.{WordFramed, word-frame, word-due}
 
 -- The same number of words, named otherwise.
@@ -23,28 +22,28 @@ pub tables-as : {v : List ℕ} {n k : ℕ} {offsets results maps : List ℕ} →
 tables-as e t = rw e t
 
 module _ {v : List ℕ} {n : ℕ} {offsets results maps : List ℕ} (t : Tables v n offsets results maps) where
-  pub tabled : Tabled (vocabularyIn v) n results maps
-  tabled = record { words = t .words; result = t .result; placeMap = t .placeMap }
+  pub tables-of : TablesOf (vocabularyIn v) n results maps
+  tables-of = record { tabled = t .tabled; placeMap = t .placeMap }
 
   module _ (bytes : (i : ℕ) → getD v i 0 < 256) where
-    written : GoodVocabulary (vocabularyIn v) × (v ≡ encodeVocabulary (vocabularyIn v))
-    written = vocabularies-inverse v (vocabularyIn v) (at-all (λ b. b < 256) 0 v (λ i h. bytes i)) .0 (t .accepted)
+    held : HoldsVocabulary v (vocabularyIn v)
+    held = vocabularies-inverse v (vocabularyIn v) (bytes-of v bytes) .0 (t .accepted)
 
     pub in-order : InOrder (vocabularyIn v)
-    in-order = written .0 .inOrder
+    in-order = held .good .inOrder
 
     pub few-words : n ≤ 96
-    few-words = omega (arith, t .words, in-order .fewWords)
+    few-words = omega (arith, t .tabled .words, in-order .fewWords)
 
     pub kind-count : getD v 0 0 ≡ vocabularyIn v .kinds
-    kind-count = ap (λ l. getD l 0 0) (written .1)
+    kind-count = ap (λ l. getD l 0 0) (held .written)
 
     pub some-bytes : 2 ≤ length v
-    some-bytes = let e = ap length (written .1) in omega arith
+    some-bytes = let e = ap length (held .written) in omega arith
 
     -- A word has as many kinds as its map has places.
     kinds-counted : (f : ℕ) → f < n → length (word (vocabularyIn v) f .kinds) ≡ ones (flags (mapOf (vocabularyIn v) f))
-    kinds-counted f h = word-in-order (vocabularyIn v) f in-order (omega (arith, t .words)) .count
+    kinds-counted f h = word-in-order (vocabularyIn v) f in-order (omega (arith, t .tabled .words)) .count
 
     -- The frame z of the word f at the written map m.
     module _ {f m z : ℕ} {rest : List ℕ} (stands : WordInside n maps rest f m)

@@ -12,7 +12,7 @@ use lib.ListN.{length, getD, drop, set, length-set, length-drop}
 use Rattle.wire.specs.Reply.{refused}
 use Rattle.wire.specs.Map.{flags, slots}
 use Rattle.wire.specs.Vocabulary.{Vocabulary, word, mapOf}
-use Rattle.wire.specs.Reading.{Got, stop, atLimit}
+use Rattle.wire.specs.Parser.{Got, stop, atLimit}
 use Rattle.wire.proofs.Scan.{Tally}
 use Rattle.reader.specs.Answers.{termNumbers}
 use Rattle.reader.specs.Frames.{writtenIn, kindsIn}

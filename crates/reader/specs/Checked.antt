@@ -6,7 +6,7 @@
 use mathlib.Core.Path.{_≡_}
 use mathlib.Core.List.{List}
 use Prim.Native.Nat.{ℕ}
-use Rattle.wire.specs.Checks.{termReply}
+use Rattle.wire.specs.CheckComputed.{termReply}
 use Rattle.signature.specs.Tables.{wordsBefore, resultsOf, laid}
 use Rattle.reader.specs.Answers.{termNumbers}
 use Rattle.reader.specs.declared.TermAnswer.{TermAnswer}

@@ -25,7 +25,7 @@ use lib.Count
 use lib.ListN.{length, getD, drop}
 use Rattle.wire.specs.Vocabulary.{Vocabulary}
 use Rattle.wire.specs.TermLines.{Due}
-use Rattle.wire.specs.Reading.{Got}
+use Rattle.wire.specs.Parser.{Got}
 use Rattle.wire.proofs.Scan.{Tally, run}
 use Rattle.signature.specs.Tables.{vocabularyIn}
 use Rattle.reader.specs.Frames.{Framed}

@@ -12,11 +12,11 @@ use mathlib.Core.Option.{Option, some, none}
 use Prim.Native.Nat.{ℕ, _+_}
 use lib.Dec.{eqb, ltb}
 use lib.ListN.{getD}
-use Rattle.wire.specs.Reply.{Reply, replyOf}
+use Rattle.wire.specs.Reply.{Reply}
+use Rattle.wire.specs.CheckComputed.{replyOf, checkedTerm}
 use Rattle.wire.specs.Vocabulary.{Vocabulary}
-use Rattle.wire.specs.Checks.{checkedTerm}
-use Rattle.wire.specs.Situation.{checkedSituation}
-use Rattle.wire.specs.Matching.{judgedPattern, clearReply}
+use Rattle.wire.specs.SituationComputed.{checkedSituation}
+use Rattle.wire.specs.MatchComputed.{judgedPattern, clearReply}
 
 abbrev pub gapIn : List ℕ → List ℕ → ℕ → Option ℕ
 gapIn maps [] at = none

@@ -1,7 +1,7 @@
 -- Nodes: what the functions that read a term promise each other; no public contract cites it.
 --
 --   numberOf why, placeOf why    a refusal's number and place
---   Tabled W n results maps      the first n entries of the tables are W's result kinds and place maps
+--   TablesOf W n results maps    the first n entries of the tables are W's result kinds and place maps
 --   nodeOf W at rest x           what x says that stands at the front of the bytes rest, which begin at an offset
 --   WordInside, NameInside, PlaceInside    a word, a name or a place that x names is there
 --   Inside n maps at rest x      what x names is there
@@ -22,8 +22,9 @@ use lib.ListN.{length, getD, drop}
 use Rattle.wire.specs.Reply.{Reply, accepted, refused}
 use Rattle.wire.specs.Map.{flags, slots}
 use Rattle.wire.specs.Vocabulary.{Vocabulary, word, mapOf}
-use Rattle.wire.specs.Reading.{Got, got, stop, Node, symbol, variable, fault, node, atLimit, offset}
+use Rattle.wire.specs.Parser.{Got, got, stop, Node, wordHere, nameHere, fault, node, atLimit, offset}
 use Rattle.wire.proofs.Scan.{Tally}
+use Rattle.signature.specs.Tables.{Tabled}
 use Rattle.reader.specs.Answers.{termRefused}
 use Rattle.reader.specs.declared.TermRefusal.{TermRefusal}
 use Rattle.reader.specs.declared.term.Node.{Node as Answer}
@@ -43,14 +44,13 @@ numberOf why = numberIn (termRefused 1 why)
 abbrev pub placeOf : TermRefusal → ℕ
 placeOf why = placeIn (termRefused 1 why)
 
-pub record Tabled (W : Vocabulary) (n : ℕ) (results maps : List ℕ) : Type 0 where
-  pub words : n ≡ length (W .words)
-  pub result : (f : ℕ) → f < n → getD results f 0 ≡ word W f .result
+pub record TablesOf (W : Vocabulary) (n : ℕ) (results maps : List ℕ) : Type 0 where
+  pub tabled : Tabled W n results
   pub placeMap : (f : ℕ) → f < n → getD maps f 0 ≡ mapOf W f
 
 abbrev pub nodeOf : Vocabulary → ℕ → List ℕ → Answer → Node
-nodeOf W at rest (Word f m) = symbol f (slots (flags (mapOf W f)) (flags m) (word W f .kinds)) (drop 2 rest)
-nodeOf W at rest (Name n) = variable n (drop 1 rest)
+nodeOf W at rest (Word f m) = wordHere f (slots (flags (mapOf W f)) (flags m) (word W f .kinds)) (drop 2 rest)
+nodeOf W at rest (Name n) = nameHere n (drop 1 rest)
 nodeOf W at rest (Fault why) = fault (numberOf why) (drop (placeOf why - at) rest)
 
 pub record WordInside (n : ℕ) (maps rest : List ℕ) (f m : ℕ) : Type 0 where
@@ -79,7 +79,7 @@ Limited at rest (Fault why) = atLimit {A = Tally} rest ≡ stop (numberOf why) (
 pub record NodeAt (depth n : ℕ) (results maps : List ℕ) (s at : ℕ) (rest : List ℕ) (x : Answer) : Type 0 where
   pub inside : Inside n maps at rest x
   pub limit : 31 < depth → Limited at rest x
-  pub same : depth ≤ 31 → (W : Vocabulary) → Tabled W n results maps → node W false s [] rest ≡ nodeOf W at rest x
+  pub same : depth ≤ 31 → (W : Vocabulary) → TablesOf W n results maps → node W false s [] rest ≡ nodeOf W at rest x
 
 -- The same of a word of number f, with its result kind and place map at hand.
 pub record WordAt (f result map s at : ℕ) (rest : List ℕ) (x : Answer) : Type 0 where

@@ -1,7 +1,8 @@
 // Document 01's check of a term, and its judging of the inputs of match.
 ghost use mathlib.Core.Path.{_≡_};
-ghost use Rattle.wire.specs.Checks.{termReply};
-ghost use Rattle.wire.specs.Matching.{judged, clearReply};
+ghost use Rattle.wire.specs.Checking.{TermPromise};
+ghost use Rattle.wire.specs.CheckComputed.{termReply};
+ghost use Rattle.wire.specs.MatchComputed.{judged, clearReply};
 ghost use Rattle.reader.specs.Answers.{termNumbers, inputsNumbers};
 ghost use Rattle.reader.specs.Checked.{CheckedFrom};
 use signature::VocabularyAnswer;
@@ -47,6 +48,7 @@ pub enum InputsAnswer {
 
 // Checks a term under a vocabulary.
 pub fn check_term(vocabulary: &[u8], term: &[u8]) -> TermAnswer
+    ensures { λ r. ⌜ TermPromise (now (vocabulary .entry)) (now (term .entry)) (termNumbers r) ⌝ }
     ensures { λ r. ⌜ termNumbers r ≡ termReply (now (vocabulary .entry)) (now (term .entry)) ⌝ }
 {
     let mut results = [0u8; 96];

@@ -11,18 +11,20 @@ use native.Mathlib.Omega.{arith}
 use lib.ListN.{length, take, drop, length-append, length-drop}
 use lib.Seq.{drop-drop}
 use Rattle.wire.specs.Text.{ascii, newline, decimal, hexadecimal}
-use Rattle.wire.specs.Printed.{entryLines, refusalLine}
+use Rattle.wire.specs.Printing.{entryLines, refusalText, entryLine}
 use Rattle.wire.proofs.Text.{decimal-short}
-use Rattle.wire.proofs.EntryCut.{entrySize, entry-within, cut}
-use Rattle.report.specs.Putting.{Put, entryLine, listingText}
+use Rattle.wire.proofs.EntryCut.{entrySize, entry-within, cut, length-cut}
+use Rattle.report.specs.Putting.{Put, cutText}
 use Rattle.report.proofs.Putting.{first-room, rest-room, put-both, second-of-three, third-of-three, put-three, Printing, printing-none, printing-length, printing-next, printing-turn, printing-all}
 use Rattle.report.proofs.Parts.{to-end}
 
 pub line-is : (i : ℕ) (e : List ℕ) → entryLine i e ≡ (decimal i ++ ascii " ") ++ (hexadecimal e ++ newline)
 line-is i e = sym (append-assoc (decimal i) (ascii " ") (hexadecimal e ++ newline))
 
-pub listing-is : (n : ℕ) (l : List ℕ) → listingText n l ≡ ascii "leftovers " ++ ((decimal n ++ newline) ++ entryLines 1 (cut n l))
-listing-is n l = ap (λ (t : List ℕ). ascii "leftovers " ++ t) (sym (append-assoc (decimal n) (newline) (entryLines 1 (cut n l))))
+pub listing-is : (n : ℕ) (l : List ℕ) → cutText n l ≡ ascii "leftovers " ++ ((decimal n ++ newline) ++ entryLines 1 (cut n l))
+listing-is n l =
+    ap (λ (k : ℕ). ascii "leftovers " ++ (decimal k ++ (newline ++ entryLines 1 (cut n l)))) (length-cut n l)
+    ∙ ap (λ (t : List ℕ). ascii "leftovers " ++ t) (sym (append-assoc (decimal n) (newline) (entryLines 1 (cut n l))))
 
 -- ---- the line of a refusal
 
@@ -33,14 +35,14 @@ module _ (n i q : ℕ) (before : List ℕ) (small : (n < 2 ^ 64) × (i < 2 ^ 64)
   abbrev numbers : List ℕ
   numbers = (decimal i ++ ascii " ") ++ place
 
-  is : refusalLine n i q ≡ ascii "refused " ++ ((decimal n ++ ascii " ") ++ numbers)
+  is : refusalText n i q ≡ ascii "refused " ++ ((decimal n ++ ascii " ") ++ numbers)
   is =
       ap (λ (t : List ℕ). ascii "refused " ++ t)
       (sym (append-assoc (decimal n) (ascii " ") numbers
       ∙ ap (λ (t : List ℕ). decimal n ++ (ascii " " ++ t)) (append-assoc (decimal i) (ascii " ") place)))
 
   -- A number of 64 bits has at most 20 digits.
-  fits : 0 + length (refusalLine n i q) ≤ length before
+  fits : 0 + length (refusalText n i q) ≤ length before
   fits =
       let r = room in
       omega (
@@ -68,7 +70,7 @@ module _ (n i q : ℕ) (before : List ℕ) (small : (n < 2 ^ 64) × (i < 2 ^ 64)
         pub refusal-place-room : c + length place ≤ length o
         refusal-place-room = rest-room place behind x
 
-        pub refusal-put : {d : ℕ} {last : List ℕ} → Put place o c d last → Put (refusalLine n i q) before 0 d last
+        pub refusal-put : {d : ℕ} {last : List ℕ} → Put place o c d last → Put (refusalText n i q) before 0 d last
         refusal-put y =
             put-three (ascii "refused ") (decimal n ++ ascii " ") numbers is before 0 fits h k (put-both place behind x y)
 

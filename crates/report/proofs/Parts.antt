@@ -5,7 +5,7 @@ use Prim.Native.Nat.{ℕ, zero, suc, _+_, _*_, _-_, _<_, _≤_, min}
 use native.Mathlib.Omega.{arith}
 use lib.ListN.{length, getD, take, drop, length-drop}
 use lib.Seq.{take-all, take-nil, drop-nil, drop-drop}
-use Rattle.wire.specs.Printed.{mostInput, vocabularyLength, vocabularyPart, patternPart}
+use Rattle.wire.specs.Printing.{mostInput, vocabularyLength, vocabularyPart, patternPart}
 
 pub length-none : (b : List ℕ) → length b < 2 → 0 ≡ vocabularyLength b
 length-none [] h = refl

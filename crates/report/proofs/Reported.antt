@@ -7,27 +7,32 @@ use Prim.Native.Nat.{ℕ, suc, _+_, _*_, _-_, _<_, _≤_, min}
 use native.Mathlib.Omega.{arith}
 use lib.Dec.{leb}
 use lib.ListN.{length, getD, take, drop, replicate, length-append, length-map, length-replicate}
+use lib.Seq.{take-at, drop-at}
 use borrow.Author.Tests.{leb-true}
 use Rattle.terms.specs.Lists.{All}
 use Rattle.terms.specs.Term.{Term}
 use Rattle.terms.specs.Listing.{listing}
-use Rattle.terms.proofs.All.{all-implies, all-map, at-all}
-use Rattle.wire.specs.Reply.{Reply, accepted, refused, Reading, accept, refuse, IsBytes}
+use Rattle.terms.proofs.All.{all-implies, all-map, all-take, all-drop}
+use Rattle.wire.specs.Reply.{Reply, accepted, refused, IsBytes, Kinded, kinded}
+use Rattle.wire.specs.Parser.{Reading, accept, refuse, readVocabulary}
 use Rattle.wire.specs.Vocabulary.{Vocabulary, InOrder, signature}
-use Rattle.wire.specs.Written.{encodeTerm, GoodTerm}
-use Rattle.wire.specs.Reading.{readVocabulary, Kinded}
-use Rattle.wire.specs.Listed.{Listed, checkedLinear, kinded, entriesBytes, entriesOf, listedInto, listedPattern, listedVocabulary, listed, ListPromise}
+use Rattle.wire.specs.TermBytes.{encodeTerm, GoodTerm}
+use Rattle.wire.specs.ListComputed.{Listed, checkedLinear, listedInto, listedPattern, listedVocabulary, listed, ListShown}
+use Rattle.wire.specs.Leftovers.{entriesBytes, entriesOf}
 use Rattle.wire.specs.Text.{ascii, newline, decimal, hexadecimal}
-use Rattle.wire.specs.Printed.{mostInput, listingSpace, vocabularyLength, vocabularyPart, patternPart, entriesUnder, entriesWith, entryLines, reported, printedFrom, printed}
+use Rattle.wire.specs.Printing.{mostInput, listingSpace, vocabularyLength, vocabularyPart, patternPart, entryLine, entryLines, listingText, PrintPromise}
+use Rattle.wire.specs.PrintComputed.{entriesUnder, entriesWith, reported, printedFrom, printed}
+use Rattle.wire.proofs.Bytes.{bytes-of}
 use Rattle.wire.proofs.Text.{decimal-short, hexadecimal-length}
 use Rattle.wire.proofs.Levels.{deepest-bytes}
 use Rattle.wire.proofs.Entries.{entries-are-good}
 use Rattle.wire.proofs.EntriesRead.{GoodKinded}
 use Rattle.wire.proofs.EntryCut.{cut-entries}
 use Rattle.wire.proofs.Listed.{linear-in}
+use Rattle.wire.proofs.Printed.{print-keeps}
 use Rattle.wire.proofs.VocabulariesInverse.{vocabularies-inverse}
 use Rattle.report.specs.Prints.{Prints}
-use Rattle.report.specs.Putting.{Put, entryLine, listingText, answerText, HasRoom}
+use Rattle.report.specs.Putting.{Put, cutText, answerText, TextFits}
 use Rattle.report.proofs.Parts.{vocabulary-is, pattern-is, input-taken}
 
 -- ---- how long the lines are
@@ -70,7 +75,7 @@ entries-long W (e ∷ l) =
 
 record Shown (r : Reply) (out text : List ℕ) : Type 0 where
   same : answerText r out ≡ text
-  room : HasRoom r out 524288
+  room : TextFits r out 524288
 
 module _ (before : List ℕ) (long : length before ≡ 65536) where
   listing-shown : (W : Vocabulary) → InOrder W → (l : List Kinded) → All (GoodKinded W) l →
@@ -94,12 +99,10 @@ module _ (before : List ℕ) (long : length before ≡ 65536) where
           es : List (List ℕ)
           es = map (written W) l
 
-          same : listingText (length l) (b ++ drop (length b) before) ≡ reported (accepted []) es
-          same =
-              ap₂ (λ (n : ℕ) (es : List (List ℕ)). ascii "leftovers " ++ (decimal n ++ (newline ++ entryLines 1 es)))
-              (sym (length-map l (written W))) (cut-entries W inOrder l (drop (length b) before) good)
+          same : cutText (length l) (b ++ drop (length b) before) ≡ listingText es
+          same = ap listingText (cut-entries W inOrder l (drop (length b) before) good)
 
-          fits : length (reported (accepted []) es) ≤ 524288
+          fits : length (listingText es) ≤ 524288
           fits =
               let count : length es ≡ length l = length-map l (written W) in
               let few = entries-long W l in
@@ -126,24 +129,24 @@ module _ (before : List ℕ) (long : length before ≡ 65536) where
         (reported (listedVocabulary p before r .reply) (entriesWith p r))
     vocabulary-shown v bv (refuse n q) e = record { same = refl; room = tt }
     vocabulary-shown v bv (accept W) e =
-        pattern-shown W (vocabularies-inverse v W bv .0 e .0 .inOrder) (checkedLinear W p) refl
+        pattern-shown W (vocabularies-inverse v W bv .0 e .good .inOrder) (checkedLinear W p) refl
 
 module _ (v p : List ℕ) (vocabularyBytes : (i : ℕ) → getD v i 0 < 256) (patternBytes : (i : ℕ) → getD p i 0 < 256)
-    {after : List ℕ} {r : Reply} (promise : ListPromise v p (replicate listingSpace 0) after r) where
+    {after : List ℕ} {r : Reply} (by : ListShown (listed v p (replicate listingSpace 0)) r after) where
   shown : Shown r after (printedFrom v p)
   shown =
-      subst (λ (r : Reply). Shown r after (printedFrom v p)) (sym (promise .reply))
-      (subst (λ (l : List ℕ). Shown (listed v p (replicate listingSpace 0) .reply) l (printedFrom v p)) (sym (promise .out))
-      (vocabulary-shown (replicate listingSpace 0) (length-replicate {A = ℕ} listingSpace 0) p (at-all (λ b. b < 256) 0 p (λ i h. patternBytes i)) v
-      (at-all (λ b. b < 256) 0 v (λ i h. vocabularyBytes i)) (readVocabulary v) refl))
+      subst (λ (r : Reply). Shown r after (printedFrom v p)) (sym (by .reply))
+      (subst (λ (l : List ℕ). Shown (listed v p (replicate listingSpace 0) .reply) l (printedFrom v p)) (sym (by .out))
+      (vocabulary-shown (replicate listingSpace 0) (length-replicate {A = ℕ} listingSpace 0) p (bytes-of p patternBytes) v
+      (bytes-of v vocabularyBytes) (readVocabulary v) refl))
 
   pub answer-put : {text last : List ℕ} {next : ℕ} → Put (answerText r after) text 0 next last → Put (printedFrom v p) text 0 next last
   answer-put {text} {last} {next} h = subst (λ (t : List ℕ). Put t text 0 next last) (shown .same) h
 
-  pub answer-room : (m : ℕ) → 524288 ≤ m → HasRoom r after m
+  pub answer-room : (m : ℕ) → 524288 ≤ m → TextFits r after m
   answer-room m h = go r (shown .room)
     where
-      go : (r : Reply) → HasRoom r after 524288 → HasRoom r after m
+      go : (r : Reply) → TextFits r after 524288 → TextFits r after m
       go (refused n i q) k = tt
       go (accepted []) k = tt
       go (accepted (n ∷ values)) k = omega arith
@@ -158,16 +161,29 @@ taken-put b from to n k begins ends given size {text} {last} {next} h =
     subst₂ (λ (v p : List ℕ). Put (printedFrom v p) text 0 next last)
     (vocabulary-is b from to n begins ends s) (pattern-is b from to n begins ends s) h
 
-pub prints : (b : List ℕ) (n : ℕ) → n ≡ min (length b) mostInput → {text last : List ℕ} {next : ℕ} →
+abbrev taken : List ℕ → List ℕ
+taken b = take mostInput b
+
+pub prints : (b : List ℕ) (n : ℕ) → ((i : ℕ) → getD b i 0 < 256) → n ≡ min (length b) mostInput → {text last : List ℕ} {next : ℕ} →
     Put (printedFrom (vocabularyPart (take (n - 0) b)) (patternPart (take (n - 0) b))) text 0 next last → Prints b text next last
-prints b n e {text} {last} {next} h = record {
-  count = count;
-  same = put .same ∙ ap (λ (k : ℕ). printed b ++ drop k text) count;
+prints b n small e {text} {last} {next} h = record {
+  promise = subst (PrintPromise (vocabularyPart (taken b)) (patternPart (taken b))) (sym shown) (print-keeps (vocabularyPart (taken b)) (patternPart (taken b)) part-bytes rest-bytes);
+  shown = shown;
+  behind = ap (drop next) (put .same) ∙ drop-at (printed b) (drop next text) next (sym count);
   within =
       let long : length last ≡ length (printed b ++ drop next text) = ap length (put .same) in
       omega (arith, count, length-append (printed b) (drop next text));
 }
   where
+    bytes : IsBytes (drop 2 (taken b))
+    bytes = all-drop (λ b. b < 256) 2 (take mostInput b) (all-take (λ b. b < 256) mostInput b (bytes-of b small))
+
+    part-bytes : IsBytes (vocabularyPart (taken b))
+    part-bytes = all-take (λ b. b < 256) (vocabularyLength (taken b)) (drop 2 (taken b)) bytes
+
+    rest-bytes : IsBytes (patternPart (taken b))
+    rest-bytes = all-drop (λ b. b < 256) (vocabularyLength (taken b)) (drop 2 (taken b)) bytes
+
     put : Put (printed b) text 0 next last
     put =
         subst (λ (t : List ℕ). Put (printedFrom (vocabularyPart t) (patternPart t)) text 0 next last)
@@ -175,3 +191,6 @@ prints b n e {text} {last} {next} h = record {
 
     count : next ≡ length (printed b)
     count = omega (arith, put .behind)
+
+    shown : take next last ≡ printed b
+    shown = ap (take next) (put .same) ∙ take-at (printed b) (drop next text) next (sym count)

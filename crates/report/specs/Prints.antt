@@ -1,15 +1,19 @@
 -- Prints: what print promises.
 --
---   Prints input before n after    the text for the standard input is put at the front of the lent bytes
+--   Prints input before n after    the n bytes of document 01's text for the standard input are put at the front of the
+--                                  lent bytes
 --
 use mathlib.Core.Path.{_≡_}
-use mathlib.Core.List.{List, _++_}
+use mathlib.Core.List.{List}
 use Prim.Native.Nat.{ℕ, _≤_}
-use lib.ListN.{length, drop}
-use Rattle.wire.specs.Printed.{printed}
+use lib.ListN.{length, take, drop}
+use Rattle.wire.specs.Printing.{mostInput, vocabularyPart, patternPart, PrintPromise}
+use Rattle.wire.specs.PrintComputed.{printed}
 
 pub record Prints (input before : List ℕ) (n : ℕ) (after : List ℕ) : Type 0 where
-  pub count : n ≡ length (printed input)
-  pub same : after ≡ printed input ++ drop (length (printed input)) before
-  -- What a caller needs in order to take the text as a part of the lent bytes.
+  pub promise : PrintPromise (vocabularyPart (take mostInput input)) (patternPart (take mostInput input)) (take n after)
+  -- It is the text that is computed.
+  pub shown : take n after ≡ printed input
+  -- Bytes behind the text stay as they were.
+  pub behind : drop n after ≡ drop n before
   pub within : n ≤ length after

@@ -3,13 +3,13 @@ ghost use mathlib.Core.Path.{_≡_};
 ghost use mathlib.Core.List.{_++_};
 ghost use Prim.Native.Nat.{_+_, _≤_, _<_, min};
 ghost use lib.ListN.{length};
-ghost use Rattle.wire.specs.Text.{decimal, hexadecimal};
-ghost use Rattle.wire.specs.Text.{digit as Text·digit};
-ghost use Rattle.wire.specs.Printed.{vocabularyLength, vocabularyPart, patternPart, entryLines, refusalLine, printedFrom};
+ghost use Rattle.wire.specs.Text.{decimal, hexadecimal, digit as Text·digit};
+ghost use Rattle.wire.specs.Printing.{vocabularyLength, vocabularyPart, patternPart, entryLines, refusalText, entryLine};
+ghost use Rattle.wire.specs.PrintComputed.{printedFrom};
 ghost use Rattle.wire.proofs.EntryCut.{cut, entrySize};
 ghost use Rattle.pheasantry.specs.Replies.{replyIn};
 ghost use Rattle.report.specs.Prints.{Prints};
-ghost use Rattle.report.specs.Putting.{Put, entryLine, listingText, answerText, HasRoom};
+ghost use Rattle.report.specs.Putting.{Put, cutText, answerText, TextFits};
 
 fn wide(b: u8) -> usize
     ensures { λ r. ⌜ r ≡ b ⌝ }
@@ -134,8 +134,8 @@ fn put_lines(listing: &[u8], n: u64, text: &mut [u8], at: usize) -> usize
 // Puts the text for n entries.
 fn put_listing(listing: &[u8], n: u64, text: &mut [u8]) -> usize
     requires { ⌜ length (now listing) ≤ 65536 ⌝ }
-    requires { ⌜ length (listingText n (now listing)) ≤ length (now text) ⌝ }
-    ensures { λ r. ⌜ Put (listingText n (now (listing .entry))) (now (text .entry)) 0 r (now (text .exit)) ⌝ }
+    requires { ⌜ length (cutText n (now listing)) ≤ length (now text) ⌝ }
+    ensures { λ r. ⌜ Put (cutText n (now (listing .entry))) (now (text .entry)) 0 r (now (text .exit)) ⌝ }
 {
     let named = put(b"leftovers ", text, 0);
     let counted = put_number(n, b"\n", text, named);
@@ -145,7 +145,7 @@ fn put_listing(listing: &[u8], n: u64, text: &mut [u8]) -> usize
 // Puts the line of a refusal: number, input and place.
 fn put_refusal(line: u64, input: u64, place: u64, text: &mut [u8]) -> usize
     requires { ⌜ 128 ≤ length (now text) ⌝ }
-    ensures { λ r. ⌜ Put (refusalLine line input place) (now (text .entry)) 0 r (now (text .exit)) ⌝ }
+    ensures { λ r. ⌜ Put (refusalText line input place) (now (text .entry)) 0 r (now (text .exit)) ⌝ }
 {
     let a = put(b"refused ", text, 0);
     let b = put_number(line, b" ", text, a);
@@ -158,7 +158,7 @@ fn put_reply(reply: &[u64; 3], listing: &[u8], text: &mut [u8]) -> usize
     requires { ⌜ length (now listing) ≤ 65536 ⌝ }
     requires { ⌜ 128 ≤ length (now text) ⌝ }
     requires { ⌜ length (now reply) ≡ 3 ⌝ }
-    requires { ⌜ HasRoom (replyIn 2 (now reply)) (now listing) (length (now text)) ⌝ }
+    requires { ⌜ TextFits (replyIn 2 (now reply)) (now listing) (length (now text)) ⌝ }
     ensures { λ r. ⌜ Put (answerText (replyIn 2 (now (reply .entry))) (now (listing .entry))) (now (text .entry)) 0 r (now (text .exit)) ⌝ }
 {
     if reply[0] == 0 {

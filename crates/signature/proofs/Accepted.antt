@@ -4,10 +4,10 @@ use mathlib.Core.Bool.{Bool, true, false, cond}
 use mathlib.Core.List.{List, [], _∷_}
 use mathlib.Core.Option.{Option, some, none}
 use Prim.Native.Nat.{ℕ, zero, suc}
-use Rattle.terms.specs.Inhabited.{firstEmpty}
-use Rattle.wire.specs.Reply.{Reading, accept, refuse, outside}
+use Rattle.terms.specs.Emptiness.{firstEmpty}
+use Rattle.wire.specs.Parser.{Reading, accept, refuse, Got, got, stop, andThen, readWord, readWords, line6, lines5and6, readVocabulary}
+use Rattle.wire.specs.Reply.{outside}
 use Rattle.wire.specs.Vocabulary.{Word, Vocabulary, signature, mostKinds, mostWords}
-use Rattle.wire.specs.Reading.{Got, got, stop, andThen, readWord, readWords, line6, lines5and6, readVocabulary}
 use Rattle.signature.specs.Tables.{wordThen, wordsUpTo, wordsBefore, AcceptedWords}
 
 -- The words us are those that were read.

@@ -9,7 +9,7 @@ use lib.ListN.{length, take, drop, length-drop}
 use lib.Seq.{drop-drop, getD-drop}
 use borrow.Author.Tests.{lt-ltb, le-ltb, ltb-true}
 use Rattle.terms.specs.Lists.{All}
-use Rattle.wire.specs.Reading.{Got, got, stop, andThen, readKinds}
+use Rattle.wire.specs.Parser.{Got, got, stop, andThen, readKinds}
 use Rattle.wire.specs.VocabularyLines.{byteAt}
 use Rattle.signature.specs.declared.WordRead.the-variants.{Whole, Ends, NoSuchKind}
 use Rattle.signature.specs.Loading.{KindsRead}

@@ -12,7 +12,7 @@ use lib.Seq.{getD-take, getD-drop, getD-set-same, getD-set-other, length-take-le
 use borrow.Author.Tests.{eq-eqb, ne-eqb}
 use Rattle.terms.specs.Lists.{occurs}
 use Rattle.terms.specs.Signature.{Symbol}
-use Rattle.terms.specs.Inhabited.{covered, joined}
+use Rattle.terms.specs.Emptiness.{covered, joined}
 use Rattle.terms.proofs.First.{least-first, nowhere-first}
 use Rattle.terms.proofs.Occurs.{missing}
 use Rattle.terms.proofs.Inhabited.{joined-stays, closed-stays, joined-occurs}

@@ -10,7 +10,7 @@ use borrow.Author.Count.{below-none}
 use borrow.Author.Tests.{lt-ltb, le-ltb}
 use Rattle.wire.specs.Map.{flags, ones}
 use Rattle.wire.specs.Vocabulary.{Word}
-use Rattle.wire.specs.Reading.{Got, got, andThen, readKinds, readWord}
+use Rattle.wire.specs.Parser.{Got, got, andThen, readKinds, readWord}
 use Rattle.wire.specs.VocabularyLines.{byteAt}
 use Rattle.wire.proofs.Map.{ones-count}
 use Rattle.signature.specs.declared.WordRead.{WordRead}

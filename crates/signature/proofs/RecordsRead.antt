@@ -17,7 +17,7 @@ use Rattle.terms.specs.Lists.{range}
 use Rattle.terms.proofs.Count.{length-range}
 use Rattle.wire.specs.Map.{flags, ones}
 use Rattle.wire.specs.Vocabulary.{Word, noWord, WordInOrder}
-use Rattle.wire.specs.Reading.{Got, got, stop, andThen, readWord, readWords}
+use Rattle.wire.specs.Parser.{Got, got, stop, andThen, readWord, readWords}
 use Rattle.wire.specs.Reply.{refused}
 use Rattle.wire.specs.VocabularyLines.{byteAt, placesOf, recordAt}
 use Rattle.wire.proofs.Map.{length-flagsIn}

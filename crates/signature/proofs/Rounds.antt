@@ -16,7 +16,7 @@ use lib.Seq.{take-suc, take-all, getD-take, getD-drop}
 use borrow.Author.Tests.{not-false}
 use Rattle.terms.specs.Lists.{occurs}
 use Rattle.terms.specs.Signature.{Symbol, Signature, noSymbol}
-use Rattle.terms.specs.Inhabited.{covered, joined, grow, reached, firstEmpty}
+use Rattle.terms.specs.Emptiness.{covered, joined, grow, reached, firstEmpty}
 use Rattle.terms.proofs.All.{all-at}
 use Rattle.terms.proofs.First.{firstOf, first-nowhere, nowhere-first}
 use Rattle.terms.proofs.Inhabited.{reached-mono}

@@ -5,7 +5,7 @@
 --   KindsRead              it is what readKinds gives, and lies within v
 --   wordAt v at n          the word whose record stands at an offset, with n places
 --   wordGot v at r         what read_word answers of the record there, as a Got
---   WordInside             the place that read_word names lies within v
+--   RecordInside           the place that read_word names lies within v
 --   RecordRead             it is what readWord gives, lies within v and is sound
 --   recordsIn v n          the words of the first n records of v, up to the first that is not in order
 --   vocabularyOf v n       v's kind count and these words
@@ -24,7 +24,7 @@
 --   symbolsIn v n          the symbols of the first n records
 --   Grows, FirstMissing    what mark_round and first_missing answer, for any such l
 --   foundKind r            the kind that is found, where there is one
---   Checked v n r          what inhabited answers: the reply of lines 3 to 6
+--   KindsChecked v n r     what inhabited answers: the reply of lines 3 to 6
 --
 use mathlib.Core.Path.{_≡_}
 use mathlib.Core.Bool.{Bool, not}
@@ -36,11 +36,12 @@ use lib.Dec.{eqb}
 use lib.ListN.{length, getD, take, drop}
 use Rattle.terms.specs.Lists.{occurs, range, keep}
 use Rattle.terms.specs.Signature.{Symbol}
-use Rattle.terms.specs.Inhabited.{covered, grow, first}
+use Rattle.terms.specs.Emptiness.{covered, grow, first}
 use Rattle.wire.specs.Map.{mapBytes}
-use Rattle.wire.specs.Reply.{Reply, Reading, accept, replyOf}
+use Rattle.wire.specs.Reply.{Reply}
+use Rattle.wire.specs.Parser.{Reading, accept, Got, got, stop, readKinds, readWord, readWords, lines5and6}
+use Rattle.wire.specs.CheckComputed.{replyOf}
 use Rattle.wire.specs.Vocabulary.{Word, Vocabulary, noWord, symbolOf, mostWords, WordInOrder}
-use Rattle.wire.specs.Reading.{Got, got, stop, readKinds, readWord, readWords, lines5and6}
 use Rattle.wire.specs.VocabularyLines.{byteAt}
 use Rattle.signature.specs.Answers.{vocabularyRefused, vocabularyNumbers}
 use Rattle.signature.specs.Tables.{wordsUpTo, Laid}
@@ -80,14 +81,14 @@ wordGot v at (Whole n) = got (wordAt v at n) (drop (at + (1 + mapBytes) + n) v)
 wordGot v at Ends = stop 3 []
 wordGot v at (NoSuchKind q) = stop 4 (drop q v)
 
-abbrev pub WordInside : List ℕ → ℕ → ℕ → WordRead → Type 0
-WordInside v at kinds (Whole n) = (at + (1 + mapBytes) + n ≤ length v) × WordInOrder kinds (wordAt v at n)
-WordInside v at kinds Ends = Unit {0}
-WordInside v at kinds (NoSuchKind q) = q < length v
+abbrev pub RecordInside : List ℕ → ℕ → ℕ → WordRead → Type 0
+RecordInside v at kinds (Whole n) = (at + (1 + mapBytes) + n ≤ length v) × WordInOrder kinds (wordAt v at n)
+RecordInside v at kinds Ends = Unit {0}
+RecordInside v at kinds (NoSuchKind q) = q < length v
 
 pub record RecordRead (v : List ℕ) (at kinds : ℕ) (r : WordRead) : Type 0 where
   pub reads : wordGot v at r ≡ readWord kinds (drop at v)
-  pub inside : WordInside v at kinds r
+  pub inside : RecordInside v at kinds r
 
 -- read_words
 
@@ -164,6 +165,6 @@ FirstMissing kinds marked r = (l : List ℕ) → Marks marked l → foundKind r 
 -- inhabited
 
 -- The records of v are in order, and r says so of the kinds too, or which of them is empty.
-pub record Checked (v : List ℕ) (n : ℕ) (r : VocabularyAnswer) : Type 0 where
+pub record KindsChecked (v : List ℕ) (n : ℕ) (r : VocabularyAnswer) : Type 0 where
   pub answer : vocabularyNumbers r ≡ checksReply v n
   pub accepted : r ≡ Accepted → checksIn v n ≡ accept (vocabularyOf v n)

@@ -12,6 +12,7 @@
 --   laid l table        the table with l in front; behind l it is as before
 --   Laid v ws           the tables hold the offsets, result kinds and place maps of v's first words ws in front, and
 --                       are as before behind them
+--   Tabled W n r        W has n words, and the first n entries of the table r are their result kinds
 --   Tables v n o r m    v is accepted, and the first n entries of the tables o, r and m are the records'
 --                       offsets, result kinds and place maps
 --   LoadedFrom v        what loading v gives: answer and tables, each for every v; where v is accepted the tables
@@ -24,11 +25,11 @@ use Prim.Native.Nat.{ℕ, zero, suc, _+_, _<_, _≤_}
 use lib.ListN.{length, getD, take, drop}
 use Rattle.terms.specs.Lists.{range}
 use Rattle.wire.specs.Map.{mapBytes}
-use Rattle.wire.specs.Reply.{Reading, accept, refuse, outside}
+use Rattle.wire.specs.Parser.{Reading, accept, refuse, Got, got, stop, readWord, readVocabulary}
+use Rattle.wire.specs.Reply.{outside}
 use Rattle.wire.specs.Vocabulary.{Word, Vocabulary, word, mostKinds, mostWords}
-use Rattle.wire.specs.Reading.{Got, got, stop, readWord, readVocabulary}
 use Rattle.wire.specs.VocabularyLines.{byteAt, recordAt}
-use Rattle.wire.specs.Checks.{vocabularyReply}
+use Rattle.wire.specs.CheckComputed.{vocabularyReply}
 use Rattle.signature.specs.Answers.{vocabularyNumbers}
 use Rattle.signature.specs.declared.VocabularyAnswer.{VocabularyAnswer}
 use Rattle.signature.specs.declared.VocabularyAnswer.the-variants.{Accepted}
@@ -74,10 +75,13 @@ pub record Laid (v : List ℕ) (ws : List Word) (o r m o′ r′ m′ : List ℕ
   pub results : r′ ≡ laid (resultsOf ws) r
   pub maps : m′ ≡ laid (mapsOf ws) m
 
+pub record Tabled (W : Vocabulary) (n : ℕ) (results : List ℕ) : Type 0 where
+  pub words : n ≡ length (W .words)
+  pub result : (f : ℕ) → f < n → getD results f 0 ≡ word W f .result
+
 pub record Tables (v : List ℕ) (n : ℕ) (offsets results maps : List ℕ) : Type 0 where
   pub accepted : readVocabulary v ≡ accept (vocabularyIn v)
-  pub words : n ≡ length (vocabularyIn v .words)
-  pub result : (f : ℕ) → f < n → getD results f 0 ≡ word (vocabularyIn v) f .result
+  pub tabled : Tabled (vocabularyIn v) n results
   pub placeMap : (f : ℕ) → f < n → getD maps f 0 ≡ word (vocabularyIn v) f .placeMap
   pub inside : (f : ℕ) → f < n → getD offsets f 0 + (1 + mapBytes) + length (word (vocabularyIn v) f .kinds) ≤ length v
   pub kinds : (f : ℕ) → f < n →

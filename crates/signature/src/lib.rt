@@ -2,13 +2,14 @@
 ghost use mathlib.Core.Path.{_≡_};
 ghost use Prim.Native.Nat.{_+_, _<_, _≤_};
 ghost use lib.ListN.{length, getD};
-ghost use Rattle.terms.specs.Inhabited.{firstEmpty};
-ghost use Rattle.wire.specs.Checks.{vocabularyReply};
+ghost use Rattle.terms.specs.Emptiness.{firstEmpty};
+ghost use Rattle.wire.specs.Checking.{VocabularyPromise};
+ghost use Rattle.wire.specs.CheckComputed.{vocabularyReply};
 ghost use Rattle.wire.specs.Vocabulary.{signature};
 ghost use Rattle.wire.specs.VocabularyLines.{byteAt};
 ghost use Rattle.signature.specs.Answers.{vocabularyNumbers};
 ghost use Rattle.signature.specs.Tables.{LoadedFrom};
-ghost use Rattle.signature.specs.Loading.{KindsRead, RecordRead, Sized, Filled, WordsLoaded, Markable, Covers, PlacesInside, PlacesCovered, Grows, FirstMissing, Checked, foundKind, vocabularyOf};
+ghost use Rattle.signature.specs.Loading.{KindsRead, RecordRead, Sized, Filled, WordsLoaded, Markable, Covers, PlacesInside, PlacesCovered, Grows, FirstMissing, KindsChecked, foundKind, vocabularyOf};
 
 // Why a vocabulary is refused, with the place where it is not fixed: document 01, lines 1 to 6.
 pub enum VocabularyRefusal {
@@ -247,7 +248,7 @@ fn inhabited<'a>(
     requires { ⌜ kinds ≤ 16 ⌝ }
     requires { ⌜ kinds ≡ byteAt (now v) 0 ⌝ }
     requires { ⌜ Filled (now v) words (now offsets) (now results) (now maps) ⌝ }
-    ensures { λ r. ⌜ Checked (now (v .entry)) words r ⌝ }
+    ensures { λ r. ⌜ KindsChecked (now (v .entry)) words r ⌝ }
 {
     match empty_kind(v, kinds, words, offsets, results, maps) {
         Missing::Kind(k) => VocabularyAnswer::Refused(VocabularyRefusal::EmptyKind(k)),
@@ -290,6 +291,7 @@ pub fn load(
 
 // Checks a vocabulary.
 pub fn check_vocabulary(vocabulary: &[u8]) -> VocabularyAnswer
+    ensures { λ r. ⌜ VocabularyPromise (now (vocabulary .entry)) (vocabularyNumbers r) ⌝ }
     ensures { λ r. ⌜ vocabularyNumbers r ≡ vocabularyReply (now (vocabulary .entry)) ⌝ }
 {
     let mut offsets = [0u16; 96];

@@ -4,7 +4,7 @@ use mathlib.Core.Bool.{Bool, true, false, cond}
 use mathlib.Core.List.{List, [], _∷_, _++_, map}
 use Prim.Native.Nat.{ℕ, zero, suc, _+_, _<_}
 use native.Mathlib.Omega.{arith}
-use lib.ListN.{length, getD}
+use lib.ListN.{length, getD, take, drop}
 use Rattle.terms.specs.Lists.{All, keep, range}
 
 module _ {A : Type 0} where
@@ -41,6 +41,16 @@ module _ {A : Type 0} where
   pub at-all : (P : A → Type 0) (d : A) (l : List A) → ((i : ℕ) → i < length l → P (getD l i d)) → All P l
   at-all P d [] h = tt
   at-all P d (x ∷ l) h = (h zero (omega arith), at-all P d l (λ i k. h (suc i) (omega arith)))
+
+  pub all-take : (P : A → Type 0) (n : ℕ) (l : List A) → All P l → All P (take n l)
+  all-take P zero l h = tt
+  all-take P (suc n) [] h = tt
+  all-take P (suc n) (x ∷ l) h = (h .0, all-take P n l (h .1))
+
+  pub all-drop : (P : A → Type 0) (n : ℕ) (l : List A) → All P l → All P (drop n l)
+  all-drop P zero l h = h
+  all-drop P (suc n) [] h = tt
+  all-drop P (suc n) (x ∷ l) h = all-drop P n l (h .1)
 
   -- What is kept passes the test.
   pub all-keep : (P : A → Type 0) (t : A → Bool) (l : List A) → All P l → All (λ x. P x × (t x ≡ true)) (keep t l)

@@ -57,8 +57,3 @@ or-right false b e = e
 pub false-of-not : (b : Bool) → (b ≡ true → ⊥) → b ≡ false
 false-of-not true h = absurd (h refl)
 false-of-not false h = refl
-
-pub iff-same : (a b : Bool) → (a ≡ true) ↔ (b ≡ true) → a ≡ b
-iff-same true b e = sym (e .0 refl)
-iff-same false true e = e .1 refl
-iff-same false false e = refl

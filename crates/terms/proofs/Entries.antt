@@ -10,7 +10,8 @@ use borrow.Author.Tests.{eqb-true}
 use Rattle.terms.specs.Lists.{All, NoneTwice, range}
 use Rattle.terms.specs.Signature.{Signature, result, arguments}
 use Rattle.terms.specs.Term.{Term, any, var, app, Terms, nil, cons, Sorted, SortedAll, names, namesAll, Linear}
-use Rattle.terms.specs.Listing.{others, allOpen, opened, openEvery, listing, listingAll, EntriesAreLinearPatterns}
+use Rattle.terms.specs.Listing.{others, allOpen, bare, openEvery, listing, listingAll}
+use Rattle.terms.specs.Laws.{EntriesAreLinearPatterns}
 use Rattle.terms.proofs.Bools.{and-parts}
 use Rattle.terms.proofs.All.{all-always, all-implies, all-both, all-append, all-left, all-right, all-keep, all-map, all-range}
 use Rattle.terms.proofs.Occurs.{none-twice-front}
@@ -27,13 +28,13 @@ open-every-all-open S (cons t ts) [] h = absurd h
 open-every-all-open S (cons t ts) (k ∷ ks) h = ap (cons any) (open-every-all-open S ts ks (h .1))
 
 -- Each of the other symbols, with every place open, is of the sort.
-others-sorted : (S : Signature) (f s : ℕ) → result S f ≡ s → All (λ h. Sorted S (opened S h) s) (others S f)
+others-sorted : (S : Signature) (f s : ℕ) → result S f ≡ s → All (λ h. Sorted S (bare S h) s) (others S f)
 others-sorted S f s e = all-implies _ _ one (others S f) (all-keep _ _ (range 0 n) (all-range 0 n))
   where
     n : ℕ
     n = length (S .symbols)
 
-    one : (h : ℕ) → (h < 0 + length (S .symbols)) × ((not (eqb h f) && eqb (result S h) (result S f)) ≡ true) → Sorted S (opened S h) s
+    one : (h : ℕ) → (h < 0 + length (S .symbols)) × ((not (eqb h f) && eqb (result S h) (result S f)) ≡ true) → Sorted S (bare S h) s
     one h a = (
       omega arith,
       eqb-true (result S h) (result S f) (and-parts (not (eqb h f)) (eqb (result S h) (result S f)) (a .1) .1) ∙ e,
@@ -45,8 +46,8 @@ mutual
   entries-sorted S any s h = tt
   entries-sorted S (var n) s h = tt
   entries-sorted S (app f ts) s h =
-      all-append (λ e. Sorted S e s) (map (opened S) (others S f)) (map (app f) (listingAll S ts))
-      (all-map (λ e. Sorted S e s) (opened S) (others S f) (others-sorted S f s (h .1)))
+      all-append (λ e. Sorted S e s) (map (bare S) (others S f)) (map (app f) (listingAll S ts))
+      (all-map (λ e. Sorted S e s) (bare S) (others S f) (others-sorted S f s (h .1)))
       (all-map (λ e. Sorted S e s) (app f) (listingAll S ts)
       (all-implies (λ es. SortedAll S es (arguments S f)) (λ es. Sorted S (app f es) s) (λ es k. (h .0, h .1, k)) (listingAll S ts)
       (entries-sorted-all S ts (arguments S f) (h .2))))
@@ -77,9 +78,9 @@ mutual
   entries-names S P any a = tt
   entries-names S P (var n) a = tt
   entries-names S P (app f ts) a =
-      all-append (λ e. All P (names e)) (map (opened S) (others S f)) (map (app f) (listingAll S ts))
-      (all-map (λ e. All P (names e)) (opened S) (others S f)
-      (all-always (λ h. All P (names (opened S h))) (λ h. rw (open-names (arguments S h)) tt) (others S f)))
+      all-append (λ e. All P (names e)) (map (bare S) (others S f)) (map (app f) (listingAll S ts))
+      (all-map (λ e. All P (names e)) (bare S) (others S f)
+      (all-always (λ h. All P (names (bare S h))) (λ h. rw (open-names (arguments S h)) tt) (others S f)))
       (all-map (λ e. All P (names e)) (app f) (listingAll S ts) (entries-names-all S P ts a))
 
   entries-names-all : (S : Signature) (P : ℕ → Type 0) (ts : Terms) → All P (namesAll ts) → All (λ es. All P (namesAll es)) (listingAll S ts)
@@ -101,9 +102,9 @@ mutual
   entries-linear S any l u = tt
   entries-linear S (var n) l u = tt
   entries-linear S (app f ts) l u =
-      all-append (λ e. NoneTwice (l ++ names e)) (map (opened S) (others S f)) (map (app f) (listingAll S ts))
-      (all-map (λ e. NoneTwice (l ++ names e)) (opened S) (others S f)
-      (all-always (λ h. NoneTwice (l ++ names (opened S h))) (λ h. rw (open-names (arguments S h), append-nil) (none-twice-front l (namesAll ts) u)) (others S f)))
+      all-append (λ e. NoneTwice (l ++ names e)) (map (bare S) (others S f)) (map (app f) (listingAll S ts))
+      (all-map (λ e. NoneTwice (l ++ names e)) (bare S) (others S f)
+      (all-always (λ h. NoneTwice (l ++ names (bare S h))) (λ h. rw (open-names (arguments S h), append-nil) (none-twice-front l (namesAll ts) u)) (others S f)))
       (all-map (λ e. NoneTwice (l ++ names e)) (app f) (listingAll S ts) (entries-linear-all S ts l u))
 
   entries-linear-all : (S : Signature) (ts : Terms) (l : List ℕ) → NoneTwice (l ++ namesAll ts) → All (λ es. NoneTwice (l ++ namesAll es)) (listingAll S ts)

@@ -12,7 +12,7 @@ use native.Mathlib.Omega.{arith}
 use lib.Dec.{eqb}
 use borrow.Author.Tests.{eqb-true, eqb-false}
 use Rattle.terms.specs.Lists.{range, keep}
-use Rattle.terms.specs.Inhabited.{first}
+use Rattle.terms.specs.Emptiness.{first}
 
 pub record Least (test : ℕ → Bool) (from n k : ℕ) : Type 0 where
   pub low : from ≤ k

@@ -19,7 +19,7 @@ use Rattle.terms.specs.Term.{Term, any, app, nil, cons, Ground, gapp, gn
 use Rattle.terms.specs.Filling.{Fits}
 use Rattle.terms.specs.Matcher.{noFilling}
 use Rattle.terms.specs.Inhabited.{Inhabited}
-use Rattle.terms.specs.Listing.{listing, withEntries}
+use Rattle.terms.specs.Listing.{listing, withEntries, Needed}
 use Rattle.terms.proofs.Theorems.{matcher-is-exact, entries-are-linear-patterns, partition, strike-out, first-empty-is-exact}
 
 abbrev word : ℕ → List ℕ → Symbol
@@ -69,8 +69,5 @@ incident-only-third j b h =
 inhabited : Inhabited A
 inhabited = first-empty-is-exact A well-formed .missed .0 refl
 
-each-has-its-own :
-    (i : ℕ) → i < 3 →
-    (g : Ground) × SortedG A g 0 × Fits A (getD (listing A p) i any) 0 g × (Fits A p 0 g → ⊥) ×
-    ((j : ℕ) → j < 3 → Fits A (getD (listing A p) j any) 0 g → j ≡ i)
+each-has-its-own : (i : ℕ) → i < 3 → Needed A p (listing A p) 0 i
 each-has-its-own = strike-out A p 0 well-formed inhabited p-sorted p-linear

@@ -9,7 +9,6 @@
 --   size S l           how many sorts of S are in l
 --   adds s l           the symbol s has its argument sorts in l, and not yet its result sort
 --   Gain ks l m        the result sort of one of the symbols ks is in m and not in l
---   Same l m           l and m have the same elements
 --
 use mathlib.Core.Path.{_≡_, refl, sym, _∙_, ap, subst}
 use mathlib.Core.Bool.{Bool, true, false, not, _&&_, _||_, true≢false, false≢true}
@@ -26,9 +25,10 @@ use borrow.Author.Tests.{eqb-true, not-true, not-false}
 use Rattle.terms.specs.Lists.{All, occurs, range}
 use Rattle.terms.specs.Signature.{Symbol, Signature, noSymbol, symbol, result, arguments, WellFormed}
 use Rattle.terms.specs.Term.{Ground, gapp, Grounds, gnil, gcons, SortedG, SortedGs}
-use Rattle.terms.specs.Inhabited.{Inhabited, Empty, LeastEmpty, covered, joined, grow, reached, first, firstEmpty, FirstEmptyIsExact}
+use Rattle.terms.specs.Inhabited.{Inhabited, Empty, LeastEmpty}
+use Rattle.terms.specs.Emptiness.{covered, joined, grow, reached, first, firstEmpty, FirstEmptyIsExact}
 use Rattle.terms.proofs.Signature.{symbol-sorts}
-use Rattle.terms.proofs.Bools.{and-parts, and-both, false-of-not, iff-same}
+use Rattle.terms.proofs.Bools.{and-parts, and-both, false-of-not}
 use Rattle.terms.proofs.All.{all-implies, all-at, at-all}
 use Rattle.terms.proofs.Occurs.{missing, occurs-head, occurs-tail, occurs-cases, occurs-range}
 use Rattle.terms.proofs.Keep.{keep-same}
@@ -251,46 +251,18 @@ module _ (S : Signature) (l : List ℕ) (sound : Sound S l) (closed : Closed (S 
     λ i. nowhere-first (missing l) 0 (S .sorts) (λ j lo hi. present-ground j .1 (i j (omega arith))),
   )
 
-pub reached-exact : (S : Signature) → WellFormed S → (k : ℕ) → (occurs k (reached S (S .sorts)) ≡ true) ↔ HasGround S k
-reached-exact S w = occurs-exact S (reached S (S .sorts)) (reached-sound S (S .sorts)) (reached-closed S w)
-
 pub first-empty-is-exact : FirstEmptyIsExact
 first-empty-is-exact S w = record {
   found = missing-least S (reached S (S .sorts)) (reached-sound S (S .sorts)) (reached-closed S w);
   missed = missing-none S (reached S (S .sorts)) (reached-sound S (S .sorts)) (reached-closed S w);
 }
 
--- More rounds, and fewer: nothing is lost, and after a round that changed nothing the rest change nothing.
+-- More rounds lose nothing.
 
 pub reached-mono : (S : Signature) (n m : ℕ) → n ≤ m → Within (reached S n) (reached S m)
 reached-mono S n m h =
     le-ind (λ (i : ℕ). Within (reached S n) (reached S i)) (λ k o. o)
     (λ i p r k o. grow-within (S .symbols) (reached S i) k (r k o)) m h
-
-pub unchanged-closed : (ks : List Symbol) (l : List ℕ) → grow ks l ≡ l → Closed ks l
-unchanged-closed ks l e = go (grow-gains ks l)
-  where
-    go : Closed ks l ⊎ Gain ks l (grow ks l) → Closed ks l
-    go (inl c) = c
-    go (inr g) = absurd (true≢false (sym (rw e at (g .new)) ∙ g .old))
-
-pub reached-stays : (S : Signature) (n m : ℕ) → Closed (S .symbols) (reached S n) → n ≤ m → reached S m ≡ reached S n
-reached-stays S n m c h =
-    le-ind (λ (i : ℕ). reached S i ≡ reached S n) refl
-    (λ i p e. ap (grow (S .symbols)) e ∙ grow-closed (S .symbols) (reached S n) c) m h
-
--- Only sorts of the signature are reached.
-
-pub ground-below : (S : Signature) → WellFormed S → (g : Ground) (k : ℕ) → SortedG S g k → k < S .sorts
-ground-below S w (gapp f gs) k h = rw (← (h .1)) (symbol-sorts S w f (h .0) .0)
-
-pub reached-below : (S : Signature) → WellFormed S → (n k : ℕ) → occurs k (reached S n) ≡ true → k < S .sorts
-reached-below S w n k o = let g = reached-sound S n k o in ground-below S w (g .0) k (g .1)
-
--- What a round does depends on which sorts are in the list, not on their order: laws for a table of sorts.
-
-abbrev pub Same : List ℕ → List ℕ → Type 0
-Same l m = (k : ℕ) → occurs k l ≡ occurs k m
 
 pub joined-occurs : (s : Symbol) (l : List ℕ) (k : ℕ) → occurs k (joined s l) ≡ ((covered (s .arguments) l && eqb k (s .result)) || occurs k l)
 joined-occurs s l k = go (covered (s .arguments) l) (occurs (s .result) l) refl refl
@@ -304,25 +276,3 @@ joined-occurs s l k = go (covered (s .arguments) l) (occurs (s .result) l) refl 
     go false b c o = rw c
     go true false c o = rw (c, o)
     go true true c o = rw (c, o) (there o (eqb k (s .result)) refl)
-
-pub covered-same : (ks l m : List ℕ) → Same l m → covered ks l ≡ covered ks m
-covered-same [] l m h = refl
-covered-same (k ∷ ks) l m h = rw (h k, covered-same ks l m h)
-
-pub joined-same : (s : Symbol) (l m : List ℕ) → Same l m → Same (joined s l) (joined s m)
-joined-same s l m h k =
-    joined-occurs s l k ∙ rw (h k, covered-same (s .arguments) l m h) refl ∙ sym (joined-occurs s m k)
-
-pub grow-same : (ks : List Symbol) (l m : List ℕ) → Same l m → Same (grow ks l) (grow ks m)
-grow-same [] l m h = h
-grow-same (s ∷ ks) l m h = grow-same ks (joined s l) (joined s m) (joined-same s l m h)
-
--- Any list that is sound and closed has the elements of the list that is reached, and shows the same first empty sort.
-
-module _ (S : Signature) (w : WellFormed S) (l : List ℕ) (sound : Sound S l) (closed : Closed (S .symbols) l) where
-  pub sound-closed-same : Same l (reached S (S .sorts))
-  sound-closed-same k = iff-same (occurs k l) (occurs k (reached S (S .sorts))) (Iff·trans (occurs-exact S l sound closed k) (Iff·symm (reached-exact S w k)))
-
-  pub sound-closed-first : firstOf (missing l) 0 (S .sorts) ≡ firstEmpty S
-  sound-closed-first =
-      ap first (keep-same (missing l) (missing (reached S (S .sorts))) (range 0 (S .sorts)) (λ j. ap not (sound-closed-same j)))

@@ -11,9 +11,9 @@ use lib.Seq.{take-add, take-all, drop-at, append-snoc}
 use borrow.Author.Tests.{eqb-true}
 use Rattle.terms.specs.Lists.{occurs, distinct}
 use Rattle.terms.specs.Signature.{Signature}
-use Rattle.terms.specs.Term.{Term, any, var, app, Terms, nil, cons, Ground, gapp, Grounds, gnil, gcons, SortedG, Sorted, names, namesAll, openSorts, openings, openingsAll, same}
+use Rattle.terms.specs.Term.{Term, any, var, app, Terms, nil, cons, Ground, gapp, Grounds, gnil, gcons, SortedG, Sorted, names, namesAll, openSorts, openings, openingsAll}
+use Rattle.terms.specs.Matcher.{same, withOpen, withName, matchName, matchFrom, matchAll, matcher, noFilling, MatcherIsExact}
 use Rattle.terms.specs.Filling.{Binding, Filling, valueOf, fillFrom, fillAll, fill, SortedEach, IsFilling}
-use Rattle.terms.specs.Matcher.{withOpen, withName, matchName, matchFrom, matchAll, matcher, noFilling, MatcherIsExact}
 use Rattle.terms.proofs.Bools.{eqb-refl}
 use Rattle.terms.proofs.Distinct.{addName, addNames, add-names-append, add-names-none, none-twice-distinct}
 use Rattle.terms.proofs.Term.{same-true, same-refl, length-open-sorts}

@@ -2,8 +2,8 @@
 --
 --   missing l n      n is not an element of l
 --
-use mathlib.Core.Path.{_≡_, refl, sym, _∙_, ap}
-use mathlib.Core.Bool.{Bool, true, false, not, _||_, or-assoc}
+use mathlib.Core.Path.{_≡_, refl, sym, _∙_, ap, subst}
+use mathlib.Core.Bool.{Bool, true, false, not, _||_, or-assoc, false≢true}
 use mathlib.Core.List.{List, [], _∷_, _++_, map}
 use Prim.Native.Nat.{ℕ, zero, suc, _+_, _≤_, _<_}
 use native.Mathlib.Omega.{arith}
@@ -29,6 +29,10 @@ occurs-cases {C} n m l h f g = go (eqb n m) refl h
     go : (b : Bool) → eqb n m ≡ b → (b || occurs n l) ≡ true → C
     go true e o = f (eqb-true n m e)
     go false e o = g o
+
+pub occurs-all : (P : ℕ → Type 0) (n : ℕ) (l : List ℕ) → occurs n l ≡ true → All P l → P n
+occurs-all P n [] o h = absurd (false≢true o)
+occurs-all P n (m ∷ l) o h = occurs-cases n m l o (λ e. subst P (sym e) (h .0)) (λ k. occurs-all P n l k (h .1))
 
 pub occurs-append : (n : ℕ) (l m : List ℕ) → occurs n (l ++ m) ≡ (occurs n l || occurs n m)
 occurs-append n [] m = refl

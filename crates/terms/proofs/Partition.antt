@@ -10,7 +10,8 @@ use borrow.Author.Tests.{eq-eqb, eqb-true}
 use Rattle.terms.specs.Lists.{range}
 use Rattle.terms.specs.Signature.{Signature, result, arguments}
 use Rattle.terms.specs.Term.{Term, any, var, app, Terms, nil, cons, Ground, gapp, Grounds, gnil, gcons, Sorted, SortedAll, SortedG, SortedGs, Linear}
-use Rattle.terms.specs.Listing.{others, opened, openEvery, listing, listingAll, withEntries, Partition}
+use Rattle.terms.specs.Listing.{others, bare, openEvery, listing, listingAll, withEntries}
+use Rattle.terms.specs.Laws.{Partition}
 use Rattle.terms.proofs.Bools.{eqb-sym, and-always, and-where}
 use Rattle.terms.proofs.Count.{bit, count, count-append, count-map, count-same, count-never, count-keep, count-range, count-one}
 use Rattle.terms.proofs.All.{all-at}
@@ -18,10 +19,10 @@ use Rattle.terms.proofs.Fit.{fit, fitAll, open-fits, fit-once, fits-fit
 use Rattle.terms.proofs.Entries.{open-every-all-open, entries-are-linear-patterns}
 
 -- A symbol with every place open fits the terms of that symbol and no others.
-opened-fits : (S : Signature) (h k : ℕ) (gs : Grounds) → SortedGs S gs (arguments S k) → fit (opened S h) (gapp k gs) ≡ eqb h k
+opened-fits : (S : Signature) (h k : ℕ) (gs : Grounds) → SortedGs S gs (arguments S k) → fit (bare S h) (gapp k gs) ≡ eqb h k
 opened-fits S h k gs a = go (eqb h k) refl
   where
-    go : (b : Bool) → eqb h k ≡ b → fit (opened S h) (gapp k gs) ≡ eqb h k
+    go : (b : Bool) → eqb h k ≡ b → fit (bare S h) (gapp k gs) ≡ eqb h k
     go true e = and-always (eqb h k) _ (open-fits S gs (arguments S h) (rw (eqb-true h k e) a))
     go false e = rw e
 
@@ -49,9 +50,9 @@ count-app S f ts k gs a below e rest = rw (parts, eqb-sym f k) (go (eqb k f) ref
   where
     parts : count (λ e. fit e (gapp k gs)) (listing S (app f ts)) ≡ bit (not (eqb k f)) + count (λ es. eqb f k && fitAll es gs) (listingAll S ts)
     parts =
-        count-append (λ e. fit e (gapp k gs)) (map (opened S) (others S f)) (map (app f) (listingAll S ts)) ∙
+        count-append (λ e. fit e (gapp k gs)) (map (bare S) (others S f)) (map (app f) (listingAll S ts)) ∙
         ap₂ (λ m n. m + n)
-        (count-map (λ e. fit e (gapp k gs)) (opened S) (others S f) ∙
+        (count-map (λ e. fit e (gapp k gs)) (bare S) (others S f) ∙
         count-same _ _ (others S f) (λ h. opened-fits S h k gs a) ∙ count-others S f k below e)
         (count-map (λ e. fit e (gapp k gs)) (app f) (listingAll S ts))
 

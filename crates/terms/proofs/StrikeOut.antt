@@ -13,7 +13,8 @@ use Rattle.terms.specs.Signature.{Signature, arguments, WellFormed}
 use Rattle.terms.specs.Term.{Term, any, var, app, Terms, nil, cons, Ground, gapp, Grounds, gnil, gcons, Sorted, SortedAll, SortedG, SortedGs, Linear}
 use Rattle.terms.specs.Filling.{Fits}
 use Rattle.terms.specs.Inhabited.{Inhabited}
-use Rattle.terms.specs.Listing.{listing, StrikeOut}
+use Rattle.terms.specs.Listing.{listing}
+use Rattle.terms.specs.Laws.{StrikeOut}
 use Rattle.terms.proofs.Bools.{eqb-refl, and-both}
 use Rattle.terms.proofs.Signature.{symbol-sorts}
 use Rattle.terms.proofs.All.{all-at}
@@ -53,10 +54,11 @@ strike-out S p s wf full h u i b =
     let fits : Fits S (getD (listing S p) i any) s (w .0) =
     fit-fits S (getD (listing S p) i any) s (w .0) (entry .1) (w .1) (w .2) in
     let one = partition S p s h u (w .0) (w .1) in
-    let here : suc i ≡ one .index = one .only (suc i) (omega arith) fits in (
-      w .0,
-      w .1,
-      fits,
-      (λ e. omega (arith, one .only 0 (omega arith) e)),
-      (λ j k e. omega (arith, one .only (suc j) (omega arith) e)),
-    )
+    let here : suc i ≡ one .index = one .only (suc i) (omega arith) fits in
+    record {
+      situation = w .0;
+      sorted = w .1;
+      fits = fits;
+      notPattern = λ e. omega (arith, one .only 0 (omega arith) e);
+      only = λ j k e. omega (arith, one .only (suc j) (omega arith) e);
+    }

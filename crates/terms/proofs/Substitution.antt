@@ -1,15 +1,18 @@
--- Substitution: for a ground term, matching is the same as having a filling.
+-- Substitution: sorts add nothing to matching between two terms of one sort, and for a ground term of the sort, matching
+-- is the same as having a filling.
 --
+--   image-sorted         where a term and what a map carries it to have one sort, the map keeps the sorts of its variables
 --   with-variables-sorted   a sorted pattern with its variables is a term of its sort
 --   valueBy f            the terms that the filling f gives the variables of names and of open places
---   fits-matches         a filling is a substitution
+--   fits-instance        a filling is a substitution that keeps sorts
 --   toGround t           the ground term that t is, where it holds no variable
 --   IsGround t           t holds no variable
---   matches-fits         what a substitution gives the variables of a pattern is a filling
+--   instance-fits        what a substitution that keeps sorts gives the variables of a pattern is a filling
 --
 use mathlib.Core.Path.{_≡_, refl, sym, _∙_, ap, ap₂}
 use mathlib.Core.Bool.{Bool, true, false, cond, _||_, false≢true}
 use mathlib.Core.List.{List, [], _∷_, map}
+use mathlib.Core.Logic.{_↔_}
 use Prim.Native.Nat.{ℕ, _+_, _<_}
 use native.Mathlib.Nat.{zero-add, add-zero}
 use lib.Dec.{eqb}
@@ -19,14 +22,36 @@ use borrow.Author.Tests.{eqb-true}
 use Rattle.terms.specs.Lists.{All, occurs}
 use Rattle.terms.specs.Signature.{Signature, arguments}
 use Rattle.terms.specs.Term.{Term, any, var, app, Terms, nil, cons, Ground, gapp, Grounds, gnil, gcons, Sorted, SortedAll, SortedG, SortedGs, Occurrence, occurrences, Consistent, WellSorted, names, openSorts, openings}
-use Rattle.terms.specs.Filling.{Filling, noGround, valueOf, openAt, fillFrom, fillAll, fill, Fits, Gives}
-use Rattle.terms.specs.Substitution.{Var, name, place, sortOf, Tm, tvar, tapp, Tms, tnil, tcons, SortedT, SortedTs, Substitution, carry, carryAll, asTm, asTms, withVariablesFrom, withVariablesAll, withVariables, Matches, MatchingIsFitting}
+use Rattle.terms.specs.Filling.{Filling, noGround, valueOf, openAt, fillFrom, fillAll, fill, Fits}
+use Rattle.terms.specs.Laws.{Gives, SortsAddNothing, MatchingIsFitting}
+use Rattle.terms.specs.Substitution.{Var, name, place, Tm, tvar, tapp, Tms, tnil, tcons, Substitution, carry, carryAll, asTm, asTms, withVariablesFrom, withVariablesAll, withVariables}
+use Rattle.terms.specs.Instance.{sortOf, SortedT, SortedTs, KeepsSorts, Instance}
 use Rattle.terms.proofs.All.{all-implies, all-both, all-append}
 use Rattle.terms.proofs.Occurs.{all-occurs}
 use Rattle.terms.proofs.Term.{occurrences-named}
 use Rattle.terms.proofs.Fill.{sorted-each-at}
 use Rattle.terms.proofs.Filling.{each-choice-has-a-filling}
-use Rattle.terms.proofs.Variables.{vars, varsAll, carry-agree, matches-by, Places, all-vars, names-all, places-all}
+use Rattle.terms.proofs.Variables.{vars, varsAll, carry-agree, instance-by, Places, all-vars, names-all, places-all}
+
+mutual
+  image-sorted : (S : Signature) (v : Var → Tm) (t : Tm) (s : ℕ) → SortedT S t s → SortedT S (carry v t) s →
+      All (λ x. SortedT S (v x) (sortOf x)) (vars t)
+  image-sorted S v (tvar x) s h k = (rw h k, tt)
+  image-sorted S v (tapp f ts) s h k = images-sorted S v ts (arguments S f) (h .2) (k .2)
+
+  images-sorted : (S : Signature) (v : Var → Tm) (ts : Tms) (ks : List ℕ) → SortedTs S ts ks → SortedTs S (carryAll v ts) ks →
+      All (λ x. SortedT S (v x) (sortOf x)) (varsAll ts)
+  images-sorted S v tnil ks h k = tt
+  images-sorted S v (tcons t ts) [] h k = absurd h
+  images-sorted S v (tcons t ts) (r ∷ ks) h k =
+      all-append (λ x. SortedT S (v x) (sortOf x)) (vars t) (varsAll ts)
+      (image-sorted S v t r (h .0) (k .0)) (images-sorted S v ts ks (h .1) (k .1))
+
+pub sorts-add-nothing : SortsAddNothing
+sorts-add-nothing S t u s h k = (
+  (λ (σ, e). instance-by S t u (σ .value) (image-sorted S (σ .value) t s h (rw e k)) e),
+  (λ (σ, keeps, e). (σ, e)),
+)
 
 -- A sorted ground term is a sorted term, and the other way round.
 mutual
@@ -82,9 +107,9 @@ mutual
       ap₂ tcons (carry-fill S f t k i (h .0))
       (carry-fill-all S f ts ks (i + openings t) (h .1) ∙ ap (λ gs. asTms (fillAll (f .named) ts gs)) (sym (drop-drop (openings t) i (f .opened))))
 
-fits-matches : (S : Signature) (p : Term) (s : ℕ) (g : Ground) → WellSorted S p s → Fits S p s g → Matches S (withVariables S p s) (asTm g)
-fits-matches S p s g w (f, h, e) =
-    matches-by S (withVariables S p s) (asTm g) (valueBy f)
+fits-instance : (S : Signature) (p : Term) (s : ℕ) (g : Ground) → WellSorted S p s → Fits S p s g → Instance S (withVariables S p s) (asTm g)
+fits-instance S p s g w (f, h, e) =
+    instance-by S (withVariables S p s) (asTm g) (valueBy f)
     (all-vars (λ x. SortedT S (valueBy f x) (sortOf x)) S p s 0 (w .sorted) bound placed)
     (carry-fill S f p s 0 (w .sorted) ∙ ap asTm e)
   where
@@ -148,7 +173,7 @@ first-sorts l h =
     (all-both (λ o. occurs (o .name) (map (λ o′. o′ .name) l) ≡ true) (λ o. All (λ o′. o .name ≡ o′ .name → o .sort ≡ o′ .sort) l) l
     (all-occurs (λ o. o .name) l) h)
 
-module _ (S : Signature) (p : Term) (s : ℕ) (g : Ground) (w : WellSorted S p s) (σ : Substitution S) (e : carry (σ .value) (withVariables S p s) ≡ asTm g) where
+module _ (S : Signature) (p : Term) (s : ℕ) (g : Ground) (w : WellSorted S p s) (σ : Substitution) (keeps : KeepsSorts S σ) (e : carry (σ .value) (withVariables S p s) ≡ asTm g) where
   -- The value of each variable and of each open place.
   abbrev chosenName : ℕ → Ground
   chosenName n = toGround (σ .value (name n (firstSort (occurrences S p s) n)))
@@ -160,7 +185,7 @@ module _ (S : Signature) (p : Term) (s : ℕ) (g : Ground) (w : WellSorted S p s
   values-ground = ground-values (σ .value) (withVariables S p s) (rw e (ap asTm (to-ground-as g)))
 
   value-sorted : (x : Var) (v : Ground) → asTm v ≡ σ .value x → SortedG S v (sortOf x)
-  value-sorted x v h = sorted-ground S v (sortOf x) (rw h (σ .keeps x))
+  value-sorted x v h = sorted-ground S v (sortOf x) (rw h (keeps x))
 
   -- The choice gives each occurrence of a name what the substitution gives it.
   name-value : All (λ o. asTm (chosenName (o .name)) ≡ σ .value (name (o .name) (o .sort))) (occurrences S p s)
@@ -194,8 +219,8 @@ module _ (S : Signature) (p : Term) (s : ℕ) (g : Ground) (w : WellSorted S p s
       agree : All (λ x. valueBy f x ≡ σ .value x) (vars (withVariables S p s))
       agree = all-vars (λ x. valueBy f x ≡ σ .value x) S p s 0 (w .sorted) named placed
 
-  matches-fits : Fits S p s g
-  matches-fits = let r = each-choice-has-a-filling S p s (w .sorted) chosenName chosenPlace bound placed in (r .0, r .1, gives-fills (r .0) (r .2))
+  instance-fits : Fits S p s g
+  instance-fits = let r = each-choice-has-a-filling S p s (w .sorted) chosenName chosenPlace bound placed in (r .0, r .1, gives-fills (r .0) (r .2))
     where
       bound : All (λ o. SortedG S (chosenName (o .name)) (o .sort)) (occurrences S p s)
       bound = all-implies (λ o. asTm (chosenName (o .name)) ≡ σ .value (name (o .name) (o .sort))) (λ o. SortedG S (chosenName (o .name)) (o .sort))
@@ -204,5 +229,12 @@ module _ (S : Signature) (p : Term) (s : ℕ) (g : Ground) (w : WellSorted S p s
       placed : (i : ℕ) → i < length (openSorts S p s) → SortedG S (chosenPlace i) (getD (openSorts S p s) i 0)
       placed i b = value-sorted (place i (getD (openSorts S p s) i 0)) (chosenPlace i) (place-value i b)
 
+-- What has a filling is what is an instance, for any ground term.
+pub fitting-is-instance : (S : Signature) (p : Term) (s : ℕ) (g : Ground) → WellSorted S p s → Fits S p s g ↔ Instance S (withVariables S p s) (asTm g)
+fitting-is-instance S p s g w = (fits-instance S p s g w, λ (σ, keeps, e). instance-fits S p s g w σ keeps e)
+
 pub matching-is-fitting : MatchingIsFitting
-matching-is-fitting S p s g w = (fits-matches S p s g w, λ (σ, e). matches-fits S p s g w σ e)
+matching-is-fitting S p s g w k =
+    let fits = fitting-is-instance S p s g w in
+    let sorts = sorts-add-nothing S (withVariables S p s) (asTm g) s (with-variables-sorted S p s 0 (w .sorted)) (ground-sorted S g s k) in
+    ((λ h. sorts .1 (fits .0 h)), (λ m. fits .1 (sorts .0 m)))

@@ -8,7 +8,8 @@ use lib.ListN.{length, length-append}
 use borrow.Author.Tests.{eqb-true}
 use Rattle.terms.specs.Lists.{All, occurs, NoneTwice}
 use Rattle.terms.specs.Signature.{Signature, arguments}
-use Rattle.terms.specs.Term.{Term, any, var, app, Terms, nil, cons, Ground, gapp, Grounds, gnil, gcons, Sorted, SortedAll, Occurrence, occurrences, occurrencesAll, Consistent, WellSorted, names, namesAll, Linear, openSorts, openSortsAll, openings, openingsAll, same, sameAll}
+use Rattle.terms.specs.Term.{Term, any, var, app, Terms, nil, cons, Ground, gapp, Grounds, gnil, gcons, Sorted, SortedAll, Occurrence, occurrences, occurrencesAll, Consistent, WellSorted, names, namesAll, Linear, openSorts, openSortsAll, openings, openingsAll}
+use Rattle.terms.specs.Matcher.{same, sameAll}
 use Rattle.terms.proofs.Bools.{eqb-refl, and-parts, and-both}
 use Rattle.terms.proofs.All.{all-implies, all-both}
 use Rattle.terms.proofs.Occurs.{all-occurs, all-other}

@@ -4,18 +4,17 @@
 --   equal-where-they-agree        two fillings are equal exactly where they give the same values
 --   one-filling                   no two fillings turn a pattern into the same ground term
 --   matcher-is-exact              the matcher finds a filling exactly where there is one, and that one
---   matching-is-fitting           for a ground term, matching by a substitution is the same as having a filling
+--   sorts-add-nothing             between two terms of one sort, matching is being an instance
+--   matching-is-fitting           for a ground term of the sort, matching by a substitution is the same as having a filling
 --   entries-are-linear-patterns   each entry of a listing is a linear pattern of the pattern's sort
 --   partition                     every ground term fits exactly one of a linear pattern and its entries, by exactly one filling
 --   strike-out                    over inhabited sorts each entry has a ground term that fits it and nothing else
 --   listing-represents            the entries represent the non-instances of a linear pattern
 --   first-empty-is-exact          the lowest sort without a ground term is found, and none where there is no such sort
 --
-use Rattle.terms.specs.Filling.{EachChoiceHasAFilling, EqualWhereTheyAgree, OneFilling}
-use Rattle.terms.specs.Substitution.{MatchingIsFitting}
+use Rattle.terms.specs.Laws.{EachChoiceHasAFilling, EqualWhereTheyAgree, OneFilling, SortsAddNothing, MatchingIsFitting, Partition, StrikeOut, EntriesAreLinearPatterns, ListingRepresents}
 use Rattle.terms.specs.Matcher.{MatcherIsExact}
-use Rattle.terms.specs.Listing.{Partition, StrikeOut, EntriesAreLinearPatterns, ListingRepresents}
-use Rattle.terms.specs.Inhabited.{FirstEmptyIsExact}
+use Rattle.terms.specs.Emptiness.{FirstEmptyIsExact}
 
 pub each-choice-has-a-filling : EachChoiceHasAFilling
 each-choice-has-a-filling = Rattle.terms.proofs.Filling.each-choice-has-a-filling
@@ -28,6 +27,9 @@ one-filling = Rattle.terms.proofs.Filling.one-filling
 
 pub matcher-is-exact : MatcherIsExact
 matcher-is-exact = Rattle.terms.proofs.Matcher.matcher-is-exact
+
+pub sorts-add-nothing : SortsAddNothing
+sorts-add-nothing = Rattle.terms.proofs.Substitution.sorts-add-nothing
 
 pub matching-is-fitting : MatchingIsFitting
 matching-is-fitting = Rattle.terms.proofs.Substitution.matching-is-fitting

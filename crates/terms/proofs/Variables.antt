@@ -2,7 +2,7 @@
 --
 --   vars t             the variables of t, an entry an occurrence, from left to right
 --   only v l           the map v on the variables of l, and every other variable itself
---   matches-by         a map that keeps the sorts of a term's variables makes the term match what it carries it to
+--   instance-by        what a map that keeps the sorts of a term's variables carries the term to is an instance of it
 --   carry-agree        two maps that agree on a term's variables carry it to the same term
 --   Places P i ks      P holds of the variables of open places of the sorts ks, numbered from i
 --   all-vars           what holds of a pattern's names and open places holds of the variables of withVariables
@@ -22,7 +22,8 @@ use borrow.Author.Tests.{eqb-true, ltb-true, ltb-false}
 use Rattle.terms.specs.Lists.{All}
 use Rattle.terms.specs.Signature.{Signature, arguments}
 use Rattle.terms.specs.Term.{Term, any, var, app, Terms, nil, cons, Sorted, SortedAll, occurrences, occurrencesAll, openSorts, openSortsAll, openings}
-use Rattle.terms.specs.Substitution.{Var, name, place, sortOf, Tm, tvar, tapp, Tms, tnil, tcons, SortedT, Substitution, carry, carryAll, withVariablesFrom, withVariablesAll, Matches}
+use Rattle.terms.specs.Substitution.{Var, name, place, Tm, tvar, tapp, Tms, tnil, tcons, Substitution, carry, carryAll, withVariablesFrom, withVariablesAll}
+use Rattle.terms.specs.Instance.{sortOf, SortedT, Instance}
 use Rattle.terms.proofs.Bools.{eqb-refl, and-parts, and-both}
 use Rattle.terms.proofs.All.{all-implies, all-append, all-left, all-right}
 use Rattle.terms.proofs.Term.{length-open-sorts}
@@ -98,11 +99,11 @@ only-on v (y ∷ l) = (rw (same-var-self y) refl, all-implies (λ x. only v l x 
         go true = refl
         go false = h
 
-pub matches-by : (S : Signature) (t u : Tm) (v : Var → Tm) → All (λ x. SortedT S (v x) (sortOf x)) (vars t) → carry v t ≡ u → Matches S t u
-matches-by S t u v h e = (σ, carry-agree (only v (vars t)) v t (only-on v (vars t)) ∙ e)
+pub instance-by : (S : Signature) (t u : Tm) (v : Var → Tm) → All (λ x. SortedT S (v x) (sortOf x)) (vars t) → carry v t ≡ u → Instance S t u
+instance-by S t u v h e = (σ, only-keeps S v (vars t) h, carry-agree (only v (vars t)) v t (only-on v (vars t)) ∙ e)
   where
-    σ : Substitution S
-    σ = record { value = only v (vars t); keeps = only-keeps S v (vars t) h; relaxedCore = vars t; finite = only-finite v (vars t) }
+    σ : Substitution
+    σ = record { value = only v (vars t); relaxedCore = vars t; finite = only-finite v (vars t) }
 
 -- P holds of the variables of open places of the sorts ks, which are numbered from i.
 abbrev pub Places : (Var → Type 0) → ℕ → List ℕ → Type 0

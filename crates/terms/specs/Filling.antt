@@ -10,21 +10,16 @@
 --   IsFilling S p s f       f is a filling of the pattern p of sort s
 --   Fits S p s g            some filling turns p into g (document 01: g fits p)
 --   FitsOnce S p s g        exactly one filling turns p into g
---   Gives S p s v w f       f gives the variables of p the values of v, and its open places those of w
---   EachChoiceHasAFilling   any choice of ground terms of the sorts due is a filling's
---   EqualWhereTheyAgree     two fillings are equal exactly where they give the same values
---   OneFilling              no two fillings turn a pattern into the same ground term
 --
 use mathlib.Core.Path.{_≡_}
-use mathlib.Core.Bool.{true, cond}
+use mathlib.Core.Bool.{cond}
 use mathlib.Core.List.{List, [], _∷_, map}
-use mathlib.Core.Logic.{_↔_}
-use Prim.Native.Nat.{ℕ, _<_}
+use Prim.Native.Nat.{ℕ}
 use lib.Dec.{eqb}
-use lib.ListN.{length, getD, drop}
-use Rattle.terms.specs.Lists.{All, occurs, distinct}
+use lib.ListN.{getD, drop}
+use Rattle.terms.specs.Lists.{All, distinct}
 use Rattle.terms.specs.Signature.{Signature}
-use Rattle.terms.specs.Term.{Term, any, var, app, Terms, nil, cons, Ground, gapp, Grounds, gnil, gcons, SortedG, occurrences, Sorted, names, openSorts, openings}
+use Rattle.terms.specs.Term.{Term, any, var, app, Terms, nil, cons, Ground, gapp, Grounds, gnil, gcons, SortedG, occurrences, names, openSorts, openings}
 
 pub record Binding : Type 0 where
   pub name : ℕ
@@ -82,24 +77,3 @@ pub record FitsOnce (S : Signature) (p : Term) (s : ℕ) (g : Ground) : Type 0 w
   pub fills : IsFilling S p s filling
   pub turns : fill p filling ≡ g
   pub only : (f : Filling) → IsFilling S p s f → fill p f ≡ g → f ≡ filling
-
-pub record Gives (S : Signature) (p : Term) (s : ℕ) (v w : ℕ → Ground) (f : Filling) : Type 0 where
-  pub named : (n : ℕ) → occurs n (names p) ≡ true → valueOf (f .named) n ≡ v n
-  pub opened : (i : ℕ) → i < length (openSorts S p s) → openAt f i ≡ w i
-
-abbrev pub EachChoiceHasAFilling : Type 0
-EachChoiceHasAFilling =
-    (S : Signature) (p : Term) (s : ℕ) → Sorted S p s → (v w : ℕ → Ground) →
-    All (λ o. SortedG S (v (o .name)) (o .sort)) (occurrences S p s) →
-    ((i : ℕ) → i < length (openSorts S p s) → SortedG S (w i) (getD (openSorts S p s) i 0)) →
-    (f : Filling) × IsFilling S p s f × Gives S p s v w f
-
-abbrev pub EqualWhereTheyAgree : Type 0
-EqualWhereTheyAgree =
-    (S : Signature) (p : Term) (s : ℕ) (f h : Filling) → IsFilling S p s f → IsFilling S p s h →
-    (f ≡ h) ↔ Gives S p s (valueOf (h .named)) (openAt h) f
-
-abbrev pub OneFilling : Type 0
-OneFilling =
-    (S : Signature) (p : Term) (s : ℕ) (f h : Filling) → Sorted S p s → IsFilling S p s f → IsFilling S p s h →
-    fill p f ≡ fill p h → f ≡ h

@@ -1,10 +1,14 @@
--- The theory of document 01 on trees, with no byte in it.
--- Read in this order.
+-- The theory of document 01 on trees, with no byte in it. Each file rests only on those before it.
+-- What has to be believed:
 pub mod Lists
 pub mod Signature
 pub mod Term
 pub mod Filling
 pub mod Substitution
-pub mod Matcher
+pub mod Instance
 pub mod Inhabited
 pub mod Listing
+-- What is proved of it, and ways to compute it that laws fix:
+pub mod Laws
+pub mod Matcher
+pub mod Emptiness

@@ -2,15 +2,12 @@
 --
 --   others S f                  the other symbols of f's result sort, by ascending number
 --   allOpen ks                  open places, as many as there are sorts in ks
---   opened S f                  the symbol f with every place open
+--   bare S f                    the symbol f with every place open
 --   openEvery ts                ts with every place open
 --   listing S p, listingAll S ts   the entries, in document 01's order: of a pattern, of the places of a symbol
 --   withEntries S p             the pattern at index 0, and its entries behind it
 --   FitsExactlyOne S l s g      g fits exactly one entry of l, and exactly one filling turns that one into g
---   Partition                   every ground term fits exactly one of the pattern and its entries, by one filling
---   StrikeOut                   each entry has a ground term that fits it and nothing else
---   EntriesAreLinearPatterns    each entry is a linear pattern of the sort
---   ListingRepresents           the entries represent the non-instances (source 000, Definition 2.1)
+--   Needed S p l s i            some ground term fits entry i of l, and neither p nor any other entry
 --
 use mathlib.Core.Path.{_≡_}
 use mathlib.Core.Bool.{_&&_, not}
@@ -18,12 +15,10 @@ use mathlib.Core.List.{List, [], _∷_, _++_, map}
 use Prim.Native.Nat.{ℕ, _<_}
 use lib.Dec.{eqb}
 use lib.ListN.{length, getD}
-use Rattle.terms.specs.Lists.{All, range, keep}
-use Rattle.terms.specs.Signature.{Signature, result, arguments, WellFormed}
-use Rattle.terms.specs.Term.{Term, any, var, app, Terms, nil, cons, Ground, Sorted, SortedG, Linear}
+use Rattle.terms.specs.Lists.{range, keep}
+use Rattle.terms.specs.Signature.{Signature, result, arguments}
+use Rattle.terms.specs.Term.{Term, any, var, app, Terms, nil, cons, Ground, SortedG}
 use Rattle.terms.specs.Filling.{Fits, FitsOnce}
-use Rattle.terms.specs.Substitution.{withVariables, Represents}
-use Rattle.terms.specs.Inhabited.{Inhabited}
 
 -- Document 01: "every other word of the same result kind, by ascending number".
 abbrev pub others : Signature → ℕ → List ℕ
@@ -34,8 +29,8 @@ allOpen [] = nil
 allOpen (k ∷ ks) = cons any (allOpen ks)
 
 -- Document 01: a word "with written map 0".
-abbrev pub opened : Signature → ℕ → Term
-opened S f = app f (allOpen (arguments S f))
+abbrev pub bare : Signature → ℕ → Term
+bare S f = app f (allOpen (arguments S f))
 
 -- Document 01: "the higher places open".
 abbrev pub openEvery : Terms → Terms
@@ -49,7 +44,7 @@ abbrev mutual
   listing S (var n) = []
   -- "For a word: first every other word .. Then, for each written place from the lowest ..". An open
   -- place has no entry, so it is all one whether places that are not written are passed over.
-  listing S (app f ts) = map (opened S) (others S f) ++ map (app f) (listingAll S ts)
+  listing S (app f ts) = map (bare S) (others S f) ++ map (app f) (listingAll S ts)
 
   pub listingAll : Signature → Terms → List Terms
   listingAll S nil = []
@@ -60,31 +55,18 @@ abbrev mutual
 abbrev pub withEntries : Signature → Term → List Term
 withEntries S p = p ∷ listing S p
 
+-- Demand 3: a complete situation "fits exactly one .., and exactly one filling turns that one into it". Entries are told
+-- apart by where they stand.
 pub record FitsExactlyOne (S : Signature) (l : List Term) (s : ℕ) (g : Ground) : Type 0 where
   pub index : ℕ
   pub below : index < length l
   pub once : FitsOnce S (getD l index any) s g
   pub only : (j : ℕ) → j < length l → Fits S (getD l j any) s g → j ≡ index
 
--- Demand 3: every ground term of the sort "fits exactly one of the pattern and these entries, and
--- exactly one filling turns that one into it".
-abbrev pub Partition : Type 0
-Partition =
-    (S : Signature) (p : Term) (s : ℕ) → Sorted S p s → Linear p → (g : Ground) → SortedG S g s →
-    FitsExactlyOne S (withEntries S p) s g
-
-abbrev pub StrikeOut : Type 0
-StrikeOut =
-    (S : Signature) (p : Term) (s : ℕ) → WellFormed S → Inhabited S → Sorted S p s → Linear p →
-    (i : ℕ) → i < length (listing S p) →
-    (g : Ground) × SortedG S g s × Fits S (getD (listing S p) i any) s g × (Fits S p s g → ⊥) ×
-    ((j : ℕ) → j < length (listing S p) → Fits S (getD (listing S p) j any) s g → j ≡ i)
-
-abbrev pub EntriesAreLinearPatterns : Type 0
-EntriesAreLinearPatterns =
-    (S : Signature) (p : Term) (s : ℕ) → Sorted S p s → Linear p → All (λ e. Sorted S e s × Linear e) (listing S p)
-
-abbrev pub ListingRepresents : Type 0
-ListingRepresents =
-    (S : Signature) (p : Term) (s : ℕ) → Sorted S p s → Linear p →
-    Represents S s (withVariables S p s) (map (λ e. withVariables S e s) (listing S p))
+-- Demand 3: "there is a complete situation of that kind that fits this entry and neither the pattern nor any other entry".
+pub record Needed (S : Signature) (p : Term) (l : List Term) (s i : ℕ) : Type 0 where
+  pub situation : Ground
+  pub sorted : SortedG S situation s
+  pub fits : Fits S (getD l i any) s situation
+  pub notPattern : Fits S p s situation → ⊥
+  pub only : (j : ℕ) → j < length l → Fits S (getD l j any) s situation → j ≡ i

@@ -1,4 +1,4 @@
--- Lists: the few notions on lists that the theory needs beside the library's.
+-- Lists: the few notions on lists, and one on what may be missing, that are needed beside the library's.
 --
 --   All P l          P holds of each element of l
 --   occurs n l       n is an element of l
@@ -7,10 +7,12 @@
 --   distinct l       the numbers of l, each once, by first occurrence
 --   range from n     from, from + 1, .., n numbers in all
 --   keep test l      the elements of l that pass the test, in their order
+--   orElse o p       the first of two things that may be missing
 --
 use mathlib.Core.Path.{_≡_}
 use mathlib.Core.Bool.{Bool, false, cond, not, _||_}
 use mathlib.Core.List.{List, [], _∷_}
+use mathlib.Core.Option.{Option, some, none}
 use Prim.Native.Nat.{ℕ, zero, suc}
 use lib.Dec.{eqb}
 
@@ -40,3 +42,7 @@ distinct (n ∷ l) = n ∷ without n (distinct l)
 abbrev pub range : ℕ → ℕ → List ℕ
 range from zero = []
 range from (suc n) = from ∷ range (suc from) n
+
+abbrev pub orElse : {A : Type 0} → Option A → Option A → Option A
+orElse (some x) o = some x
+orElse none o = o

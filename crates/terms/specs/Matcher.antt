@@ -1,7 +1,8 @@
 -- Matcher: the filling that turns a pattern into a ground term, found from left to right.
 --
--- This file is an algorithm. MatcherIsExact fixes what it finds: an auditor may take it on its word.
+-- This file is an algorithm, and nothing in it has to be believed: MatcherIsExact fixes what it finds.
 --
+--   same g h, sameAll gs hs   g and h are the same ground term, gs and hs the same ground terms
 --   withOpen f g        the filling f with g given to one more open place
 --   withName f n g      the filling f with g given to the variable n, which f does not bind yet
 --   matchName n g f     f with what the variable n asks added, where it can cover g
@@ -11,7 +12,7 @@
 --   MatcherIsExact      it finds a filling exactly where there is one, and that one
 --
 use mathlib.Core.Path.{_≡_}
-use mathlib.Core.Bool.{true, false}
+use mathlib.Core.Bool.{Bool, true, false, _&&_}
 use mathlib.Core.List.{[], _∷_, _++_, map}
 use mathlib.Core.Logic.{_↔_}
 use mathlib.Core.Option.{Option, some, none}
@@ -19,8 +20,18 @@ use Prim.Native.Nat.{ℕ}
 use lib.Dec.{eqb}
 use Rattle.terms.specs.Lists.{occurs}
 use Rattle.terms.specs.Signature.{Signature}
-use Rattle.terms.specs.Term.{Term, any, var, app, Terms, nil, cons, Ground, gapp, Grounds, gnil, gcons, SortedG, Sorted, same}
+use Rattle.terms.specs.Term.{Term, any, var, app, Terms, nil, cons, Ground, gapp, Grounds, gnil, gcons, SortedG, Sorted}
 use Rattle.terms.specs.Filling.{Filling, valueOf, fill, IsFilling}
+
+abbrev mutual
+  pub same : Ground → Ground → Bool
+  same (gapp f gs) (gapp h hs) = eqb f h && sameAll gs hs
+
+  pub sameAll : Grounds → Grounds → Bool
+  sameAll gnil gnil = true
+  sameAll gnil (gcons h hs) = false
+  sameAll (gcons g gs) gnil = false
+  sameAll (gcons g gs) (gcons h hs) = same g h && sameAll gs hs
 
 abbrev pub withOpen : Filling → Ground → Filling
 withOpen f g = record { named = f .named; opened = f .opened ++ (g ∷ []) }

@@ -12,13 +12,10 @@
 --   Linear t                               no variable stands twice in t
 --   openSorts S t s, openSortsAll S ts ks  the sorts due at the open places, from left to right
 --   openings t, openingsAll ts             how many open places there are
---   same g h, sameAll gs hs                g and h are the same ground term, gs and hs the same ground terms
 --
 use mathlib.Core.Path.{_≡_}
-use mathlib.Core.Bool.{Bool, true, false, _&&_}
 use mathlib.Core.List.{List, [], _∷_, _++_}
 use Prim.Native.Nat.{ℕ, _+_, _<_}
-use lib.Dec.{eqb}
 use lib.ListN.{length}
 use Rattle.terms.specs.Lists.{All, NoneTwice}
 use Rattle.terms.specs.Signature.{Signature, result, arguments}
@@ -123,13 +120,3 @@ abbrev mutual
   pub openingsAll : Terms → ℕ
   openingsAll nil = 0
   openingsAll (cons t ts) = openings t + openingsAll ts
-
-abbrev mutual
-  pub same : Ground → Ground → Bool
-  same (gapp f gs) (gapp h hs) = eqb f h && sameAll gs hs
-
-  pub sameAll : Grounds → Grounds → Bool
-  sameAll gnil gnil = true
-  sameAll gnil (gcons h hs) = false
-  sameAll (gcons g gs) gnil = false
-  sameAll (gcons g gs) (gcons h hs) = same g h && sameAll gs hs

@@ -6,7 +6,7 @@ use native.Mathlib.Omega.{arith}
 use lib.Dec.{lit<}
 use lib.ListN.{length, drop, length-drop}
 use Rattle.wire.specs.Reply.{IsBytes}
-use Rattle.wire.specs.Reading.{offset}
+use Rattle.wire.specs.Parser.{offset}
 use Rattle.wire.specs.VocabularyLines.{byteAt}
 
 -- The bytes b have the byte x at offset i, and l behind it.
@@ -36,3 +36,8 @@ pub byte-small : (b : List ℕ) (i : ℕ) → IsBytes b → byteAt b i < 256
 byte-small [] i h = lit< tt
 byte-small (x ∷ b) zero h = h .0
 byte-small (x ∷ b) (suc i) h = byte-small b i (h .1)
+
+-- The contents of a slice are known to be bytes index by index.
+pub bytes-of : (l : List ℕ) → ((i : ℕ) → byteAt l i < 256) → IsBytes l
+bytes-of [] h = tt
+bytes-of (b ∷ l) h = (h 0, bytes-of l (λ i. h (suc i)))

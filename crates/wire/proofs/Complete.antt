@@ -10,12 +10,14 @@ use Rattle.terms.specs.Term.{Term, any, var, app, Terms, nil, cons, Ground, gap
 use Rattle.terms.proofs.Bools.{and-parts, or-parts}
 use Rattle.wire.specs.Map.{mapBytes, isOpen}
 use Rattle.wire.specs.Vocabulary.{Vocabulary, signature}
-use Rattle.wire.specs.Written.{GoodTerm, complete, completeAll, asTerm, asTerms, ground, grounds, encodeAt, someOpen, orElse, gapFrom, gapAll}
-use Rattle.wire.specs.Complete.{CompleteIsGround, NoGapIsComplete}
+use Rattle.wire.specs.TermBytes.{GoodTerm, complete, completeAll, asTerm, asTerms, encodeAt}
+use Rattle.wire.specs.SituationComputed.{ground, grounds, someOpen, gapFrom, gapAll}
+use Rattle.terms.specs.Lists.{orElse}
+use Rattle.wire.specs.Laws.{CompleteIsGround, NoGapIsComplete}
 
 -- A complete term is its ground term.
 mutual
-  complete-ground : (t : Term) → complete t ≡ true → t ≡ asTerm (ground t)
+  pub complete-ground : (t : Term) → complete t ≡ true → t ≡ asTerm (ground t)
   complete-ground any e = absurd (false≢true e)
   complete-ground (var n) e = absurd (false≢true e)
   complete-ground (app f ts) e = ap (app f) (complete-grounds ts e)

@@ -7,13 +7,13 @@ use lib.ListN.{length, length-append}
 use Rattle.terms.specs.Lists.{All}
 use Rattle.terms.specs.Signature.{Signature, arguments}
 use Rattle.terms.specs.Term.{Term, any, var, app, Terms, nil, cons, Sorted, names, Linear}
-use Rattle.terms.specs.Listing.{others, allOpen, opened, openEvery, listing, listingAll}
+use Rattle.terms.specs.Listing.{others, allOpen, bare, openEvery, listing, listingAll}
 use Rattle.terms.proofs.All.{all-always, all-implies, all-both, all-append, all-map}
 use Rattle.terms.proofs.Term.{linear-well-sorted}
 use Rattle.terms.proofs.Entries.{entries-names, entries-are-linear-patterns}
 use Rattle.wire.specs.Vocabulary.{Vocabulary, signature}
-use Rattle.wire.specs.Written.{encodeAt, encodeAll, encodeRoot, encodeTerm, GoodTerm, nameCount}
-use Rattle.wire.specs.Entries.{EntriesAreGood}
+use Rattle.wire.specs.TermBytes.{encodeAt, encodeAll, encodeRoot, encodeTerm, GoodTerm, nameCount}
+use Rattle.wire.specs.Laws.{EntriesAreGood}
 
 module _ (W : Vocabulary) where
   -- Open places take no byte.
@@ -25,7 +25,7 @@ module _ (W : Vocabulary) where
   open-every-bytes nil = refl
   open-every-bytes (cons t ts) = open-every-bytes ts
 
-  opened-short : (S : Signature) (h f : ℕ) (ts : Terms) → length (encodeAt W (opened S h)) ≤ length (encodeAt W (app f ts))
+  opened-short : (S : Signature) (h f : ℕ) (ts : Terms) → length (encodeAt W (bare S h)) ≤ length (encodeAt W (app f ts))
   opened-short S h f ts = omega (arith, ap length (open-bytes (arguments S h)))
 
   first-short : (e t : Term) (ts : Terms) → length (encodeAt W e) ≤ length (encodeAt W t) →
@@ -42,8 +42,8 @@ module _ (W : Vocabulary) where
     entries-short S any = tt
     entries-short S (var n) = tt
     entries-short S (app f ts) =
-        all-append (λ e. length (encodeAt W e) ≤ length (encodeAt W (app f ts))) (map (opened S) (others S f)) (map (app f) (listingAll S ts))
-        (all-map (λ e. length (encodeAt W e) ≤ length (encodeAt W (app f ts))) (opened S) (others S f)
+        all-append (λ e. length (encodeAt W e) ≤ length (encodeAt W (app f ts))) (map (bare S) (others S f)) (map (app f) (listingAll S ts))
+        (all-map (λ e. length (encodeAt W e) ≤ length (encodeAt W (app f ts))) (bare S) (others S f)
         (all-always _ (λ h. opened-short S h f ts) (others S f)))
         (all-map (λ e. length (encodeAt W e) ≤ length (encodeAt W (app f ts))) (app f) (listingAll S ts)
         (all-implies (λ es. length (encodeAll W es) ≤ length (encodeAll W ts)) _ (λ es h. omega arith) (listingAll S ts) (entries-short-all S ts)))
@@ -62,8 +62,8 @@ module _ (W : Vocabulary) where
   entries-short-root S any = tt
   entries-short-root S (var n) = tt
   entries-short-root S (app f ts) =
-      all-append (λ e. length (encodeRoot W e) ≤ length (encodeRoot W (app f ts))) (map (opened S) (others S f)) (map (app f) (listingAll S ts))
-      (all-map (λ e. length (encodeRoot W e) ≤ length (encodeRoot W (app f ts))) (opened S) (others S f)
+      all-append (λ e. length (encodeRoot W e) ≤ length (encodeRoot W (app f ts))) (map (bare S) (others S f)) (map (app f) (listingAll S ts))
+      (all-map (λ e. length (encodeRoot W e) ≤ length (encodeRoot W (app f ts))) (bare S) (others S f)
       (all-always _ (λ h. opened-short S h f ts) (others S f)))
       (all-map (λ e. length (encodeRoot W e) ≤ length (encodeRoot W (app f ts))) (app f) (listingAll S ts)
       (all-implies (λ es. length (encodeAll W es) ≤ length (encodeAll W ts)) _ (λ es h. omega arith) (listingAll S ts) (entries-short-all S ts)))

@@ -9,11 +9,13 @@ use lib.ListN.{length, length-append}
 use borrow.Author.Tests.{ltb-true, lt-ltb}
 use Rattle.terms.specs.Lists.{All}
 use Rattle.terms.specs.Term.{Consistent}
-use Rattle.wire.specs.Reply.{IsBytes}
+use Rattle.wire.specs.Reply.{IsBytes, Kinded, kinded}
 use Rattle.wire.specs.Vocabulary.{Vocabulary, InOrder}
-use Rattle.wire.specs.Written.{encodeRoot, encodeTerm, GoodTerm, deepest}
-use Rattle.wire.specs.Reading.{Got, got, stop, andThen, Read, readTerm, Kinded}
-use Rattle.wire.specs.Listed.{kinded, entriesBytes, readEntry, readEntries, EntriesInverse}
+use Rattle.wire.specs.TermBytes.{encodeRoot, encodeTerm, GoodTerm, deepest}
+use Rattle.wire.specs.Parser.{Got, got, stop, andThen, Read, readTerm}
+use Rattle.wire.specs.Leftovers.{entriesBytes}
+use Rattle.wire.specs.ListComputed.{readEntry, readEntries}
+use Rattle.wire.specs.Laws.{EntriesInverse}
 use Rattle.wire.proofs.Cond.{cond-true, choice}
 use Rattle.wire.proofs.Levels.{deepest-bytes}
 use Rattle.wire.proofs.WriteRead.{read-root}

@@ -20,12 +20,13 @@ use native.Mathlib.Omega.{arith}
 use Rattle.terms.specs.Lists.{All}
 use Rattle.terms.specs.Signature.{Signature, arguments}
 use Rattle.terms.specs.Term.{Term, any, var, app, Terms, nil, cons}
-use Rattle.terms.specs.Listing.{others, allOpen, opened, openEvery, listing, listingAll}
+use Rattle.terms.specs.Listing.{others, allOpen, bare, openEvery, listing, listingAll}
 use Rattle.terms.proofs.All.{all-always, all-implies, all-append, all-map}
 use Rattle.wire.specs.Map.{writeMap, flags, number, isOpen, writtenFlags}
 use Rattle.wire.specs.Vocabulary.{Vocabulary, signature, mapOf}
-use Rattle.wire.specs.Written.{writtenMap, encodeAt, encodeAll, encodeTerm}
-use Rattle.wire.specs.Listed.{kinded, entriesBytes, entriesOf}
+use Rattle.wire.specs.TermBytes.{writtenMap, encodeAt, encodeAll, encodeTerm}
+use Rattle.wire.specs.Reply.{kinded}
+use Rattle.wire.specs.Leftovers.{entriesBytes, entriesOf}
 use Rattle.wire.proofs.Entries.{open-bytes, open-every-bytes}
 
 abbrev pub above : Terms → Terms → Terms
@@ -107,7 +108,7 @@ written-none (true ∷ ps) (k ∷ ks) = omega (arith, written-none ps ks)
 -- ---- one entry
 
 -- Another word with every place open is its number and the map 0.
-opened-bytes : (W : Vocabulary) (h : ℕ) → encodeAt W (opened (signature W) h) ≡ h ∷ writeMap 0
+opened-bytes : (W : Vocabulary) (h : ℕ) → encodeAt W (bare (signature W) h) ≡ h ∷ writeMap 0
 opened-bytes W h =
     ap₂ (λ m l. h ∷ (writeMap m ++ l)) (written-none (flags (mapOf W h)) (arguments (signature W) h)) (open-bytes W (arguments (signature W) h))
 
@@ -128,8 +129,8 @@ entries-closed : (S : Signature) (t : Term) → All (λ e. isOpen e ≡ isOpen t
 entries-closed S any = tt
 entries-closed S (var n) = tt
 entries-closed S (app f ts) =
-    all-append (λ e. isOpen e ≡ false) (map (opened S) (others S f)) (map (app f) (listingAll S ts))
-    (all-map (λ e. isOpen e ≡ false) (opened S) (others S f) (all-always _ (λ h. refl) (others S f)))
+    all-append (λ e. isOpen e ≡ false) (map (bare S) (others S f)) (map (app f) (listingAll S ts))
+    (all-map (λ e. isOpen e ≡ false) (bare S) (others S f) (all-always _ (λ h. refl) (others S f)))
     (all-map (λ e. isOpen e ≡ false) (app f) (listingAll S ts) (all-always _ (λ es. refl) (listingAll S ts)))
 
 -- ---- all entries
@@ -149,9 +150,9 @@ module _ (W : Vocabulary) where
     entries-written (var n) front = refl
     entries-written (app f ts) front =
         let S : Signature = signature W in
-        map-append (λ e. front ++ encodeAt W e) (map (opened S) (others S f)) (map (app f) (listingAll S ts))
+        map-append (λ e. front ++ encodeAt W e) (map (bare S) (others S f)) (map (app f) (listingAll S ts))
         ∙ ap₂ (λ l m. l ++ m)
-        (map-map (λ e. front ++ encodeAt W e) (opened S) (others S f)
+        (map-map (λ e. front ++ encodeAt W e) (bare S) (others S f)
         ∙ map-always _ (λ h. front ++ (h ∷ writeMap 0)) (others S f) (λ h. ap (λ l. front ++ l) (opened-bytes W h)))
         (map-map (λ e. front ++ encodeAt W e) (app f) (listingAll S ts) ∙ entries-written-all ts f nil front)
 

@@ -18,9 +18,9 @@ use Rattle.terms.specs.Lists.{All}
 use Rattle.terms.specs.Term.{Term, any, var, app, Terms, nil, cons, Sorted, SortedAll}
 use Rattle.wire.specs.Map.{flags, bit, ones, isOpen, writtenFlags}
 use Rattle.wire.specs.Vocabulary.{Vocabulary, InOrder, signature, word, mapOf}
-use Rattle.wire.specs.Written.{firstNameByte, writtenMap, encodeAt, encodeAll, encodeRoot, encodeTerm}
-use Rattle.wire.specs.Reading.{Kinded}
-use Rattle.wire.specs.Listed.{entriesBytes}
+use Rattle.wire.specs.TermBytes.{firstNameByte, writtenMap, encodeAt, encodeAll, encodeRoot, encodeTerm}
+use Rattle.wire.specs.Reply.{Kinded}
+use Rattle.wire.specs.Leftovers.{entriesBytes}
 use Rattle.wire.proofs.Cond.{cond-true, cond-false}
 use Rattle.wire.proofs.Map.{flags-written}
 use Rattle.wire.proofs.Words.{length-symbols, arguments-word, word-in-order}

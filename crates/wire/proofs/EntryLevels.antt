@@ -6,9 +6,9 @@ use native.Mathlib.Omega.{arith}
 use Rattle.terms.specs.Lists.{All}
 use Rattle.terms.specs.Signature.{Signature, arguments}
 use Rattle.terms.specs.Term.{Term, any, var, app, Terms, nil, cons}
-use Rattle.terms.specs.Listing.{others, allOpen, opened, openEvery, listing, listingAll}
+use Rattle.terms.specs.Listing.{others, allOpen, bare, openEvery, listing, listingAll}
 use Rattle.terms.proofs.All.{all-always, all-implies, all-append, all-map}
-use Rattle.wire.specs.Written.{levels, levelsAll, deepest}
+use Rattle.wire.specs.TermBytes.{levels, levelsAll, deepest}
 
 -- Open places take no level.
 open-levels : (ks : List ℕ) → levelsAll (allOpen ks) ≡ 0
@@ -24,8 +24,8 @@ mutual
   entries-levels S any = tt
   entries-levels S (var n) = tt
   entries-levels S (app f ts) =
-      all-append (λ e. levels e ≤ levels (app f ts)) (map (opened S) (others S f)) (map (app f) (listingAll S ts))
-      (all-map (λ e. levels e ≤ levels (app f ts)) (opened S) (others S f)
+      all-append (λ e. levels e ≤ levels (app f ts)) (map (bare S) (others S f)) (map (app f) (listingAll S ts))
+      (all-map (λ e. levels e ≤ levels (app f ts)) (bare S) (others S f)
       (all-always _ (λ h. omega (arith, open-levels (arguments S h))) (others S f)))
       (all-map (λ e. levels e ≤ levels (app f ts)) (app f) (listingAll S ts)
       (all-implies (λ es. levelsAll es ≤ levelsAll ts) _ (λ es h. omega arith) (listingAll S ts) (entries-levels-all S ts)))

@@ -17,7 +17,7 @@ use Rattle.terms.specs.Term.{Term, any, var, app, Terms, nil, cons, Sorted, Sor
 use Rattle.terms.specs.Listing.{openEvery}
 use Rattle.wire.specs.Map.{writeMap, flags, bit, number, ones, isOpen, writtenFlags}
 use Rattle.wire.specs.Vocabulary.{Vocabulary, InOrder, signature, word, mapOf}
-use Rattle.wire.specs.Written.{writtenMap, encodeAt, encodeAll}
+use Rattle.wire.specs.TermBytes.{writtenMap, encodeAt, encodeAll}
 use Rattle.wire.proofs.Map.{number-lt, flags-written}
 use Rattle.wire.proofs.Words.{length-symbols, arguments-word, word-in-order}
 use Rattle.wire.proofs.EntryBytes.{above, upTo, Spot, spots, spotsAll, above-snoc, above-bytes}
@@ -61,10 +61,6 @@ number-kept low fs =
 number-above : (low fs : List Bool) → number fs ≡ 0 → number (low ++ fs) ≡ number low
 number-above [] fs e = e
 number-above (b ∷ low) fs e = ap (λ k. bit b + 2 * k) (number-above low fs e)
-
--- Once no bit stands above, it is the whole map again.
-pub kept-last : (low fs : List Bool) → number fs ≡ 0 → number (low ++ fs) % 2 ^ length low ≡ number (low ++ fs)
-kept-last low fs e = number-kept low fs ∙ sym (number-above low fs e)
 
 -- Places of which none is written have no bit.
 written-empty : (ps : List Bool) (ts : Terms) → number (writtenFlags ps (openEvery ts)) ≡ 0

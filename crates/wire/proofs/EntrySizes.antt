@@ -16,12 +16,13 @@ use lib.ListN.{length, length-append, length-map}
 use borrow.Author.Tests.{lt-ltb, le-ltb}
 use Rattle.terms.specs.Signature.{Signature, arguments}
 use Rattle.terms.specs.Term.{Term, any, var, app, Terms, nil, cons, Sorted, SortedAll}
-use Rattle.terms.specs.Listing.{others, opened, openEvery, listing, listingAll}
+use Rattle.terms.specs.Listing.{others, bare, openEvery, listing, listingAll}
 use Rattle.wire.specs.Map.{mapBytes, writeMap}
 use Rattle.wire.specs.Vocabulary.{Vocabulary, InOrder, signature}
-use Rattle.wire.specs.Written.{firstNameByte, nameByte, wholeByte, writtenMap, encodeAt, encodeAll, encodeTerm, GoodTerm}
-use Rattle.wire.specs.Reading.{isWord}
-use Rattle.wire.specs.Listed.{kinded, entriesBytes, entriesOf}
+use Rattle.wire.specs.TermBytes.{firstNameByte, nameByte, wholeByte, writtenMap, encodeAt, encodeAll, encodeTerm, GoodTerm}
+use Rattle.wire.specs.Parser.{isWord}
+use Rattle.wire.specs.Reply.{kinded}
+use Rattle.wire.specs.Leftovers.{entriesBytes, entriesOf}
 use Rattle.wire.proofs.Cond.{cond-true, cond-false}
 use Rattle.wire.proofs.Words.{length-symbols}
 use Rattle.wire.proofs.EntryBytes.{above, upTo, spots, spotsAll, othersBytes, spotsBytes, above-bytes, spots-bytes-append, entries-bytes}
@@ -62,8 +63,8 @@ mutual
   counted-entries W (var n) at = refl
   counted-entries W (app f ts) at =
       let S : Signature = signature W in
-      length-append (map (opened S) (others S f)) (map (app f) (listingAll S ts))
-      ∙ ap₂ _+_ (length-map (others S f) (opened S)) (length-map (listingAll S ts) (app f) ∙ counted-entries-all W ts (at + 1 + mapBytes))
+      length-append (map (bare S) (others S f)) (map (app f) (listingAll S ts))
+      ∙ ap₂ _+_ (length-map (others S f) (bare S)) (length-map (listingAll S ts) (app f) ∙ counted-entries-all W ts (at + 1 + mapBytes))
 
   counted-entries-all : (W : Vocabulary) (ts : Terms) (at : ℕ) → length (listingAll (signature W) ts) ≡ summedAll W (countAt W) ts at
   counted-entries-all W nil at = refl

@@ -15,10 +15,10 @@ use lib.Seq.{length-take-le, take-at, set-at}
 use Rattle.terms.specs.Term.{Term, any, var, app, Terms, nil, cons, Sorted, SortedAll}
 use Rattle.wire.specs.Map.{mapBits, mapBytes, writeMap, flagsIn, flags, number, ones, isOpen, writtenFlags}
 use Rattle.wire.specs.Vocabulary.{Vocabulary, InOrder, signature, word, mapOf}
-use Rattle.wire.specs.Written.{writtenMap, encodeAt, encodeAll}
+use Rattle.wire.specs.TermBytes.{writtenMap, encodeAt, encodeAll}
 use Rattle.wire.proofs.Map.{length-flagsIn, number-flags, flags-written}
 use Rattle.wire.proofs.Words.{length-symbols, arguments-word, word-in-order}
-use Rattle.wire.proofs.EntryMaps.{closed, closed-bytes, kept-last}
+use Rattle.wire.proofs.EntryMaps.{closed, closed-bytes}
 
 abbrev pub Stands : Vocabulary → List Bool → Terms → Type 0
 Stands W [] nil = Unit {0}
@@ -55,12 +55,6 @@ closed-stands W inOrder f ts s sorted =
     (written-stands W (flags (mapOf W f)) ts (word W f .kinds) (word-in-order W f inOrder known .count)
     (subst (SortedAll (signature W) ts) (arguments-word W f) (sorted .2)))
 
--- No term, no bit.
-pub stands-none : (W : Vocabulary) (ws : List Bool) → Stands W ws nil → number ws ≡ 0
-stands-none W [] h = refl
-stands-none W (false ∷ ws) h = omega (arith, stands-none W ws h)
-stands-none W (true ∷ ws) h = absurd h
-
 -- ---- the bits of a map by their numbers
 
 flagsIn-drop : (b d m : ℕ) → b ≤ d → drop b (flagsIn d m) ≡ flagsIn (d - b) (m / 2 ^ b)
@@ -78,14 +72,6 @@ flags-at b m h =
     ∙ ap (λ d. flagsIn d (m / 2 ^ b)) (let e : mapBits - b ≡ suc (mapBits - suc b) = omega arith in e)
     ∙ ap (λ n. eqb (m / 2 ^ b % 2) 1 ∷ flagsIn (mapBits - suc b) n) (div-div-eq-div-mul m (2 ^ b) 2 ∙ ap (λ k. m / k) (sym (pow-suc 2 b)))
     ∙ ap (λ l. eqb (m / 2 ^ b % 2) 1 ∷ l) (sym (flagsIn-drop (suc b) mapBits m (omega arith)))
-
--- Where no bit stands from b on, what is kept below it is the whole map.
-pub kept-whole : (m b : ℕ) → m < 2 ^ mapBits → b ≤ mapBits → number (drop b (flags m)) ≡ 0 → m % 2 ^ b ≡ m
-kept-whole m b low h e =
-    let fs : List Bool = flags m in
-    let whole : number (take b fs ++ drop b fs) ≡ m = ap number (take-append-drop b fs) ∙ number-flags m low in
-    let long : length (take b fs) ≡ b = length-take-le b fs (omega (arith, length-flagsIn mapBits m)) in
-    ap₂ (λ k n. k % 2 ^ n) (sym whole) (sym long) ∙ kept-last (take b fs) (drop b fs) e ∙ whole
 
 -- ---- one copy of the pattern for all entries
 

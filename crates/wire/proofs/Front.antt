@@ -6,8 +6,8 @@ use Prim.Native.Nat.{ℕ, max}
 use native.Mathlib.Omega.{arith}
 use Rattle.terms.specs.Term.{Term}
 use Rattle.wire.specs.Vocabulary.{Vocabulary, InOrder}
-use Rattle.wire.specs.Written.{encodeRoot, encodeTerm, GoodTerm, deepest}
-use Rattle.wire.specs.Reading.{got, Read, readTerm}
+use Rattle.wire.specs.TermBytes.{encodeRoot, encodeTerm, GoodTerm, deepest}
+use Rattle.wire.specs.Parser.{got, Read, readTerm}
 use Rattle.wire.proofs.WriteRead.{read-root}
 
 pub got-same : (a b : Read) (r r′ : List ℕ) → got a r ≡ got b r′ → (a .term ≡ b .term) × (r ≡ r′)

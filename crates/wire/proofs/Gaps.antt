@@ -11,8 +11,11 @@ use Rattle.terms.specs.Signature.{arguments}
 use Rattle.terms.specs.Term.{Term, any, var, app, Terms, nil, cons, Sorted, SortedAll}
 use Rattle.wire.specs.Map.{mapBytes}
 use Rattle.wire.specs.Vocabulary.{Vocabulary, signature, word, InOrder}
-use Rattle.wire.specs.Written.{encodeAt, encodeAll, someOpen, orElse, gapFrom, gapAll, firstGap}
-use Rattle.wire.specs.Situation.{GapAt, GapsAt, Gap, FirstGap, FirstGapIsExact}
+use Rattle.wire.specs.TermBytes.{encodeAt, encodeAll}
+use Rattle.wire.specs.SituationComputed.{someOpen, gapFrom, gapAll, firstGap}
+use Rattle.terms.specs.Lists.{orElse}
+use Rattle.wire.specs.SituationLines.{GapAt, GapsAt, Gap, FirstGap}
+use Rattle.wire.specs.Laws.{FirstGapIsExact}
 use Rattle.wire.proofs.FullMap.{full-map-means-no-open-place}
 use Rattle.wire.proofs.Words.{length-symbols, arguments-word}
 

@@ -17,7 +17,8 @@ use Rattle.terms.specs.Signature.{Signature, result, arguments}
 use Rattle.terms.specs.Term.{Ground, gapp, Grounds, gnil, gcons, SortedAll, SortedG, SortedGs}
 use Rattle.wire.specs.Map.{mapBytes, writeMap, flags, ones, isOpen}
 use Rattle.wire.specs.Vocabulary.{Vocabulary, signature, mapOf, InOrder}
-use Rattle.wire.specs.Written.{writtenMap, encodeAt, encodeAll, encodeRoot, wordCount, wordCountAll, asTerm, asTerms, ground, grounds, someOpen}
+use Rattle.wire.specs.TermBytes.{writtenMap, encodeAt, encodeAll, encodeRoot, wordCount, wordCountAll, asTerm, asTerms}
+use Rattle.wire.specs.SituationComputed.{ground, grounds, someOpen}
 use Rattle.wire.specs.Matching.{size}
 use Rattle.wire.proofs.Complete.{ground-sorted, ground-good}
 use Rattle.wire.proofs.Front.{root-front}
@@ -55,9 +56,6 @@ module _ (W : Vocabulary) where
         let k = sizes-words gs in
         omega (arith, length-append (encodeAt W (asTerm g)) (encodeAll W (asTerms gs)))
 
-  pub size-node : (f : ℕ) (gs : Grounds) → size W (gapp f gs) ≡ 1 + mapBytes + length (encodeAll W (asTerms gs))
-  size-node f gs = omega arith
-
   pub size-least : (g : Ground) → 2 ≤ size W g
   size-least (gapp f gs) = omega arith
 
@@ -84,10 +82,6 @@ joined-bytes W gnil hs = refl
 joined-bytes W (gcons g gs) hs =
     ap (λ l. encodeAt W (asTerm g) ++ l) (joined-bytes W gs hs)
     ∙ sym (append-assoc (encodeAt W (asTerm g)) (encodeAll W (asTerms gs)) (encodeAll W (asTerms hs)))
-
-pub joined-words : (gs hs : Grounds) → wordCountAll (asTerms (joined gs hs)) ≡ wordCountAll (asTerms gs) + wordCountAll (asTerms hs)
-joined-words gnil hs = omega arith
-joined-words (gcons g gs) hs = let h = joined-words gs hs in omega arith
 
 module _ (W : Vocabulary) (inOrder : InOrder W) where
   pub known-word : (f : ℕ) (gs : Grounds) (s : ℕ) → SortedG (signature W) (gapp f gs) s → f < length (W .words)

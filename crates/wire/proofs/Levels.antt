@@ -5,7 +5,7 @@ use lib.ListN.{length, length-append}
 use Rattle.terms.specs.Term.{Term, any, var, app, Terms, nil, cons}
 use Rattle.wire.specs.Map.{writeMap}
 use Rattle.wire.specs.Vocabulary.{Vocabulary}
-use Rattle.wire.specs.Written.{writtenMap, encodeAt, encodeAll, encodeRoot, levels, levelsAll, deepest}
+use Rattle.wire.specs.TermBytes.{writtenMap, encodeAt, encodeAll, encodeRoot, levels, levelsAll, deepest}
 
 module _ (W : Vocabulary) where
   mutual

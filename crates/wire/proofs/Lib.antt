@@ -12,7 +12,6 @@ pub mod Bytes
 pub mod WordsSteps
 pub mod VocabularyWritten
 pub mod Records
-pub mod RecordBytes
 pub mod Parts
 pub mod WordsRead
 pub mod VocabularyRead
@@ -42,7 +41,7 @@ pub mod SituationRefusals
 -- On matching.
 pub mod GroundBytes
 pub mod Inputs
-pub mod CheckPromises
+pub mod Checking
 pub mod MatchRefusals
 pub mod Pending
 pub mod Spans
@@ -51,7 +50,6 @@ pub mod Matching
 pub mod PartTable
 -- On listing.
 pub mod Repeats
-pub mod NameOffsets
 pub mod LinearRefusals
 pub mod EntryLevels
 pub mod EntriesRead

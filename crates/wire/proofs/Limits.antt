@@ -4,9 +4,10 @@ use mathlib.Core.Bool.{Bool, true, false, cond}
 use Prim.Native.Nat.{ℕ}
 use native.Mathlib.Omega.{arith}
 use lib.ListN.{length}
-use Rattle.wire.specs.Reply.{Reading, accept, refuse, outside}
-use Rattle.wire.specs.Reading.{Kinded, readWhole}
-use Rattle.wire.specs.Checks.{mostBytes, mostLevels, LimitsAreATest, leastBytes}
+use Rattle.wire.specs.Parser.{Reading, accept, refuse, readWhole}
+use Rattle.wire.specs.Reply.{outside, Kinded}
+use Rattle.wire.specs.TermBytes.{mostBytes, mostLevels, leastBytes}
+use Rattle.wire.specs.Laws.{LimitsAreATest}
 use Rattle.wire.proofs.Outside.{outside-false, inside-outside}
 use Rattle.wire.proofs.Relevel.{whole-relevels}
 

@@ -6,14 +6,16 @@ use mathlib.Core.Option.{Option, some, none}
 use Prim.Native.Nat.{ℕ, _≤_}
 use native.Mathlib.Omega.{arith}
 use Rattle.terms.specs.Term.{Term}
-use Rattle.wire.specs.Reply.{Reading, accept, refuse}
+use Rattle.wire.specs.Parser.{Reading, accept, refuse}
 use Rattle.wire.specs.Vocabulary.{Vocabulary, InOrder}
-use Rattle.wire.specs.Written.{encodeTerm, GoodTerm}
-use Rattle.wire.specs.Reading.{Kinded}
-use Rattle.wire.specs.Checks.{checkedTerm}
-use Rattle.wire.specs.Refusals.{rank, Sooner, Decides, RefusesBy}
+use Rattle.wire.specs.TermBytes.{encodeTerm, GoodTerm}
+use Rattle.wire.specs.Reply.{Kinded, kinded}
+use Rattle.wire.specs.CheckComputed.{checkedTerm}
+use Rattle.wire.specs.Refusals.{rank, Sooner, Decides}
+use Rattle.wire.specs.Laws.{RefusesBy, LinearRefusals}
 use Rattle.wire.specs.TermLines.{TermLine}
-use Rattle.wire.specs.Listed.{placed, RepeatedAt, repeatedIn, PatternLine, asTerm, twice, linearOf, linearIn, checkedLinear, kinded, LinearRefusals}
+use Rattle.wire.specs.PatternLines.{sightings, RepeatedAt, PatternLine, everyTerm, twice}
+use Rattle.wire.specs.ListComputed.{repeatedIn, linearOf, linearIn, checkedLinear}
 use Rattle.wire.proofs.Refusals.{refuses-by, Judged}
 use Rattle.wire.proofs.Front.{term-front}
 use Rattle.wire.proofs.Limits.{limits-are-a-test}
@@ -24,13 +26,13 @@ use Rattle.wire.proofs.Repeats.{repeated-is-exact}
 
 -- The term is refused, so the pattern is.
 term-decides : (W : Vocabulary) (b : List ℕ) (n q : ℕ) → Decides (TermLine W b) n q → Decides (PatternLine W b) n q
-term-decides W b n q d = record { fits = asTerm n q (d .fits); first = λ m r h. first h }
+term-decides W b n q d = record { fits = everyTerm n q (d .fits); first = λ m r h. first h }
   where
     low : rank n ≤ 15
     low = term-rank W b (d .fits)
 
     first : {m r : ℕ} → PatternLine W b m r → Sooner n q m r
-    first (asTerm m r h) = d .first m r h
+    first (everyTerm m r h) = d .first m r h
     first (twice s t l r good e g) = inl (omega (arith, low))
 
 -- The bytes are the writing of a good term, and none of lines 7 to 15 fits.
@@ -38,19 +40,19 @@ module _ (W : Vocabulary) (inOrder : InOrder W) (b : List ℕ) (s : ℕ) (t : Te
     (written : b ≡ encodeTerm W s t) (clear : (n q : ℕ) → TermLine W b n q → ⊥) where
   -- Only the names of this very term are repeated, and one place is the earliest.
   repeated-here : (s′ : ℕ) (u : Term) (r : List ℕ) (q : ℕ) → GoodTerm W s′ u → b ≡ encodeTerm W s′ u ++ r →
-      RepeatedAt (placed W u) q → repeatedIn [] (placed W t) ≡ some q
+      RepeatedAt (sightings W u) q → repeatedIn [] (sightings W t) ≡ some q
   repeated-here s′ u r q good′ e g =
       let front = term-front W inOrder s s′ t u [] r good good′ (append-nil (encodeTerm W s t) ∙ sym written ∙ e) in
-      repeated-is-exact (placed W t) q .1 (subst (λ u. RepeatedAt (placed W u) q) (sym (front .1)) g)
+      repeated-is-exact (sightings W t) q .1 (subst (λ u. RepeatedAt (sightings W u) q) (sym (front .1)) g)
 
-  repeated-judged : (o : Option ℕ) → repeatedIn [] (placed W t) ≡ o → Judged (PatternLine W b) (linearOf (kinded s t) o)
+  repeated-judged : (o : Option ℕ) → repeatedIn [] (sightings W t) ≡ o → Judged (PatternLine W b) (linearOf (kinded s t) o)
   repeated-judged (some q) e = record {
-    fits = twice s t [] q good (written ∙ sym (append-nil (encodeTerm W s t))) (repeated-is-exact (placed W t) q .0 e);
+    fits = twice s t [] q good (written ∙ sym (append-nil (encodeTerm W s t))) (repeated-is-exact (sightings W t) q .0 e);
     first = λ m r h. first h;
   }
     where
       first : {m r : ℕ} → PatternLine W b m r → Sooner 18 q m r
-      first (asTerm m r h) = absurd (clear m r h)
+      first (everyTerm m r h) = absurd (clear m r h)
       first (twice s′ u l r good′ e′ g) =
           let h = repeated-here s′ u l r good′ e′ g in
           let same : q ≡ r = cc in
@@ -58,7 +60,7 @@ module _ (W : Vocabulary) (inOrder : InOrder W) (b : List ℕ) (s : ℕ) (t : Te
   repeated-judged none e = λ n q h. line h
     where
       line : {m r : ℕ} → PatternLine W b m r → ⊥
-      line (asTerm m r h) = clear m r h
+      line (everyTerm m r h) = clear m r h
       line (twice s′ u l r good′ e′ g) =
           let h = repeated-here s′ u l r good′ e′ g in
           let z : _≡_ {A = ℕ} 0 1 = cc in omega arith
@@ -74,4 +76,4 @@ linear-refusals W b inOrder bytes = refuses-by (PatternLine W b) (checkedLinear 
     go (accept x) e =
         let read = terms-inverse W b (x .kind) (x .term) inOrder bytes .0 (limits-are-a-test W b x .0 e .0) in
         repeated-judged W inOrder b (x .kind) (x .term) (read .0) (read .1)
-        (λ n q h. refusals .some .0 (n, q, h) x e) (repeatedIn [] (placed W (x .term))) refl
+        (λ n q h. refusals .some .0 (n, q, h) x e) (repeatedIn [] (sightings W (x .term))) refl

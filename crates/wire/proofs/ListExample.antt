@@ -6,19 +6,17 @@
 --   incident-only     .. and neither the pattern nor another entry
 --
 use mathlib.Core.Path.{_≡_, refl, sym, ap, subst, _∙_}
-use mathlib.Core.Bool.{cond}
-use mathlib.Core.List.{List, [], _∷_, _++_}
+use mathlib.Core.List.{List, [], _∷_}
 use Prim.Native.Nat.{ℕ, _<_}
 use native.Mathlib.Omega.{arith}
-use lib.Dec.{leb}
-use lib.ListN.{length, getD, drop}
+use lib.ListN.{length, getD}
 use Rattle.terms.specs.Term.{Term, any, app, nil, cons, Ground, gapp, gnil, gcons, Sorted, SortedG}
 use Rattle.terms.specs.Filling.{Fits}
 use Rattle.terms.specs.Matcher.{noFilling}
 use Rattle.terms.proofs.Theorems.{matcher-is-exact}
-use Rattle.wire.specs.Reply.{Reply, accepted, refused, IsBytes}
+use Rattle.wire.specs.Reply.{Reply, accepted, IsBytes}
 use Rattle.wire.specs.Vocabulary.{Word, Vocabulary, signature}
-use Rattle.wire.specs.Listed.{entriesBytes, entriesOf, Listed, Pattern, Entries, ListPromise}
+use Rattle.wire.specs.Leftovers.{HoldsPattern, Entries, ListPromise}
 use Rattle.wire.specs.Starred.{A, waitUpFree}
 use Rattle.wire.proofs.Listed.{pattern-read, pattern-is-one}
 
@@ -48,7 +46,7 @@ A-bytes = omega arith
 p-bytes : IsBytes waitUpFree
 p-bytes = omega arith
 
-written : Pattern A waitUpFree W 0 pattern
+written : HoldsPattern A waitUpFree W 0 pattern
 written = pattern-read A waitUpFree W (record { kind = 0; term = pattern }) A-bytes p-bytes refl refl
 
 -- wait(up, full) as a pattern.
@@ -66,18 +64,13 @@ up-full-fits =
 -- The promise at 15 lent bytes, whatever they are.
 module _ (before after : List ℕ) (r : Reply) (fifteen : length before ≡ 15) (m : ListPromise A waitUpFree before after r) where
   pub says-three : r ≡ accepted (3 ∷ 15 ∷ [])
-  says-three = m .reply ∙ ap (λ n. into n .reply) fifteen
-    where
-      into : ℕ → Listed
-      into n =
-          let b : List ℕ = entriesBytes W (entriesOf W 0 pattern) in
-          cond (leb 15 n) (record { reply = accepted (3 ∷ 15 ∷ []); out = b ++ drop 15 before }) (record { reply = refused 20 3 15; out = before })
+  says-three = m .answered (3 ∷ 15 ∷ []) .1 (W, 0, pattern, written, omega arith, refl)
 
   -- What stands in the slice after the call.
   pub entries-of-A : Entries W 0 pattern waitUpFree 3 15 after
   entries-of-A = go (m .entries 3 15 says-three)
     where
-      go : (W′ : Vocabulary) × (s : ℕ) × (t : Term) × Pattern A waitUpFree W′ s t × Entries W′ s t waitUpFree 3 15 after →
+      go : (W′ : Vocabulary) × (s : ℕ) × (t : Term) × HoldsPattern A waitUpFree W′ s t × Entries W′ s t waitUpFree 3 15 after →
           Entries W 0 pattern waitUpFree 3 15 after
       go (W′, s, t, h, e) =
           let same = pattern-is-one A waitUpFree W′ W s 0 t pattern A-bytes p-bytes h written in
@@ -85,16 +78,16 @@ module _ (before after : List ℕ) (r : Reply) (fifteen : length before ≡ 15) 
           (subst (λ s. Entries W s t waitUpFree 3 15 after) (same .1)
           (subst (λ U. Entries U s t waitUpFree 3 15 after) (same .0) e))
 
-  -- The entries that are read off the slice.
-  abbrev read : List Term
-  read = entries-of-A .entries
+  -- The entries that stand in the slice.
+  abbrev standing : List Term
+  standing = entries-of-A .entries
 
-  pub incident-listed : Fits (signature W) (getD read 2 any) 0 incident
+  pub incident-listed : Fits (signature W) (getD standing 2 any) 0 incident
   incident-listed =
       subst (λ e. Fits (signature W) e 0 incident) (sym (ap (λ l. getD l 2 any) (entries-of-A .order))) up-full-fits
 
-  pub incident-only : (j : ℕ) → j < 4 → Fits (signature W) (getD (pattern ∷ read) j any) 0 incident → j ≡ 3
+  pub incident-only : (j : ℕ) → j < 4 → Fits (signature W) (getD (pattern ∷ standing) j any) 0 incident → j ≡ 3
   incident-only j b h =
       let one = entries-of-A .once incident incident-sorted in
-      let three : length (pattern ∷ read) ≡ 4 = ap (λ l. length (pattern ∷ l)) (entries-of-A .order) in
+      let three : length (pattern ∷ standing) ≡ 4 = ap (λ l. length (pattern ∷ l)) (entries-of-A .order) in
       one .only j (omega arith) h ∙ sym (one .only 3 (omega arith) incident-listed)

@@ -1,4 +1,4 @@
--- Listed: the definition of list's reply and lent slice keeps what list promises.
+-- Listed: what is computed of list's reply and lent slice keeps what list promises.
 use mathlib.Core.Path.{_≡_, refl, sym, ap, _∙_, subst}
 use mathlib.Core.Bool.{Bool, true, false, cond}
 use mathlib.Core.List.{List, [], _∷_, _++_}
@@ -6,39 +6,41 @@ use mathlib.Core.Option.{Option, some, none}
 use Prim.Native.Nat.{ℕ, _≤_}
 use native.Mathlib.Omega.{arith}
 use lib.Dec.{leb}
-use lib.ListN.{length, take, drop, length-append}
-use lib.Seq.{take-at}
+use lib.ListN.{length, take, drop, length-append, length-map}
+use lib.Seq.{take-at, drop-at}
 use borrow.Author.Tests.{leb-true, leb-false, le-leb, lt-leb}
 use Rattle.terms.specs.Lists.{All}
 use Rattle.terms.specs.Term.{Term, Linear}
 use Rattle.terms.specs.Listing.{listing}
 use Rattle.terms.proofs.All.{all-implies, all-both, all-map}
 use Rattle.terms.proofs.Theorems.{partition, strike-out, listing-represents}
-use Rattle.wire.specs.Reply.{Reply, accepted, refused, Reading, accept, refuse, IsBytes}
-use Rattle.wire.specs.Vocabulary.{Vocabulary, signature, InOrder}
-use Rattle.wire.specs.Written.{encodeTerm, GoodTerm, deepest}
-use Rattle.wire.specs.Reading.{readVocabulary, Kinded}
-use Rattle.wire.specs.Checks.{leastBytes, mostBytes, mostLevels, checkedTerm}
-use Rattle.wire.specs.Listed.{placed, repeatedIn, linearOf, linearIn, checkedLinear, kinded, entriesBytes, entriesOf, readEntries, Listed, listedInto, listedPattern, listedVocabulary, listed, Pattern, Entries, ListRefusal, ofVocabulary, ofPattern, noRoom, PatternIsOne, ListKeeps}
-use Rattle.wire.proofs.Cond.{cond-true, cond-false}
-use Rattle.wire.proofs.Outside.{inside-outside}
+use Rattle.wire.specs.Reply.{Reply, accepted, refused, IsBytes, Kinded, kinded}
+use Rattle.wire.specs.Parser.{Reading, accept, refuse, readVocabulary}
+use Rattle.wire.specs.Vocabulary.{Vocabulary, signature, InOrder, HoldsVocabulary}
+use Rattle.wire.specs.TermBytes.{encodeTerm, GoodTerm, deepest, leastBytes, mostBytes, mostLevels, HoldsTerm}
+use Rattle.wire.specs.CheckComputed.{checkedTerm}
+use Rattle.wire.specs.PatternLines.{sightings}
+use Rattle.wire.specs.ListComputed.{repeatedIn, linearOf, linearIn, checkedLinear, Listed, listedInto, listedPattern, listedVocabulary, listed}
+use Rattle.wire.specs.Leftovers.{HoldsPattern, entriesBytes, entriesOf, listingBytes, Entries, ListUnder, ofPattern, noRoom, ListRefusal}
+use Rattle.wire.specs.VocabularyLines.{ofVocabulary, under}
+use Rattle.wire.specs.Laws.{PatternIsOne, ListKeeps}
+use Rattle.wire.proofs.Cond.{cond-true, cond-false, choice}
 use Rattle.wire.proofs.Levels.{deepest-bytes}
 use Rattle.wire.proofs.Words.{in-order-well-formed}
 use Rattle.wire.proofs.VocabulariesInverse.{vocabularies-inverse}
 use Rattle.wire.proofs.VocabularyRefusals.{vocabulary-refusals}
 use Rattle.wire.proofs.LinearRefusals.{linear-refusals}
-use Rattle.wire.proofs.WholeTerms.{writes-whole}
-use Rattle.wire.proofs.Inputs.{TermIn, checked-in, in-checked}
+use Rattle.wire.proofs.Inputs.{checked-in, in-checked}
 use Rattle.wire.proofs.Entries.{entries-are-good}
 use Rattle.wire.proofs.EntryLevels.{entries-deepest}
-use Rattle.wire.proofs.EntriesRead.{GoodKinded, read-all-entries, entries-same}
+use Rattle.wire.proofs.EntriesRead.{GoodKinded, entries-same}
 use Rattle.wire.proofs.Matching.{not-accepted}
 use Rattle.wire.proofs.Repeats.{unrepeated-is-linear}
 
 -- ---- a pattern to be listed is accepted exactly where it is linear and the writing of a good one within the limits
 
 pub record LinearIn (W : Vocabulary) (b : List ℕ) (s : ℕ) (t : Term) : Type 0 where
-  pub term : TermIn W b s t
+  pub term : HoldsTerm W b s t
   pub linear : Linear t
 
 abbrev AcceptedLinear : Vocabulary → List ℕ → Reading Kinded → Type 0
@@ -48,14 +50,14 @@ AcceptedLinear W b (accept x) = LinearIn W b (x .kind) (x .term)
 linear-in-of : (W : Vocabulary) (b : List ℕ) → InOrder W → IsBytes b → AcceptedLinear W b (checkedLinear W b)
 linear-in-of W b inOrder bytes = go (checkedTerm W b) refl
   where
-    names : (x : Kinded) → TermIn W b (x .kind) (x .term) → (o : Option ℕ) → repeatedIn [] (placed W (x .term)) ≡ o →
+    names : (x : Kinded) → HoldsTerm W b (x .kind) (x .term) → (o : Option ℕ) → repeatedIn [] (sightings W (x .term)) ≡ o →
         AcceptedLinear W b (linearOf x o)
     names x h (some q) e = tt
     names x h none e = record { term = h; linear = unrepeated-is-linear W (x .term) .0 e }
 
     go : (r : Reading Kinded) → checkedTerm W b ≡ r → AcceptedLinear W b (linearIn W r)
     go (refuse n q) e = tt
-    go (accept x) e = names x (checked-in W b x inOrder bytes e) (repeatedIn [] (placed W (x .term))) refl
+    go (accept x) e = names x (checked-in W b x inOrder bytes e) (repeatedIn [] (sightings W (x .term))) refl
 
 pub linear-in : (W : Vocabulary) (b : List ℕ) (x : Kinded) → InOrder W → IsBytes b → checkedLinear W b ≡ accept x → LinearIn W b (x .kind) (x .term)
 linear-in W b x inOrder bytes e = subst (AcceptedLinear W b) e (linear-in-of W b inOrder bytes)
@@ -68,26 +70,18 @@ in-linear W b x inOrder bytes h =
 -- ---- what is read and what is written
 
 pub pattern-read : (v p : List ℕ) (W : Vocabulary) (x : Kinded) → IsBytes v → IsBytes p →
-    readVocabulary v ≡ accept W → checkedLinear W p ≡ accept x → Pattern v p W (x .kind) (x .term)
+    readVocabulary v ≡ accept W → checkedLinear W p ≡ accept x → HoldsPattern v p W (x .kind) (x .term)
 pattern-read v p W x bv bp e f =
     let read = vocabularies-inverse v W bv .0 e in
-    let h = linear-in W p x (read .0 .inOrder) bp f in
-    record {
-      vocabulary = read .0;
-      written = read .1;
-      pattern = h .term .good;
-      patternWritten = h .term .written;
-      limits = h .term .limits;
-      linear = h .linear;
-    }
+    let h = linear-in W p x (read .good .inOrder) bp f in
+    record { vocabulary = read; pattern = h .term; linear = h .linear }
 
 -- A pattern that is accepted is read again.
-pub read-pattern : (v p : List ℕ) (W : Vocabulary) (s : ℕ) (t : Term) → IsBytes v → IsBytes p → Pattern v p W s t →
+pub read-pattern : (v p : List ℕ) (W : Vocabulary) (s : ℕ) (t : Term) → IsBytes v → IsBytes p → HoldsPattern v p W s t →
     (readVocabulary v ≡ accept W) × (checkedLinear W p ≡ accept (kinded s t))
 read-pattern v p W s t bv bp h = (
-  vocabularies-inverse v W bv .1 (h .vocabulary, h .written),
-  in-linear W p (kinded s t) (h .vocabulary .inOrder) bp
-      (record { term = record { good = h .pattern; written = h .patternWritten; limits = h .limits }; linear = h .linear }),
+  vocabularies-inverse v W bv .1 (h .vocabulary),
+  in-linear W p (kinded s t) (h .vocabulary .good .inOrder) bp (record { term = h .pattern; linear = h .linear }),
 )
 
 accept-same : {A : Type 0} (x y : A) → accept x ≡ accept y → x ≡ y
@@ -107,8 +101,8 @@ pattern-is-one v p W W′ s s′ t t′ bv bp h h′ =
     (same, ap (λ (x : Kinded). x .kind) k, ap (λ (x : Kinded). x .term) k)
 
 -- The reply and the lent slice of a pattern that is accepted.
-pub pattern-listed : (v p out : List ℕ) (W : Vocabulary) (s : ℕ) (t : Term) → IsBytes v → IsBytes p → Pattern v p W s t →
-    listed v p out ≡ listedInto out (length (entriesOf W s t)) (entriesBytes W (entriesOf W s t))
+pub pattern-listed : (v p out : List ℕ) (W : Vocabulary) (s : ℕ) (t : Term) → IsBytes v → IsBytes p → HoldsPattern v p W s t →
+    listed v p out ≡ listedInto out (length (entriesOf W s t)) (listingBytes W s t)
 pattern-listed v p out W s t bv bp h =
     let r = read-pattern v p W s t bv bp h in
     ap (listedVocabulary p out) (r .0) ∙ ap (listedPattern W out) (r .1)
@@ -139,16 +133,7 @@ answer-of out n b n′ m e = go (leb (length b) (length out)) refl e
 
 -- ---- the entries
 
--- A good term within the limits is accepted from its writing.
-written-checked : (W : Vocabulary) (s : ℕ) (t : Term) → InOrder W → GoodTerm W s t → length (encodeTerm W s t) ≤ mostBytes →
-    deepest t ≤ mostLevels → checkedTerm W (encodeTerm W s t) ≡ accept (kinded s t)
-written-checked W s t inOrder good most deep =
-    let b : List ℕ = encodeTerm W s t in
-    let least : leastBytes ≤ length b = omega (arith, deepest-bytes W t) in
-    rw (inside-outside leastBytes mostBytes (length b) least most)
-    (writes-whole W mostLevels b (kinded s t) inOrder (record { good = good; bytes = refl; fits = deep }))
-
-module _ (v p : List ℕ) (W : Vocabulary) (s : ℕ) (t : Term) (h : Pattern v p W s t) where
+module _ (v p : List ℕ) (W : Vocabulary) (s : ℕ) (t : Term) (h : HoldsPattern v p W s t) where
   abbrev entries : List Term
   entries = listing (signature W) t
 
@@ -156,122 +141,160 @@ module _ (v p : List ℕ) (W : Vocabulary) (s : ℕ) (t : Term) (h : Pattern v p
   bytes = entriesBytes W (entriesOf W s t)
 
   inOrder : InOrder W
-  inOrder = h .vocabulary .inOrder
+  inOrder = h .vocabulary .good .inOrder
 
   good-entries : All (λ e. GoodTerm W s e × Linear e × (length (encodeTerm W s e) ≤ length (encodeTerm W s t))) entries
-  good-entries = entries-are-good W s t (h .pattern) (h .linear)
+  good-entries = entries-are-good W s t (h .pattern .good) (h .linear)
 
   good-kinded : All (GoodKinded W) (entriesOf W s t)
   good-kinded = all-map (GoodKinded W) (kinded s) entries (all-implies _ (λ e. GoodTerm W s e) (λ e g. g .0) entries good-entries)
 
-  each-entry : All (λ e. (checkedTerm W (encodeTerm W s e) ≡ accept (kinded s e)) × Linear e × (length (encodeTerm W s e) ≤ length p)) entries
+  each-entry : All (λ e. HoldsTerm W (encodeTerm W s e) s e × Linear e × (length (encodeTerm W s e) ≤ length p)) entries
   each-entry = all-implies Known _ entry entries (all-both _ _ entries good-entries (entries-deepest (signature W) t))
     where
       Known : Term → Type 0
       Known e = (GoodTerm W s e × Linear e × (length (encodeTerm W s e) ≤ length (encodeTerm W s t))) × (deepest e ≤ deepest t)
 
-      entry : (e : Term) → Known e →
-          (checkedTerm W (encodeTerm W s e) ≡ accept (kinded s e)) × Linear e × (length (encodeTerm W s e) ≤ length p)
+      entry : (e : Term) → Known e → HoldsTerm W (encodeTerm W s e) s e × Linear e × (length (encodeTerm W s e) ≤ length p)
       entry e ((good, alone, short), deep) =
-          let same : length p ≡ length (encodeTerm W s t) = ap length (h .patternWritten) in
-          let limits = h .limits in
+          let same : length p ≡ length (encodeTerm W s t) = ap length (h .pattern .written) in
+          let limits = h .pattern .limits in
           let most = limits .most in
           let low = limits .levels in
-          (written-checked W s e inOrder good (omega arith) (omega arith), alone, omega arith)
+          let least : leastBytes ≤ length (encodeTerm W s e) = omega (arith, deepest-bytes W e) in
+          (record { good = good; written = refl; limits = record { least = least; most = omega arith; levels = omega arith } }, alone, omega arith)
 
   entries-kept : (n m : ℕ) (after : List ℕ) → length (entriesOf W s t) ≡ n → m ≤ length after → take m after ≡ bytes →
       Entries W s t p n m after
   entries-kept n m after count inside written = record {
     entries = entries;
+    count = sym (length-map entries (kinded s)) ∙ count;
     inside = inside;
-    read =
-        ap (readEntries W n) written
-        ∙ ap (λ n. readEntries W n bytes) (sym count)
-        ∙ read-all-entries W inOrder (entriesOf W s t) good-kinded;
+    written = written;
     one = λ l long good e. entries-same W inOrder l (entriesOf W s t) good good-kinded (long ∙ sym count) (sym e ∙ written);
     order = refl;
     each = each-entry;
-    once = partition (signature W) t s (h .pattern .sorted .sorted) (h .linear);
+    once = partition (signature W) t s (h .pattern .good .sorted .sorted) (h .linear);
     needed =
-        strike-out (signature W) t s (in-order-well-formed W inOrder) (h .vocabulary .inhabited) (h .pattern .sorted .sorted) (h .linear);
-    represents = listing-represents (signature W) t s (h .pattern .sorted .sorted) (h .linear);
+        strike-out (signature W) t s (in-order-well-formed W inOrder) (h .vocabulary .good .inhabited) (h .pattern .good .sorted .sorted)
+        (h .linear);
+    represents = listing-represents (signature W) t s (h .pattern .good .sorted .sorted) (h .linear);
   }
 
 -- ---- a refusal or an answer
 
 module _ (v p out : List ℕ) (bv : IsBytes v) (bp : IsBytes p) where
-  -- A vocabulary and a pattern that are accepted, with a listing that fits.
-  abbrev pub Listable : Type 0
-  Listable = (W : Vocabulary) × (s : ℕ) × (t : Term) × Pattern v p W s t × (length (entriesBytes W (entriesOf W s t)) ≤ length out)
+  -- A vocabulary and a pattern that are accepted, with a listing that fits, and the values that answer it.
+  abbrev pub Listable : List ℕ → Type 0
+  Listable values =
+      (W : Vocabulary) × (s : ℕ) × (t : Term) × HoldsPattern v p W s t × (length (listingBytes W s t) ≤ length out) ×
+      (values ≡ length (listing (signature W) t) ∷ length (listingBytes W s t) ∷ [])
 
   -- What a reply comes of.
   abbrev pub Decided : Reply → Type 0
-  Decided (accepted l) = Listable
+  Decided (accepted values) = Listable values
   Decided (refused n i q) = ListRefusal v p out n i q
 
   pub decided : Decided (listed v p out .reply)
   decided = vocabulary (readVocabulary v) refl
     where
-      room : (W : Vocabulary) (x : Kinded) → Pattern v p W (x .kind) (x .term) →
-          (c : Bool) → leb (length (entriesBytes W (entriesOf W (x .kind) (x .term)))) (length out) ≡ c →
-          Decided (intoIf c out (length (entriesOf W (x .kind) (x .term))) (entriesBytes W (entriesOf W (x .kind) (x .term))) .reply)
-      room W x h true e = (W, x .kind, x .term, h, leb-true (length (entriesBytes W (entriesOf W (x .kind) (x .term)))) (length out) e)
-      room W x h false e = noRoom W (x .kind) (x .term) h (leb-false (length (entriesBytes W (entriesOf W (x .kind) (x .term)))) (length out) e)
+      room : (W : Vocabulary) (x : Kinded) → HoldsPattern v p W (x .kind) (x .term) →
+          (c : Bool) → leb (length (listingBytes W (x .kind) (x .term))) (length out) ≡ c →
+          Decided (intoIf c out (length (entriesOf W (x .kind) (x .term))) (listingBytes W (x .kind) (x .term)) .reply)
+      room W x h true e = (
+        W,
+        x .kind,
+        x .term,
+        h,
+        leb-true (length (listingBytes W (x .kind) (x .term))) (length out) e,
+        ap (λ n. n ∷ length (listingBytes W (x .kind) (x .term)) ∷ []) (length-map (listing (signature W) (x .term)) (kinded (x .kind))),
+      )
+      room W x h false e =
+          under W 20 3 _ (h .vocabulary)
+          (noRoom (x .kind) (x .term) (h .pattern) (h .linear) (leb-false (length (listingBytes W (x .kind) (x .term))) (length out) e))
 
       pattern : (W : Vocabulary) → readVocabulary v ≡ accept W → (r : Reading Kinded) → checkedLinear W p ≡ r →
           Decided (listedPattern W out r .reply)
       pattern W e (refuse n q) f =
-          let good = vocabularies-inverse v W bv .0 e in
-          ofPattern W n q (good .0) (good .1) (linear-refusals W p (good .0 .inOrder) bp .given n q .0 f)
+          let held = vocabularies-inverse v W bv .0 e in
+          under W n 1 q held (ofPattern n q (linear-refusals W p (held .good .inOrder) bp .given n q .0 f))
       pattern W e (accept x) f = room W x (pattern-read v p W x bv bp e f) (leb _ (length out)) refl
 
       vocabulary : (r : Reading Vocabulary) → readVocabulary v ≡ r → Decided (listedVocabulary p out r .reply)
       vocabulary (refuse n q) e = ofVocabulary n q (vocabulary-refusals v bv .given n q .0 e)
       vocabulary (accept W) e = pattern W e (checkedLinear W p) refl
 
+  refused-under : (W : Vocabulary) → HoldsVocabulary v W → {n i q : ℕ} → ListUnder p out W n i q → listed v p out .reply ≡ refused n i q
+  refused-under W held (ofPattern n q d) =
+      ap (λ r. listedVocabulary p out r .reply) (vocabularies-inverse v W bv .1 held)
+      ∙ ap (λ r. listedPattern W out r .reply) (linear-refusals W p (held .good .inOrder) bp .given n q .1 d)
+  refused-under W held (noRoom s t h linear short) =
+      let b : List ℕ = listingBytes W s t in
+      ap (λ (r : Listed). r .reply) (pattern-listed v p out W s t bv bp (record { vocabulary = held; pattern = h; linear = linear }))
+      ∙ ap (λ (r : Listed). r .reply) (cond-false (leb (length b) (length out)) _ _ (lt-leb (length b) (length out) short))
+
   refused-by : {n i q : ℕ} → ListRefusal v p out n i q → listed v p out .reply ≡ refused n i q
   refused-by (ofVocabulary n q d) = ap (λ r. listedVocabulary p out r .reply) (vocabulary-refusals v bv .given n q .1 d)
-  refused-by (ofPattern W n q good written d) =
-      ap (λ r. listedVocabulary p out r .reply) (vocabularies-inverse v W bv .1 (good, written))
-      ∙ ap (λ r. listedPattern W out r .reply) (linear-refusals W p (good .inOrder) bp .given n q .1 d)
-  refused-by (noRoom W s t h short) =
-      let b : List ℕ = entriesBytes W (entriesOf W s t) in
+  refused-by (under W n i q held d) = refused-under W held d
+
+  answered-by : (values : List ℕ) → Listable values → listed v p out .reply ≡ accepted values
+  answered-by values (W, s, t, h, fits, e) =
+      let b : List ℕ = listingBytes W s t in
       ap (λ (r : Listed). r .reply) (pattern-listed v p out W s t bv bp h)
-      ∙ ap (λ (r : Listed). r .reply) (cond-false (leb (length b) (length out)) _ _ (lt-leb (length b) (length out) short))
+      ∙ ap (λ (r : Listed). r .reply) (cond-true (leb (length b) (length out)) _ _ (le-leb (length b) (length out) fits))
+      ∙ ap (λ n. accepted (n ∷ length b ∷ [])) (length-map (listing (signature W) t) (kinded s))
+      ∙ ap accepted (sym e)
+
+  -- Where the reply is accepted, the entries stand in front of what stood there before.
+  abbrev Written : ℕ → ℕ → Type 0
+  Written n m = (W : Vocabulary) × (s : ℕ) × (t : Term) × HoldsPattern v p W s t ×
+      Answer out (length (entriesOf W s t)) (listingBytes W s t) n m (listed v p out .out)
+
+  written-by : (n m : ℕ) → listed v p out .reply ≡ accepted (n ∷ m ∷ []) → Written n m
+  written-by n m e =
+      let x : Listable (n ∷ m ∷ []) = subst Decided e decided in
+      let known = pattern-listed v p out (x .0) (x .1) (x .2) bv bp (x .3) in
+      let b : List ℕ = listingBytes (x .0) (x .1) (x .2) in
+      let a = answer-of out (length (entriesOf (x .0) (x .1) (x .2))) b n m (sym (ap (λ (r : Listed). r .reply) known) ∙ e) in (
+        x .0,
+        x .1,
+        x .2,
+        x .3,
+        record { count = a .count; size = a .size; written = ap (λ (r : Listed). r .out) known ∙ a .written },
+      )
+
+-- A refusal leaves the lent slice as it was.
+refused-kept : (v p out : List ℕ) (n i q : ℕ) → listed v p out .reply ≡ refused n i q → listed v p out .out ≡ out
+refused-kept v p out n i q e = vocabulary (readVocabulary v) e
+  where
+    pattern : (W : Vocabulary) (r : Reading Kinded) → listedPattern W out r .reply ≡ refused n i q → listedPattern W out r .out ≡ out
+    pattern W (refuse m r) e = refl
+    pattern W (accept x) e =
+        choice (λ (l : Listed). l .reply ≡ refused n i q → l .out ≡ out) (leb (length (listingBytes W (x .kind) (x .term))) (length out)) _ _
+        (λ c e. absurd (not-accepted n i q _ (sym e))) (λ c e. refl) e
+
+    vocabulary : (r : Reading Vocabulary) → listedVocabulary p out r .reply ≡ refused n i q → listedVocabulary p out r .out ≡ out
+    vocabulary (refuse m r) e = refl
+    vocabulary (accept W) e = pattern W (checkedLinear W p) e
 
 pub list-keeps : ListKeeps
 list-keeps v p out bv bp = record {
-  reply = refl;
-  out = refl;
   refuses = λ n i q. ((λ e. subst (Decided v p out bv bp) e (decided v p out bv bp)), refused-by v p out bv bp);
-  answered = (
-    (λ a. subst (Decided v p out bv bp) (a .2) (decided v p out bv bp)),
-    (λ a.
-        let W : Vocabulary = a .0 in
-        let s : ℕ = a .1 in
-        let t : Term = a .2 in
-        let b : List ℕ = entriesBytes W (entriesOf W s t) in (
-          length (entriesOf W s t),
-          length b,
-          ap (λ (r : Listed). r .reply) (pattern-listed v p out W s t bv bp (a .3))
-              ∙ ap (λ (r : Listed). r .reply) (cond-true (leb (length b) (length out)) _ _ (le-leb (length b) (length out) (a .4))),
-        )),
-  );
+  answered = λ values. ((λ e. subst (Decided v p out bv bp) e (decided v p out bv bp)), answered-by v p out bv bp values);
   entries = λ n m e.
-      let x : Listable v p out bv bp = subst (Decided v p out bv bp) e (decided v p out bv bp) in
-      let W : Vocabulary = x .0 in
-      let s : ℕ = x .1 in
-      let t : Term = x .2 in
-      let b : List ℕ = entriesBytes W (entriesOf W s t) in
-      let known = pattern-listed v p out W s t bv bp (x .3) in
-      let a = answer-of out (length (entriesOf W s t)) b n m (sym (ap (λ (r : Listed). r .reply) known) ∙ e) in (
+      let (W, s, t, h, a) = written-by v p out bv bp n m e in
+      let b : List ℕ = listingBytes W s t in (
         W,
         s,
         t,
-        x .3,
-        entries-kept v p W s t (x .3) n m (listed v p out .out) (a .count)
-            (let long = ap length (ap (λ (r : Listed). r .out) known ∙ a .written) ∙ length-append b (drop (length b) out) in
-            let size = a .size in omega arith)
-            (ap (take m) (ap (λ (r : Listed). r .out) known ∙ a .written) ∙ take-at b (drop (length b) out) m (a .size)),
+        h,
+        entries-kept v p W s t h n m (listed v p out .out) (a .count)
+            (let long = ap length (a .written) ∙ length-append b (drop (length b) out) in let size = a .size in omega arith)
+            (ap (take m) (a .written) ∙ take-at b (drop (length b) out) m (a .size)),
       );
+  behindLast = λ n m e.
+      let (W, s, t, h, a) = written-by v p out bv bp n m e in
+      let b : List ℕ = listingBytes W s t in
+      ap (drop m) (a .written) ∙ drop-at b (drop (length b) out) m (a .size) ∙ ap (λ k. drop k out) (a .size);
+  kept = refused-kept v p out;
 }

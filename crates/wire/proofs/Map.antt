@@ -12,7 +12,7 @@ use borrow.Author.Tests.{eqb-true, eqb-false, eq-eqb, ne-eqb}
 use Rattle.terms.specs.Signature.{Signature}
 use Rattle.terms.specs.Term.{Terms, nil, cons, SortedAll}
 use Rattle.wire.specs.Reply.{IsBytes}
-use Rattle.wire.specs.Map.{mapBits, mapBytes, writeMap, got, missing, readMap, flagsIn, flags, bit, number, ones, restFlags, within, Slot, slots, isOpen, writtenFlags}
+use Rattle.wire.specs.Map.{mapBits, mapBytes, writeMap, mapGot, mapMissing, readMap, flagsIn, flags, bit, number, ones, restFlags, within, Slot, slots, isOpen, writtenFlags}
 
 -- ---- the bits of a number
 
@@ -66,21 +66,17 @@ ones-count m h = ones-countIn mapBits m h
 
 -- ---- the bytes of a map
 
-pub read-write-map : (m : ℕ) (l : List ℕ) → readMap (writeMap m ++ l) ≡ got m l
+pub read-write-map : (m : ℕ) (l : List ℕ) → readMap (writeMap m ++ l) ≡ mapGot m l
 read-write-map m l = refl
 
-pub write-read-map : (l : List ℕ) (m : ℕ) (r : List ℕ) → readMap l ≡ got m r → l ≡ writeMap m ++ r
+pub write-read-map : (l : List ℕ) (m : ℕ) (r : List ℕ) → readMap l ≡ mapGot m r → l ≡ writeMap m ++ r
 write-read-map [] m r e = let z : _≡_ {A = ℕ} 0 1 = cc in absurd (omega arith)
 write-read-map (b ∷ l) m r e = cc
 
-pub length-map-bytes : (m : ℕ) → length (writeMap m) ≡ mapBytes
-length-map-bytes m = refl
-
--- It takes its bytes, and where one is missing nothing is left.
-pub map-got : (l : List ℕ) (m : ℕ) (r : List ℕ) → readMap l ≡ got m r → length l ≡ mapBytes + length r
+pub map-got : (l : List ℕ) (m : ℕ) (r : List ℕ) → readMap l ≡ mapGot m r → length l ≡ mapBytes + length r
 map-got l m r e = omega (arith, ap length (write-read-map l m r e))
 
-pub map-missing : (l r : List ℕ) → readMap l ≡ missing r → length r ≡ 0
+pub map-missing : (l r : List ℕ) → readMap l ≡ mapMissing r → length r ≡ 0
 map-missing [] r e = let h : [] ≡ r = cc in sym (ap length h)
 map-missing (m ∷ l) r e = let z : _≡_ {A = ℕ} 0 1 = cc in absurd (omega arith)
 

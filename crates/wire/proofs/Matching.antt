@@ -1,4 +1,4 @@
--- Matching: the definitions of match and part keep what the calls promise.
+-- Matching: what is computed of match and part keeps what the calls promise.
 use mathlib.Core.Path.{_≡_, refl, sym, ap, _∙_, subst}
 use mathlib.Core.Bool.{Bool, true, false, cond, _&&_}
 use mathlib.Core.List.{List, [], _++_, append-nil}
@@ -8,20 +8,24 @@ use Prim.Native.Nat.{ℕ, _≤_, _<_}
 use native.Mathlib.Omega.{arith}
 use lib.Dec.{eqb, ltb}
 use lib.ListN.{length, drop}
-use borrow.Author.Tests.{eqb-true, eq-eqb, lt-ltb}
+use borrow.Author.Tests.{eqb-true, eq-eqb, lt-ltb, ltb-true}
 use Rattle.terms.specs.Lists.{occurs}
-use Rattle.terms.specs.Term.{names}
-use Rattle.terms.specs.Filling.{Filling, valueOf, fill, IsFilling, Fits}
+use Rattle.terms.specs.Term.{SortedG, names}
+use Rattle.terms.specs.Filling.{Filling, valueOf}
 use Rattle.terms.specs.Matcher.{matcher}
 use Rattle.terms.proofs.Bools.{and-parts, and-both}
+use Rattle.terms.proofs.Occurs.{occurs-all}
 use Rattle.terms.proofs.Theorems.{matcher-is-exact, matching-is-fitting}
-use Rattle.wire.specs.Reply.{accepted, refused}
+use Rattle.wire.specs.Reply.{accepted, refused, IsBytes}
 use Rattle.wire.specs.Vocabulary.{signature}
-use Rattle.wire.specs.Written.{nameCount, encodeAt, asTerm}
-use Rattle.wire.specs.Matching.{Inputs, Judged, clear, refusal, judged, tableLength, orNoSpan, span, spanTable, Matched, yes, no, verdict, matchedWith, matched, cutOut, noSpan, spanFound, spanWith, Reads, SpansOf, MatchKeeps, PartKeeps}
-use Rattle.wire.proofs.Cond.{cond-true}
+use Rattle.wire.specs.TermBytes.{nameCount, encodeAt, asTerm}
+use Rattle.wire.specs.Matching.{Inputs, tableLength, orNoSpan, span, yes, no, cutOut, noSpan, HoldsInputs, FitsInputs, TurnsInputs, SpansOf}
+use Rattle.wire.specs.MatchComputed.{Judged, clear, refusal, judged, spanTable, Matched, verdict, matchedWith, matched, spanFound, spanWith, partSpan}
+use Rattle.wire.specs.Laws.{MatchKeeps, PartKeeps}
+use Rattle.wire.proofs.Cond.{cond-true, choice}
 use Rattle.wire.proofs.MatchRefusals.{match-refuses, match-refused}
-use Rattle.wire.proofs.Inputs.{clear-is-reads}
+use Rattle.wire.proofs.Inputs.{clear-is-held}
+use Rattle.wire.proofs.Complete.{sorted-ground}
 use Rattle.wire.proofs.GroundBytes.{size-least, root-ground}
 use Rattle.wire.proofs.Spans.{covers-cut, span-value, span-absent}
 use Rattle.wire.proofs.SpanTable.{length-table, table-span}
@@ -56,43 +60,68 @@ matched-clear : (v p s table : List ℕ) (x : Inputs) → judged v p s ≡ clear
     matched v p s table ≡ verdict table x (matcher (x .pattern) (x .situation))
 matched-clear v p s table x e l = ap (matchedWith table) e ∙ cond-true (eqb (length table) tableLength) _ _ (eq-eqb (length table) tableLength l)
 
+-- Where match does not say yes, the table is as it was.
+pub yes-or-kept : (v p s table : List ℕ) →
+    (matched v p s table .reply ≡ yes) ⊎ ((matched v p s table .reply ≡ yes → ⊥) × (matched v p s table .table ≡ table))
+yes-or-kept v p s table = go (judged v p s)
+  where
+    Kept : Matched → Type 0
+    Kept m = (m .reply ≡ yes) ⊎ ((m .reply ≡ yes → ⊥) × (m .table ≡ table))
+
+    answer : (x : Inputs) (o : Option Filling) → Kept (verdict table x o)
+    answer x (some f) = inl refl
+    answer x none = inr (no-not-yes, refl)
+
+    go : (j : Judged) → Kept (matchedWith table j)
+    go (refusal n i q) = inr (not-accepted n i q _, refl)
+    go (clear x) =
+        choice Kept (eqb (length table) tableLength) _ _ (λ e. answer x (matcher (x .pattern) (x .situation)))
+        (λ e. inr (not-accepted 19 3 0 _, refl))
+
 -- ---- inputs in order
 
-module _ (v p s : List ℕ) (x : Inputs) (reads : Reads v p s x) where
-  found-fills : (f : Filling) → matcher (x .pattern) (x .situation) ≡ some f →
-      IsFilling (signature (x .vocabulary)) (x .pattern) (x .kind) f × (fill (x .pattern) f ≡ x .situation)
-  found-fills f e =
-      matcher-is-exact (signature (x .vocabulary)) (x .pattern) (x .kind) (x .situation) f (reads .pattern .sorted .sorted) (reads .situation) .0 e
+module _ (v p s : List ℕ) (x : Inputs) (held : HoldsInputs v p s x) where
+  situation-sorted : SortedG (signature (x .vocabulary)) (x .situation) (x .kind)
+  situation-sorted = sorted-ground (signature (x .vocabulary)) (x .situation) (x .kind) (held .situation .good .sorted .sorted)
 
-  fills-found : (f : Filling) → IsFilling (signature (x .vocabulary)) (x .pattern) (x .kind) f → fill (x .pattern) f ≡ x .situation →
-      matcher (x .pattern) (x .situation) ≡ some f
-  fills-found f i e =
-      matcher-is-exact (signature (x .vocabulary)) (x .pattern) (x .kind) (x .situation) f (reads .pattern .sorted .sorted) (reads .situation) .1 (i, e)
+  found-fills : (f : Filling) → matcher (x .pattern) (x .situation) ≡ some f → TurnsInputs x f
+  found-fills f e =
+      let r = matcher-is-exact (signature (x .vocabulary)) (x .pattern) (x .kind) (x .situation) f (held .pattern .good .sorted .sorted) situation-sorted .0 e in
+      record { filling = r .0; turns = r .1 }
+
+  fills-found : (f : Filling) → TurnsInputs x f → matcher (x .pattern) (x .situation) ≡ some f
+  fills-found f h =
+      matcher-is-exact (signature (x .vocabulary)) (x .pattern) (x .kind) (x .situation) f (held .pattern .good .sorted .sorted) situation-sorted .1
+      (h .filling, h .turns)
 
   -- Yes exactly where there is a filling.
-  verdict-fits : (table : List ℕ) →
-      (verdict table x (matcher (x .pattern) (x .situation)) .reply ≡ yes)
-      ↔ Fits (signature (x .vocabulary)) (x .pattern) (x .kind) (x .situation)
+  verdict-fits : (table : List ℕ) → (verdict table x (matcher (x .pattern) (x .situation)) .reply ≡ yes) ↔ FitsInputs x
   verdict-fits table = go (matcher (x .pattern) (x .situation)) refl
     where
-      go : (o : Option Filling) → matcher (x .pattern) (x .situation) ≡ o →
-          (verdict table x o .reply ≡ yes) ↔ Fits (signature (x .vocabulary)) (x .pattern) (x .kind) (x .situation)
-      go (some f) e = let h = found-fills f e in ((λ q. (f, h .0, h .1)), (λ q. refl))
-      go none e = ((λ q. absurd (no-not-yes q)), (λ h. absurd (Option·none-ne-some (h .0) (sym e ∙ fills-found (h .0) (h .1) (h .2)))))
+      go : (o : Option Filling) → matcher (x .pattern) (x .situation) ≡ o → (verdict table x o .reply ≡ yes) ↔ FitsInputs x
+      go (some f) e = let h = found-fills f e in ((λ q. (f, h .filling, h .turns)), (λ q. refl))
+      go none e = (
+        (λ q. absurd (no-not-yes q)),
+        (λ h. absurd (Option·none-ne-some (h .0) (sym e ∙ fills-found (h .0) (record { filling = h .1; turns = h .2 })))),
+      )
 
   -- The situation's term begins behind its kind byte.
   situation-stands : drop 1 s ≡ encodeAt (x .vocabulary) (asTerm (x .situation)) ++ []
   situation-stands =
-      ap (drop 1) (reads .situationWritten) ∙ root-ground (x .vocabulary) (x .situation)
+      ap (drop 1) (held .situation .written) ∙ root-ground (x .vocabulary) (x .situation)
       ∙ sym (append-nil (encodeAt (x .vocabulary) (asTerm (x .situation))))
 
-  module _ (f : Filling) (filling : IsFilling (signature (x .vocabulary)) (x .pattern) (x .kind) f) (fills : fill (x .pattern) f ≡ x .situation) where
+  -- A name that stands in the pattern has a number below 64.
+  name-low : (n : ℕ) → occurs n (names (x .pattern)) ≡ true → n < nameCount
+  name-low n o = occurs-all (λ n. n < nameCount) n (names (x .pattern)) o (held .pattern .good .named)
+
+  module _ (f : Filling) (h : TurnsInputs x f) where
     part-bytes : (n : ℕ) → occurs n (names (x .pattern)) ≡ true →
         cutOut s (span (x .vocabulary) (x .pattern) (x .situation) n) ≡ encodeAt (x .vocabulary) (asTerm (valueOf (f .named) n))
     part-bytes n o =
         let covered = span-value (x .vocabulary) (x .pattern) (f .named) (f .opened) n 1 s [] o
-        (situation-stands ∙ ap (λ g. encodeAt (x .vocabulary) (asTerm g) ++ []) (sym fills)) in
-        ap (λ g. cutOut s (span (x .vocabulary) (x .pattern) g n)) (sym fills)
+        (situation-stands ∙ ap (λ g. encodeAt (x .vocabulary) (asTerm g) ++ []) (sym (h .turns))) in
+        ap (λ g. cutOut s (span (x .vocabulary) (x .pattern) g n)) (sym (h .turns))
         ∙ ap (λ y. cutOut s (orNoSpan y)) (covered .1)
         ∙ covers-cut (x .vocabulary) s (covered .0) (valueOf (f .named) n) (covered .2)
 
@@ -106,84 +135,113 @@ module _ (v p s : List ℕ) (x : Inputs) (reads : Reads v p s x) where
           ∙ ap orNoSpan (span-absent (x .vocabulary) (x .pattern) (x .situation) n 1 o);
     }
 
-    part-value : (n : ℕ) → n < nameCount → occurs n (names (x .pattern)) ≡ true →
-        cutOut s (spanFound x n (matcher (x .pattern) (x .situation))) ≡ encodeAt (x .vocabulary) (asTerm (valueOf (f .named) n))
-    part-value n l o =
-        ap (λ o. cutOut s (spanFound x n o)) (fills-found f filling fills)
-        ∙ ap (cutOut s)
-        (cond-true (ltb n nameCount && occurs n (names (x .pattern))) _ _
-        (and-both (ltb n nameCount) (occurs n (names (x .pattern))) (lt-ltb n nameCount l) o))
-        ∙ part-bytes n o
+    part-covered : (n : ℕ) → occurs n (names (x .pattern)) ≡ true →
+        spanFound x n (matcher (x .pattern) (x .situation)) ≡ span (x .vocabulary) (x .pattern) (x .situation) n
+    part-covered n o =
+        ap (spanFound x n) (fills-found f h)
+        ∙ cond-true (ltb n nameCount && occurs n (names (x .pattern))) _ _
+        (and-both (ltb n nameCount) (occurs n (names (x .pattern))) (lt-ltb n nameCount (name-low n o)) o)
 
 -- ---- match
 
 pub match-keeps : MatchKeeps
 match-keeps v p s table bv bp bs = record {
-  reply = refl;
-  table = refl;
   refuses = λ n i q. (match-refuses v p s table bv bp bs n i q, match-refused v p s table bv bp bs);
   answered = (
-    (λ h. let a = answered-clear table (judged v p s) h in (a .0, clear-is-reads v p s (a .0) bv bp bs .0 (a .1), a .2)),
+    (λ h. let a = answered-clear table (judged v p s) h in (a .0, clear-is-held v p s (a .0) bv bp bs .0 (a .1), a .2)),
     (λ h.
         subst (λ m. (m .reply ≡ yes) ⊎ (m .reply ≡ no)) (sym (known (h .0) (h .1) (h .2)))
         (verdict-answers table (h .0) (matcher (h .0 .pattern) (h .0 .situation)))),
   );
   fits = fits;
-  agrees = λ x reads l.
-      let a = fits x reads l in
-      let b = matching-is-fitting (signature (x .vocabulary)) (x .pattern) (x .kind) (x .situation) (reads .pattern .sorted) in
+  agrees = λ x held l.
+      let a = fits x held l in
+      let b = matching-is-fitting (signature (x .vocabulary)) (x .pattern) (x .kind) (x .situation) (held .pattern .good .sorted) (situation-sorted v p s x held) in
       ((λ e. b .0 (a .0 e)), (λ m. a .1 (b .1 m)));
-  parts = λ x reads e f filling fills.
+  parts = λ x held e f h.
       let l = answered-clear table (judged v p s) (inl e) .2 in
       subst (SpansOf x s f)
-      (sym (ap (λ m. m .table) (known x reads l)
-      ∙ ap (λ o. verdict table x o .table) (fills-found v p s x reads f filling fills)))
-      (table-parts v p s x reads f filling fills);
+      (sym (ap (λ m. m .table) (known x held l)
+      ∙ ap (λ o. verdict table x o .table) (fills-found v p s x held f h)))
+      (table-parts v p s x held f h);
+  kept = λ not. go not (yes-or-kept v p s table);
 }
   where
-    known : (x : Inputs) → Reads v p s x → length table ≡ tableLength →
+    known : (x : Inputs) → HoldsInputs v p s x → length table ≡ tableLength →
         matched v p s table ≡ verdict table x (matcher (x .pattern) (x .situation))
-    known x reads l = matched-clear v p s table x (clear-is-reads v p s x bv bp bs .1 reads) l
+    known x held l = matched-clear v p s table x (clear-is-held v p s x bv bp bs .1 held) l
 
-    fits : (x : Inputs) → Reads v p s x → length table ≡ tableLength →
-        (matched v p s table .reply ≡ yes) ↔ Fits (signature (x .vocabulary)) (x .pattern) (x .kind) (x .situation)
-    fits x reads l =
-        subst (λ m. (m .reply ≡ yes) ↔ Fits (signature (x .vocabulary)) (x .pattern) (x .kind) (x .situation)) (sym (known x reads l))
-        (verdict-fits v p s x reads table)
+    fits : (x : Inputs) → HoldsInputs v p s x → length table ≡ tableLength → (matched v p s table .reply ≡ yes) ↔ FitsInputs x
+    fits x held l =
+        subst (λ m. (m .reply ≡ yes) ↔ FitsInputs x) (sym (known x held l))
+        (verdict-fits v p s x held table)
+
+    go : (matched v p s table .reply ≡ yes → ⊥) →
+        (matched v p s table .reply ≡ yes) ⊎ ((matched v p s table .reply ≡ yes → ⊥) × (matched v p s table .table ≡ table)) →
+        matched v p s table .table ≡ table
+    go not (inl e) = absurd (not e)
+    go not (inr h) = h .1
 
 -- ---- part
 
--- A part is empty, or has two bytes at least and comes of inputs that fit.
-abbrev PartKept : List ℕ → List ℕ → List ℕ → ℕ → List ℕ → Type 0
-PartKept v p s n r =
-    (r ≡ []) ⊎ ((2 ≤ length r) × ((x : Inputs) × Reads v p s x × (occurs n (names (x .pattern)) ≡ true) ×
-    Fits (signature (x .vocabulary)) (x .pattern) (x .kind) (x .situation)))
+module _ (v p s : List ℕ) (n : ℕ) (bv : IsBytes v) (bp : IsBytes p) (bs : IsBytes s) where
+  -- A part is empty, or has two bytes at least and comes of inputs that fit.
+  abbrev PartKept : List ℕ → Type 0
+  PartKept r = (r ≡ []) ⊎ ((2 ≤ length r) × ((x : Inputs) × HoldsInputs v p s x × (occurs n (names (x .pattern)) ≡ true) × FitsInputs x))
 
-found-kept : (v p s : List ℕ) (n : ℕ) (x : Inputs) → Reads v p s x → (o : Option Filling) → matcher (x .pattern) (x .situation) ≡ o →
-    PartKept v p s n (cutOut s (spanFound x n o))
-found-kept v p s n x reads none e = inl refl
-found-kept v p s n x reads (some f) e = go (ltb n nameCount && occurs n (names (x .pattern))) refl
-  where
-    go : (c : Bool) → (ltb n nameCount && occurs n (names (x .pattern))) ≡ c →
-        PartKept v p s n (cutOut s (cond c (span (x .vocabulary) (x .pattern) (x .situation) n) noSpan))
-    go false q = inl refl
-    go true q =
-        let o = and-parts (ltb n nameCount) (occurs n (names (x .pattern))) q .1 in
-        let h = found-fills v p s x reads f e in
-        let part = part-bytes v p s x reads f (h .0) (h .1) n o in
-        inr (
-          rw part (size-least (x .vocabulary) (valueOf (f .named) n)),
-          (x, reads, o, (f, h .0, h .1)),
-        )
+  -- Inputs that fit and a pattern that has the name are not there, or the name is above 63.
+  abbrev Uncovered : Type 0
+  Uncovered = ((x : Inputs) → HoldsInputs v p s x → occurs n (names (x .pattern)) ≡ true → FitsInputs x → ⊥) ⊎ (nameCount ≤ n)
+
+  part-at : (x : Inputs) → HoldsInputs v p s x → partSpan v p s n ≡ spanFound x n (matcher (x .pattern) (x .situation))
+  part-at x held = ap (spanWith n) (clear-is-held v p s x bv bp bs .1 held)
+
+  found-kept : (x : Inputs) → HoldsInputs v p s x → (o : Option Filling) → matcher (x .pattern) (x .situation) ≡ o → PartKept (cutOut s (spanFound x n o))
+  found-kept x held none e = inl refl
+  found-kept x held (some f) e = go (ltb n nameCount && occurs n (names (x .pattern))) refl
+    where
+      go : (c : Bool) → (ltb n nameCount && occurs n (names (x .pattern))) ≡ c →
+          PartKept (cutOut s (cond c (span (x .vocabulary) (x .pattern) (x .situation) n) noSpan))
+      go false q = inl refl
+      go true q =
+          let o = and-parts (ltb n nameCount) (occurs n (names (x .pattern))) q .1 in
+          let h = found-fills v p s x held f e in
+          let part = part-bytes v p s x held f h n o in
+          inr (
+            rw part (size-least (x .vocabulary) (valueOf (f .named) n)),
+            (x, held, o, (f, h .filling, h .turns)),
+          )
+
+  found-empty : Uncovered → (x : Inputs) → HoldsInputs v p s x → (o : Option Filling) → matcher (x .pattern) (x .situation) ≡ o → spanFound x n o ≡ noSpan
+  found-empty u x held none e = refl
+  found-empty u x held (some f) e = go (ltb n nameCount && occurs n (names (x .pattern))) refl u
+    where
+      go : (c : Bool) → (ltb n nameCount && occurs n (names (x .pattern))) ≡ c → Uncovered →
+          cond c (span (x .vocabulary) (x .pattern) (x .situation) n) noSpan ≡ noSpan
+      go false q h = refl
+      go true q (inl none-fits) =
+          let h = found-fills v p s x held f e in
+          absurd (none-fits x held (and-parts (ltb n nameCount) (occurs n (names (x .pattern))) q .1) (f, h .filling, h .turns))
+      go true q (inr high) =
+          absurd (omega (arith, high, ltb-true n nameCount (and-parts (ltb n nameCount) (occurs n (names (x .pattern))) q .0)))
 
 pub part-keeps : PartKeeps
 part-keeps v p s n bv bp bs = record {
-  reply = refl;
-  value = λ x reads l o f filling fills.
-      ap (λ j. cutOut s (spanWith n j)) (clear-is-reads v p s x bv bp bs .1 reads) ∙ part-value v p s x reads f filling fills n l o;
+  cut = refl;
+  covered = λ x held o fits.
+      part-at v p s n bv bp bs x held
+      ∙ part-covered v p s x held (fits .0) (record { filling = fits .1; turns = fits .2 }) n o;
+  value = λ x held o f h.
+      ap (cutOut s) (part-at v p s n bv bp bs x held ∙ part-covered v p s x held f h n o) ∙ part-bytes v p s x held f h n o;
+  empty = λ u. empty u (judged v p s) refl;
   emptyOrCovered = kept (judged v p s) refl;
 }
   where
-    kept : (j : Judged) → judged v p s ≡ j → PartKept v p s n (cutOut s (spanWith n j))
+    empty : Uncovered v p s n bv bp bs → (j : Judged) → judged v p s ≡ j → spanWith n j ≡ noSpan
+    empty u (refusal m i q) e = refl
+    empty u (clear x) e =
+        found-empty v p s n bv bp bs u x (clear-is-held v p s x bv bp bs .0 e) (matcher (x .pattern) (x .situation)) refl
+
+    kept : (j : Judged) → judged v p s ≡ j → PartKept v p s n bv bp bs (cutOut s (spanWith n j))
     kept (refusal m i q) e = inl refl
-    kept (clear x) e = found-kept v p s n x (clear-is-reads v p s x bv bp bs .0 e) (matcher (x .pattern) (x .situation)) refl
+    kept (clear x) e = found-kept v p s n bv bp bs x (clear-is-held v p s x bv bp bs .0 e) (matcher (x .pattern) (x .situation)) refl

@@ -9,11 +9,10 @@ use lib.ListN.{length}
 use borrow.Author.Tests.{ltb-true, lt-ltb, le-ltb, eq-eqb, ne-eqb, eqb-true, not-true}
 use Rattle.terms.specs.Term.{Occurrence}
 use Rattle.terms.proofs.Bools.{and-parts}
-use Rattle.wire.specs.Map.{MapRead, writeMap, readMap, flags, within, Slot, slots}
-use Rattle.wire.specs.Map.MapRead.{got as mapGot, missing as mapMissing}
+use Rattle.wire.specs.Map.{MapRead, writeMap, readMap, flags, within, Slot, slots, mapGot, mapMissing}
 use Rattle.wire.specs.Vocabulary.{Vocabulary, InOrder, word, mapOf}
-use Rattle.wire.specs.Written.{nameByte, nameCount, firstNameByte, wholeByte}
-use Rattle.wire.specs.Reading.{Node, symbol, variable, whole, fault, clash, isWord, isName, mapNode, wordNode, nameNode, node}
+use Rattle.wire.specs.TermBytes.{nameByte, nameCount, firstNameByte, wholeByte}
+use Rattle.wire.specs.Parser.{Node, wordHere, nameHere, wholeHere, fault, clash, isWord, isName, mapNode, wordNode, nameNode, node}
 use Rattle.wire.specs.TermLines.{Word?, Name?, Clash}
 use Rattle.wire.proofs.Cond.{cond-true, cond-false, choice}
 use Rattle.wire.proofs.Outside.{outside-false, inside-outside}
@@ -52,7 +51,7 @@ module _ (W : Vocabulary) (root : Bool) (s : ℕ) (seen : List Occurrence) where
 
   pub node-symbol : (f m : ℕ) (l r : List ℕ) → Word? W f → word W f .result ≡ s → readMap l ≡ mapGot m r →
       within (flags m) (flags (mapOf W f)) ≡ true →
-      node W root s seen (f ∷ l) ≡ symbol f (slots (flags (mapOf W f)) (flags m) (word W f .kinds)) r
+      node W root s seen (f ∷ l) ≡ wordHere f (slots (flags (mapOf W f)) (flags m) (word W f .kinds)) r
   node-symbol f m l r h k e p = node-map f l (mapGot m r) h k e ∙ cond-true (within (flags m) (flags (mapOf W f))) _ _ p
 
   node-nameNode : InOrder W → (b n : ℕ) (l : List ℕ) → Name? b n → node W root s seen (b ∷ l) ≡ nameNode s seen b l
@@ -65,17 +64,17 @@ module _ (W : Vocabulary) (root : Bool) (s : ℕ) (seen : List Occurrence) where
       let e : b - firstNameByte ≡ n = omega arith in
       node-nameNode inOrder b n l h ∙ cond-true (clash seen (b - firstNameByte) s) _ _ (ap (λ k. clash seen k s) e ∙ clash-tested seen n s c)
 
-  pub node-name : InOrder W → (b n : ℕ) (l : List ℕ) → Name? b n → (Clash seen n s → ⊥) → node W root s seen (b ∷ l) ≡ variable n l
+  pub node-name : InOrder W → (b n : ℕ) (l : List ℕ) → Name? b n → (Clash seen n s → ⊥) → node W root s seen (b ∷ l) ≡ nameHere n l
   node-name inOrder b n l h c =
       let e : b - firstNameByte ≡ n = omega arith in
       node-nameNode inOrder b n l h ∙ cond-false (clash seen (b - firstNameByte) s) _ _ (ap (λ k. clash seen k s) e ∙ clash-none seen n s c)
-      ∙ ap (λ k. variable k l) e
+      ∙ ap (λ k. nameHere k l) e
 
   node-other : (b : ℕ) (l : List ℕ) → (Word? W b → ⊥) → isName b ≡ false →
-      node W root s seen (b ∷ l) ≡ cond (root && eqb b wholeByte) (whole l) (fault 11 (b ∷ l))
+      node W root s seen (b ∷ l) ≡ cond (root && eqb b wholeByte) (wholeHere l) (fault 11 (b ∷ l))
   node-other b l h k = cond-false (isWord W b) _ _ (le-ltb b _ (omega arith)) ∙ cond-false (isName b) _ _ k
 
-  pub node-whole : InOrder W → (l : List ℕ) → root ≡ true → node W root s seen (wholeByte ∷ l) ≡ whole l
+  pub node-whole : InOrder W → (l : List ℕ) → root ≡ true → node W root s seen (wholeByte ∷ l) ≡ wholeHere l
   node-whole inOrder l h =
       node-other wholeByte l (λ k. omega (arith, inOrder .fewWords)) refl ∙ cond-true (root && true) _ _ (ap (λ t. t && true) h)
 
@@ -103,9 +102,9 @@ pub record WholeStands (root : Bool) (l r : List ℕ) : Type 0 where
   pub bytes : l ≡ wholeByte ∷ r
 
 abbrev pub NodeStands : Vocabulary → Bool → ℕ → List Occurrence → List ℕ → Node → Type 0
-NodeStands W root s seen l (symbol f ks r) = WordStands W s l f ks r
-NodeStands W root s seen l (variable n r) = NameStands s seen l n r
-NodeStands W root s seen l (whole r) = WholeStands root l r
+NodeStands W root s seen l (wordHere f ks r) = WordStands W s l f ks r
+NodeStands W root s seen l (nameHere n r) = NameStands s seen l n r
+NodeStands W root s seen l (wholeHere r) = WholeStands root l r
 NodeStands W root s seen l (fault n r) = Unit {0}
 
 module _ (W : Vocabulary) (root : Bool) (s : ℕ) (seen : List Occurrence) where
@@ -114,7 +113,7 @@ module _ (W : Vocabulary) (root : Bool) (s : ℕ) (seen : List Occurrence) where
   map-stands f l h e (mapMissing r) q = tt
   map-stands f l h e (mapGot m r) q =
       choice (NodeStands W root s seen (f ∷ l)) (within (flags m) (flags (mapOf W f)))
-      (symbol f (slots (flags (mapOf W f)) (flags m) (word W f .kinds)) r) (fault 14 l)
+      (wordHere f (slots (flags (mapOf W f)) (flags m) (word W f .kinds)) r) (fault 14 l)
       (λ w. record { known = h; due = e; mask = m; bytes = ap {B = List ℕ} (λ b. f ∷ b) (write-read-map l m r q); allowed = w; marks = refl })
       (λ w. tt)
 
@@ -125,7 +124,7 @@ module _ (W : Vocabulary) (root : Bool) (s : ℕ) (seen : List Occurrence) where
 
   name-stands : (b : ℕ) (l : List ℕ) → Name? b (b - firstNameByte) → NodeStands W root s seen (b ∷ l) (nameNode s seen b l)
   name-stands b l h =
-      choice (NodeStands W root s seen (b ∷ l)) (clash seen (b - firstNameByte) s) (fault 13 (b ∷ l)) (variable (b - firstNameByte) l)
+      choice (NodeStands W root s seen (b ∷ l)) (clash seen (b - firstNameByte) s) (fault 13 (b ∷ l)) (nameHere (b - firstNameByte) l)
       (λ c. tt)
       (λ c. record { known = h .0; bytes = ap {B = List ℕ} (λ x. x ∷ l) (h .1); agrees = c })
 
@@ -133,10 +132,10 @@ module _ (W : Vocabulary) (root : Bool) (s : ℕ) (seen : List Occurrence) where
   node-stands [] = tt
   node-stands (b ∷ l) =
       choice (NodeStands W root s seen (b ∷ l)) (isWord W b) (wordNode W s b l)
-      (cond (isName b) (nameNode s seen b l) (cond (root && eqb b wholeByte) (whole l) (fault 11 (b ∷ l))))
+      (cond (isName b) (nameNode s seen b l) (cond (root && eqb b wholeByte) (wholeHere l) (fault 11 (b ∷ l))))
       (λ e. word-stands b l (ltb-true b (length (W .words)) e))
-      (λ e. choice (NodeStands W root s seen (b ∷ l)) (isName b) (nameNode s seen b l) (cond (root && eqb b wholeByte) (whole l) (fault 11 (b ∷ l)))
+      (λ e. choice (NodeStands W root s seen (b ∷ l)) (isName b) (nameNode s seen b l) (cond (root && eqb b wholeByte) (wholeHere l) (fault 11 (b ∷ l)))
       (λ q. name-stands b l (name-meant b q))
-      (λ q. choice (NodeStands W root s seen (b ∷ l)) (root && eqb b wholeByte) (whole l) (fault 11 (b ∷ l))
+      (λ q. choice (NodeStands W root s seen (b ∷ l)) (root && eqb b wholeByte) (wholeHere l) (fault 11 (b ∷ l))
       (λ w. let h = and-parts root (eqb b wholeByte) w in record { atRoot = h .0; bytes = ap {B = List ℕ} (λ x. x ∷ l) (eqb-true b wholeByte (h .1)) })
       (λ w. tt)))

@@ -9,14 +9,12 @@ use lib.Dec.{eqb, ltb}
 use lib.ListN.{length}
 use borrow.Author.Tests.{ltb-true, ltb-false, eqb-true, eqb-false, eq-eqb}
 use Rattle.terms.specs.Term.{Occurrence}
-use Rattle.wire.specs.Map.{MapRead, readMap, flags, within}
-use Rattle.wire.specs.Map.MapRead.{got as mapGot, missing as mapMissing}
+use Rattle.wire.specs.Map.{MapRead, readMap, flags, within, mapGot, mapMissing}
 use Rattle.wire.specs.Vocabulary.{Vocabulary, InOrder, word, mapOf}
-use Rattle.wire.specs.Written.{firstNameByte, wholeByte}
-use Rattle.wire.specs.Checks.{mostLevels}
+use Rattle.wire.specs.TermBytes.{firstNameByte, wholeByte, mostLevels}
 use Rattle.wire.specs.Refusals.{Sooner, Decides}
 use Rattle.wire.specs.TermLines.{Due, State, Step, onWord, onName, onWhole, Word?, Name?, Clash, NodeLine}
-use Rattle.wire.specs.Reading.{stop, fault, isWord, isName, clash, node}
+use Rattle.wire.specs.Parser.{stop, fault, isWord, isName, clash, node}
 use Rattle.wire.proofs.Map.{map-missing}
 use Rattle.wire.proofs.Seen.{clash-meant, clash-not}
 use Rattle.wire.proofs.Node.{name-meant, name-tested, node-short, node-differs, node-stray, node-clash, node-unknown}

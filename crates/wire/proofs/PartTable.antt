@@ -12,8 +12,10 @@ use Rattle.terms.specs.Lists.{occurs}
 use Rattle.terms.specs.Term.{names}
 use Rattle.terms.specs.Filling.{Filling}
 use Rattle.terms.specs.Matcher.{matcher}
-use Rattle.wire.specs.Written.{nameCount}
-use Rattle.wire.specs.Matching.{Inputs, Judged, clear, refusal, judged, tableLength, Span, orNoSpan, noSpan, span, spanIn, Matched, yes, verdict, matchedWith, matched, spanFound, spanWith, PartIsTable}
+use Rattle.wire.specs.TermBytes.{nameCount}
+use Rattle.wire.specs.Matching.{Inputs, tableLength, Span, orNoSpan, noSpan, span, spanIn, yes}
+use Rattle.wire.specs.MatchComputed.{Judged, clear, refusal, judged, Matched, verdict, matchedWith, matched, spanFound, spanWith}
+use Rattle.wire.specs.Laws.{PartIsTable}
 use Rattle.wire.proofs.Cond.{cond-true, choice}
 use Rattle.wire.proofs.Matching.{not-accepted, no-not-yes}
 use Rattle.wire.proofs.Spans.{span-absent}
@@ -56,21 +58,3 @@ part-is-table v p s table n long = go (judged v p s)
         let o = matcher (x .pattern) (x .situation) in
         subst (λ m. Tied n m (spanFound x n o)) (sym (cond-true (eqb (length table) tableLength) _ _ (eq-eqb (length table) tableLength long)))
         (verdict-tied x n table o)
-
--- Where match does not say yes, the table is as it was.
-pub yes-or-kept : (v p s table : List ℕ) →
-    (matched v p s table .reply ≡ yes) ⊎ ((matched v p s table .reply ≡ yes → ⊥) × (matched v p s table .table ≡ table))
-yes-or-kept v p s table = go (judged v p s)
-  where
-    Kept : Matched → Type 0
-    Kept m = (m .reply ≡ yes) ⊎ ((m .reply ≡ yes → ⊥) × (m .table ≡ table))
-
-    answer : (x : Inputs) (o : Option Filling) → Kept (verdict table x o)
-    answer x (some f) = inl refl
-    answer x none = inr (no-not-yes, refl)
-
-    go : (j : Judged) → Kept (matchedWith table j)
-    go (refusal n i q) = inr (not-accepted n i q _, refl)
-    go (clear x) =
-        choice Kept (eqb (length table) tableLength) _ _ (λ e. answer x (matcher (x .pattern) (x .situation)))
-        (λ e. inr (not-accepted 19 3 0 _, refl))

@@ -1,7 +1,5 @@
 -- Pending: where a ground term ends is found by counting the terms that are still due.
 --
---   skip n k l              the bytes behind k terms at the front of l, at most n nodes being taken off
---   skip-ground             behind the writing of a ground term it stops
 --   Pending W s end i k     k ground terms stand from place i to place end of the bytes s, one behind the other
 --   pending-begins          one term is due at its first byte
 --   pending-turn            a node takes its bytes, and its arguments are due instead
@@ -15,51 +13,11 @@ use lib.ListN.{length, getD, drop, length-append, length-drop}
 use lib.Seq.{drop-drop, drop-at, getD-drop}
 use Rattle.terms.specs.Signature.{arguments}
 use Rattle.terms.specs.Term.{Ground, gapp, Grounds, gnil, gcons, SortedG, SortedGs}
-use Rattle.wire.specs.Map.{mapBytes, writeMap, MapRead, got, missing, readMap, flags, ones}
+use Rattle.wire.specs.Map.{mapBytes, writeMap, flags, ones}
 use Rattle.wire.specs.Vocabulary.{Vocabulary, signature, mapOf, InOrder}
-use Rattle.wire.specs.Written.{encodeAt, encodeAll, wordCount, wordCountAll, asTerm, asTerms}
+use Rattle.wire.specs.TermBytes.{encodeAt, encodeAll, wordCount, wordCountAll, asTerm, asTerms}
 use Rattle.wire.specs.Matching.{size}
-use Rattle.wire.proofs.GroundBytes.{joined, joined-sorted, joined-words, known-word, count-arguments, first-node}
-
--- ---- the count as a function
-
--- What is taken off behind a word's byte: its map, and then what its arguments take.
-abbrev pub skipMap : (ℕ → List ℕ → List ℕ) → ℕ → MapRead → List ℕ
-skipMap on k (got m r) = on (ones (flags m) + k) r
-skipMap on k (missing r) = r
-
-abbrev pub skip : ℕ → ℕ → List ℕ → List ℕ
-skip zero k l = l
-skip (suc n) zero l = l
-skip (suc n) (suc k) [] = []
-skip (suc n) (suc k) (f ∷ l) = skipMap (skip n) k (readMap l)
-
-module _ (W : Vocabulary) (inOrder : InOrder W) where
-  pub skip-grounds : (n : ℕ) (gs : Grounds) (ks r : List ℕ) → SortedGs (signature W) gs ks → wordCountAll (asTerms gs) ≤ n →
-      skip n (length ks) (encodeAll W (asTerms gs) ++ r) ≡ r
-  skip-grounds zero gnil ks r h l = refl
-  skip-grounds zero (gcons (gapp f hs) gs) ks r h l = absurd (omega arith)
-  skip-grounds (suc n) gnil [] r h l = refl
-  skip-grounds (suc n) gnil (k ∷ ks) r h l = absurd h
-  skip-grounds (suc n) (gcons (gapp f hs) gs) [] r h l = absurd h
-  skip-grounds (suc n) (gcons (gapp f hs) gs) (k ∷ ks) r h l =
-      ap (skip (suc n) (suc (length ks))) (first-node W inOrder f hs gs k r (h .0))
-      ∙ ap (λ (c : ℕ). skip n c (encodeAll W (asTerms (joined hs gs)) ++ r)) many
-      ∙ skip-grounds n (joined hs gs) (arguments (signature W) f ++ ks) r
-      (joined-sorted (signature W) hs gs (arguments (signature W) f) ks (h .0 .2) (h .1)) (omega (arith, joined-words hs gs))
-    where
-      many : ones (flags (mapOf W f)) + length ks ≡ length (arguments (signature W) f ++ ks)
-      many =
-          ap (λ (c : ℕ). c + length ks) (sym (count-arguments W inOrder f (known-word W inOrder f hs k (h .0))))
-          ∙ sym (length-append (arguments (signature W) f) ks)
-
-  pub skip-ground : (n : ℕ) (g : Ground) (s : ℕ) (r : List ℕ) → SortedG (signature W) g s → wordCount (asTerm g) ≤ n →
-      skip n 1 (encodeAt W (asTerm g) ++ r) ≡ r
-  skip-ground n g s r h l =
-      ap (λ (b : List ℕ). skip n 1 (b ++ r)) (sym (append-nil (encodeAt W (asTerm g))))
-      ∙ skip-grounds n (gcons g gnil) (s ∷ []) r (h, tt) (omega arith)
-
--- ---- the count as an invariant
+use Rattle.wire.proofs.GroundBytes.{joined, joined-sorted, known-word, count-arguments, first-node}
 
 pub record Pending (W : Vocabulary) (s : List ℕ) (end i k : ℕ) : Type 0 where
   pub terms : Grounds

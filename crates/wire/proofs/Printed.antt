@@ -12,20 +12,21 @@ use borrow.Author.Tests.{ltb-true, ltb-false, lt-ltb}
 use Rattle.terms.specs.Term.{Term}
 use Rattle.terms.specs.Listing.{listing}
 use Rattle.terms.proofs.Bools.{or-right}
-use Rattle.wire.specs.Reply.{Reply, accepted, refused, Reading, accept, refuse, IsBytes, outside}
+use Rattle.wire.specs.Reply.{Reply, accepted, refused, IsBytes, outside, Kinded, kinded}
+use Rattle.wire.specs.Parser.{Reading, accept, refuse, readVocabulary}
 use Rattle.wire.specs.Vocabulary.{Vocabulary, signature}
-use Rattle.wire.specs.Written.{encodeTerm}
-use Rattle.wire.specs.Reading.{Kinded, readVocabulary}
-use Rattle.wire.specs.Checks.{leastBytes, mostBytes}
-use Rattle.wire.specs.Listed.{linearIn, checkedLinear, kinded, entriesBytes, entriesOf, listedPattern, listedVocabulary, listed, Pattern, ListRefusal, ListPromise}
-use Rattle.wire.specs.Text.{ascii, newline, decimal}
-use Rattle.wire.specs.Printed.{mostInput, listingSpace, vocabularyPart, patternPart, entriesUnder, entriesWith, entriesLeft, entryLines, reported, printedFrom, printed, PrintedIsListed, mostVocabulary, MoreAltersNothing}
+use Rattle.wire.specs.TermBytes.{encodeTerm, leastBytes, mostBytes}
+use Rattle.wire.specs.ListComputed.{linearIn, checkedLinear, listedPattern, listedVocabulary, listed}
+use Rattle.wire.specs.Leftovers.{HoldsPattern, listingBytes, ListRefusal, ListPromise}
+use Rattle.wire.specs.Printing.{mostInput, listingSpace, vocabularyPart, patternPart, listingText}
+use Rattle.wire.specs.PrintComputed.{entriesUnder, entriesWith, entriesLeft, reported, printedFrom, printed}
+use Rattle.wire.specs.Laws.{PrintKeeps, mostVocabulary, MoreAltersNothing}
 use Rattle.wire.proofs.Cond.{cond-true}
 use Rattle.wire.proofs.VocabularyMore.{refused-alike}
 use Rattle.wire.proofs.Listed.{read-pattern, Decided, decided, list-keeps}
 
 -- The entries that are printed are those of the pattern.
-entries-printed : (v p : List ℕ) (W : Vocabulary) (s : ℕ) (t : Term) → IsBytes v → IsBytes p → Pattern v p W s t →
+entries-printed : (v p : List ℕ) (W : Vocabulary) (s : ℕ) (t : Term) → IsBytes v → IsBytes p → HoldsPattern v p W s t →
     entriesLeft v p ≡ map (encodeTerm W s) (listing (signature W) t)
 entries-printed v p W s t bv bp h =
     let read = read-pattern v p W s t bv bp h in
@@ -40,8 +41,8 @@ space = replicate listingSpace 0
 space-long : length space ≡ listingSpace
 space-long = length-replicate {A = ℕ} listingSpace 0
 
-pub printed-is-listed : PrintedIsListed
-printed-is-listed v p bv bp = record {
+pub print-keeps : PrintKeeps
+print-keeps v p bv bp = record {
   one = one (listed v p space .reply) (decided v p space bv bp);
   refuses = λ n i q h. ap (λ r. reported r (entriesLeft v p)) (promise .refuses n i q .1 h);
   lists = lists;
@@ -52,19 +53,15 @@ printed-is-listed v p bv bp = record {
 
     one : (r : Reply) → Decided v p space bv bp r →
         ((n : ℕ) × (i : ℕ) × (q : ℕ) × ListRefusal v p space n i q) ⊎
-        ((W : Vocabulary) × (s : ℕ) × (t : Term) × Pattern v p W s t × (length (entriesBytes W (entriesOf W s t)) ≤ listingSpace))
+        ((W : Vocabulary) × (s : ℕ) × (t : Term) × HoldsPattern v p W s t × (length (listingBytes W s t) ≤ listingSpace))
     one (refused n i q) h = inl (n, i, q, h)
-    one (accepted l) (W, s, t, h, fits) = inr (W, s, t, h, subst (λ m. length (entriesBytes W (entriesOf W s t)) ≤ m) space-long fits)
+    one (accepted l) (W, s, t, h, fits, e) = inr (W, s, t, h, subst (λ m. length (listingBytes W s t) ≤ m) space-long fits)
 
-    lists : (W : Vocabulary) (s : ℕ) (t : Term) → Pattern v p W s t → length (entriesBytes W (entriesOf W s t)) ≤ listingSpace →
-        printedFrom v p ≡ ascii "leftovers " ++ (decimal (length (listing (signature W) t)) ++
-        (newline ++ entryLines 1 (map (encodeTerm W s) (listing (signature W) t))))
+    lists : (W : Vocabulary) (s : ℕ) (t : Term) → HoldsPattern v p W s t → length (listingBytes W s t) ≤ listingSpace →
+        printedFrom v p ≡ listingText (map (encodeTerm W s) (listing (signature W) t))
     lists W s t h fits =
-        let entries : List (List ℕ) = map (encodeTerm W s) (listing (signature W) t) in
-        let room = subst (λ m. length (entriesBytes W (entriesOf W s t)) ≤ m) (sym space-long) fits in
-        let answer = promise .answered .1 (W, s, t, h, room) in
-        ap₂ reported (answer .2) (entries-printed v p W s t bv bp h)
-        ∙ ap (λ n. ascii "leftovers " ++ (decimal n ++ (newline ++ entryLines 1 entries))) (length-map (listing (signature W) t) (encodeTerm W s))
+        let room = subst (λ m. length (listingBytes W s t) ≤ m) (sym space-long) fits in
+        ap₂ reported (promise .answered _ .1 (W, s, t, h, room, refl)) (entries-printed v p W s t bv bp h)
 
 -- ---- all bytes of the input in place of the first
 

@@ -11,8 +11,8 @@ use Rattle.terms.proofs.All.{all-append, all-right}
 use Rattle.wire.specs.Reply.{IsBytes}
 use Rattle.wire.specs.Map.{mapBits, writeMap, flags, number, Slot, isOpen}
 use Rattle.wire.specs.Vocabulary.{Vocabulary, InOrder, signature, word, mapOf}
-use Rattle.wire.specs.Written.{nameByte, writtenMap, encodeAt, encodeAll, encodeRoot, levelsAll, deepest, nameCount, wholeByte}
-use Rattle.wire.specs.Reading.{Got, got, stop, andThen, Node, symbol, variable, whole, fault, node, Read, ReadAll, withFirst, readSlots, fromNode, readTerm}
+use Rattle.wire.specs.TermBytes.{nameByte, writtenMap, encodeAt, encodeAll, encodeRoot, levelsAll, deepest, nameCount, wholeByte}
+use Rattle.wire.specs.Parser.{Got, got, stop, andThen, Node, wordHere, nameHere, wholeHere, fault, node, Read, ReadAll, withFirst, readSlots, fromNode, readTerm}
 use Rattle.wire.proofs.Map.{number-flags, length-flagsIn, read-map-lt, sorts, Marked, sorts-slots, written-marked}
 use Rattle.wire.proofs.Seen.{clash-consistent}
 use Rattle.wire.proofs.Words.{length-symbols, result-word, arguments-word, word-in-order}
@@ -175,10 +175,10 @@ module _ (W : Vocabulary) (inOrder : InOrder W) (left : ℕ) (root : Bool) (s : 
   node-reads : (reader : ℕ → List Occurrence → List ℕ → Got Read) →
       ((z : ℕ) (seen′ : List Occurrence) (m : List ℕ) → IsBytes m → Reads W left false z seen′ m (reader z seen′ m)) →
       (n : Node) → NodeStands W root s seen l n → Reads W (suc left) root s seen l (fromNode reader s seen n)
-  node-reads reader good (symbol f ks r) w =
+  node-reads reader good (wordHere f ks r) w =
       word-reads f ks r w (readSlots reader ks seen r)
       (slots-read W left reader good ks seen r (rest-bytes l (f ∷ writeMap (w .mask)) r (w .bytes) b))
-  node-reads reader good (variable n r) w = record {
+  node-reads reader good (nameHere n r) w = record {
     bytes = w .bytes ∙ ap (λ (z : List ℕ). z ++ r) (sym (from-var root W n));
     closed = λ e. refl;
     sorted = tt;
@@ -187,7 +187,7 @@ module _ (W : Vocabulary) (inOrder : InOrder W) (left : ℕ) (root : Bool) (s : 
     agrees = λ c. clash-consistent seen n s c (w .agrees);
     deep = omega arith;
   }
-  node-reads reader good (whole r) w = record {
+  node-reads reader good (wholeHere r) w = record {
     bytes = w .bytes ∙ ap (λ (z : List ℕ). z ++ r) (sym (from-any root W (w .atRoot)));
     closed = λ e. sym (w .atRoot) ∙ e;
     sorted = tt;

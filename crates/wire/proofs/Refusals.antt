@@ -3,8 +3,9 @@ use mathlib.Core.Path.{_≡_, refl, sym, subst}
 use mathlib.Core.Logic.{inl, inr}
 use Prim.Native.Nat.{ℕ}
 use native.Mathlib.Omega.{arith}
-use Rattle.wire.specs.Reply.{Reading, accept, refuse}
-use Rattle.wire.specs.Refusals.{Sooner, Decides, RefusesBy}
+use Rattle.wire.specs.Parser.{Reading, accept, refuse}
+use Rattle.wire.specs.Refusals.{Sooner, Decides}
+use Rattle.wire.specs.Laws.{RefusesBy}
 
 -- Of two lines at most one comes before the other.
 pub sooner-antisym : (n q m r : ℕ) → Sooner n q m r → Sooner m r n q → (n ≡ m) × (q ≡ r)

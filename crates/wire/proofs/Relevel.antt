@@ -7,11 +7,11 @@ use native.Mathlib.Omega.{arith}
 use lib.Dec.{ltb}
 use lib.ListN.{length}
 use Rattle.terms.specs.Term.{any, app, Occurrence}
-use Rattle.wire.specs.Reply.{Reading, accept, refuse}
+use Rattle.wire.specs.Parser.{Reading, accept, refuse, Got, got, stop, andThen, Node, wordHere, nameHere, wholeHere, fault, node, Read, ReadAll, withFirst, readSlots, fromNode, readTerm, line15, readWhole}
 use Rattle.wire.specs.Map.{Slot}
 use Rattle.wire.specs.Vocabulary.{Vocabulary}
-use Rattle.wire.specs.Written.{levels, levelsAll, deepest}
-use Rattle.wire.specs.Reading.{Got, got, stop, andThen, Node, symbol, variable, whole, fault, node, Read, ReadAll, withFirst, readSlots, fromNode, readTerm, Kinded, line15, readWhole}
+use Rattle.wire.specs.TermBytes.{levels, levelsAll, deepest}
+use Rattle.wire.specs.Reply.{Kinded}
 use Rattle.wire.proofs.Cond.{cond-true, choice}
 use Rattle.wire.proofs.Node.{NodeStands, node-stands}
 use Rattle.wire.proofs.WriteRead.{slots-open, slots-written}
@@ -99,7 +99,7 @@ module _ (W : Vocabulary) (left : ℕ) (root : Bool) (s : ℕ) (seen : List Occu
   again-from x e a r f zero h = absurd (omega arith)
   again-from x e a r f (suc n) h = ap (fromNode (readTerm W n false) s seen) e ∙ f n h
 
-  word-relevels : (f : ℕ) (ks : List Slot) (r : List ℕ) → node W root s seen l ≡ symbol f ks r → length l ≡ suc (suc (length r)) →
+  word-relevels : (f : ℕ) (ks : List Slot) (r : List ℕ) → node W root s seen l ≡ wordHere f ks r → length l ≡ suc (suc (length r)) →
       (x : Got ReadAll) → RelevelsAllOf W left ks seen r x →
       RelevelsOf W (suc left) root s seen l (andThen x (λ ts r′. got (record { term = app f (ts .terms); seen = ts .seen }) r′))
   word-relevels f ks r e size (stop n r′) h = tt
@@ -108,26 +108,26 @@ module _ (W : Vocabulary) (left : ℕ) (root : Bool) (s : ℕ) (seen : List Occu
     bytes = let d = h .bytes in omega arith;
     closed = λ z. omega arith;
     again =
-        again-from (symbol f ks r) e (record { term = app f (a .terms); seen = a .seen }) r′
+        again-from (wordHere f ks r) e (record { term = app f (a .terms); seen = a .seen }) r′
         (λ n d. ap (λ x. andThen x (λ ts q. got (record { term = app f (ts .terms); seen = ts .seen }) q)) (h .again n (omega arith)));
   }
 
   node-relevels : ((z : ℕ) (seen′ : List Occurrence) (m : List ℕ) → RelevelsOf W left false z seen′ m (readTerm W left false z seen′ m)) →
       (x : Node) → node W root s seen l ≡ x → NodeStands W root s seen l x →
       RelevelsOf W (suc left) root s seen l (fromNode (readTerm W left false) s seen x)
-  node-relevels term (symbol f ks r) e w =
+  node-relevels term (wordHere f ks r) e w =
       word-relevels f ks r e (ap length (w .bytes)) (readSlots (readTerm W left false) ks seen r) (slots-relevel W left term ks seen r)
-  node-relevels term (variable n r) e w = record {
+  node-relevels term (nameHere n r) e w = record {
     fits = omega arith;
     bytes = let d = ap length (w .bytes) in omega arith;
     closed = λ z. omega arith;
-    again = again-from (variable n r) e _ r (λ n d. refl);
+    again = again-from (nameHere n r) e _ r (λ n d. refl);
   }
-  node-relevels term (whole r) e w = record {
+  node-relevels term (wholeHere r) e w = record {
     fits = omega arith;
     bytes = let d = ap length (w .bytes) in omega arith;
     closed = λ z. absurd (true≢false (sym (w .atRoot) ∙ z));
-    again = again-from (whole r) e _ r (λ n d. refl);
+    again = again-from (wholeHere r) e _ r (λ n d. refl);
   }
   node-relevels term (fault n r) e w = tt
 

@@ -13,54 +13,55 @@ use Rattle.terms.specs.Term.{Term, any, var, app, Terms, nil, cons, names, name
 use Rattle.terms.proofs.Bools.{eqb-sym, or-parts, or-neither}
 use Rattle.wire.specs.Map.{mapBytes}
 use Rattle.wire.specs.Vocabulary.{Vocabulary}
-use Rattle.wire.specs.Written.{encodeAt}
-use Rattle.wire.specs.Listed.{Placed, placedFrom, placedAll, placed, noPlaced, RepeatedAt, repeatedIn}
+use Rattle.wire.specs.TermBytes.{encodeAt}
+use Rattle.wire.specs.PatternLines.{Sighting, sightingsFrom, sightingsAll, sightings, noSighting, RepeatedAt}
+use Rattle.wire.specs.ListComputed.{repeatedIn}
 use Rattle.wire.proofs.Cond.{cond-true, cond-false}
 
-abbrev pub namesOf : List Placed → List ℕ
+abbrev pub namesOf : List Sighting → List ℕ
 namesOf l = map (λ o. o .name) l
 
 -- ---- the names of a term
 
-names-append : (l m : List Placed) → namesOf (l ++ m) ≡ namesOf l ++ namesOf m
+names-append : (l m : List Sighting) → namesOf (l ++ m) ≡ namesOf l ++ namesOf m
 names-append [] m = refl
 names-append (o ∷ l) m = ap (λ z. o .name ∷ z) (names-append l m)
 
 mutual
-  pub placed-names : (W : Vocabulary) (t : Term) (at : ℕ) → namesOf (placedFrom W t at) ≡ names t
+  pub placed-names : (W : Vocabulary) (t : Term) (at : ℕ) → namesOf (sightingsFrom W t at) ≡ names t
   placed-names W any at = refl
   placed-names W (var n) at = refl
   placed-names W (app f ts) at = placed-names-all W ts (at + 1 + mapBytes)
 
-  placed-names-all : (W : Vocabulary) (ts : Terms) (at : ℕ) → namesOf (placedAll W ts at) ≡ namesAll ts
+  placed-names-all : (W : Vocabulary) (ts : Terms) (at : ℕ) → namesOf (sightingsAll W ts at) ≡ namesAll ts
   placed-names-all W nil at = refl
   placed-names-all W (cons t ts) at =
-      names-append (placedFrom W t at) (placedAll W ts (at + length (encodeAt W t)))
+      names-append (sightingsFrom W t at) (sightingsAll W ts (at + length (encodeAt W t)))
       ∙ ap₂ (λ l m. l ++ m) (placed-names W t at) (placed-names-all W ts (at + length (encodeAt W t)))
 
 -- ---- names that stood before, here or among `seen`
 
-abbrev before : List ℕ → List Placed → ℕ → Bool
-before seen l j = occurs (getD l j noPlaced .name) (namesOf (take j l)) || occurs (getD l j noPlaced .name) seen
+abbrev before : List ℕ → List Sighting → ℕ → Bool
+before seen l j = occurs (getD l j noSighting .name) (namesOf (take j l)) || occurs (getD l j noSighting .name) seen
 
 or-swap : (a b c : Bool) → ((a || b) || c) ≡ (b || (a || c))
 or-swap true true c = refl
 or-swap true false c = refl
 or-swap false b c = refl
 
-before-shift : (seen : List ℕ) (o : Placed) (l : List Placed) (j : ℕ) → before seen (o ∷ l) (suc j) ≡ before (o .name ∷ seen) l j
+before-shift : (seen : List ℕ) (o : Sighting) (l : List Sighting) (j : ℕ) → before seen (o ∷ l) (suc j) ≡ before (o .name ∷ seen) l j
 before-shift seen o l j =
-    let n : ℕ = getD l j noPlaced .name in
+    let n : ℕ = getD l j noSighting .name in
     or-swap (eqb n (o .name)) (occurs n (namesOf (take j l))) (occurs n seen)
 
-record RepeatedFrom (seen : List ℕ) (l : List Placed) (q : ℕ) : Type 0 where
+record RepeatedFrom (seen : List ℕ) (l : List Sighting) (q : ℕ) : Type 0 where
   index : ℕ
   below : index < length l
-  here : getD l index noPlaced .offset ≡ q
+  here : getD l index noSighting .offset ≡ q
   again : before seen l index ≡ true
   first : (j : ℕ) → j < index → before seen l j ≡ false
 
-found-repeated : (seen : List ℕ) (l : List Placed) (q : ℕ) → repeatedIn seen l ≡ some q → RepeatedFrom seen l q
+found-repeated : (seen : List ℕ) (l : List Sighting) (q : ℕ) → repeatedIn seen l ≡ some q → RepeatedFrom seen l q
 found-repeated seen [] q e = absurd (Option·none-ne-some q e)
 found-repeated seen (o ∷ l) q e = go (occurs (o .name) seen) refl e (found-repeated (o .name ∷ seen) l q)
   where
@@ -81,7 +82,7 @@ found-repeated seen (o ∷ l) q e = go (occurs (o .name) seen) refl e (found-rep
         first-of r zero k = h
         first-of r (suc j) k = before-shift seen o l j ∙ r .first j (omega arith)
 
-repeated-found : (seen : List ℕ) (l : List Placed) (q i : ℕ) → i < length l → getD l i noPlaced .offset ≡ q → before seen l i ≡ true →
+repeated-found : (seen : List ℕ) (l : List Sighting) (q i : ℕ) → i < length l → getD l i noSighting .offset ≡ q → before seen l i ≡ true →
     ((j : ℕ) → j < i → before seen l j ≡ false) → repeatedIn seen l ≡ some q
 repeated-found seen [] q i below here again first = absurd (omega arith)
 repeated-found seen (o ∷ l) q zero below here again first = cond-true (occurs (o .name) seen) _ _ again ∙ ap some here
@@ -95,7 +96,7 @@ or-false true = refl
 or-false false = refl
 
 -- The search gives the earliest byte at which a name stands for the second time.
-pub repeated-is-exact : (l : List Placed) (q : ℕ) → (repeatedIn [] l ≡ some q) ↔ RepeatedAt l q
+pub repeated-is-exact : (l : List Sighting) (q : ℕ) → (repeatedIn [] l ≡ some q) ↔ RepeatedAt l q
 repeated-is-exact l q = (
   (λ e.
       let r = found-repeated [] l q e in
@@ -125,7 +126,7 @@ none-occurs n (m ∷ l) seen h a =
     let r = or-parts (eqb n m) (occurs n l) h in
     (or-neither (eqb m n) (occurs m seen) (eqb-sym m n ∙ r .0) (a .0), none-occurs n l seen (r .1) (a .1))
 
-missed-none-twice : (seen : List ℕ) (l : List Placed) → repeatedIn seen l ≡ none →
+missed-none-twice : (seen : List ℕ) (l : List Sighting) → repeatedIn seen l ≡ none →
     NoneTwice (namesOf l) × All (λ n. occurs n seen ≡ false) (namesOf l)
 missed-none-twice seen [] e = (tt, tt)
 missed-none-twice seen (o ∷ l) e = go (occurs (o .name) seen) refl e (missed-none-twice (o .name ∷ seen) l)
@@ -139,7 +140,7 @@ missed-none-twice seen (o ∷ l) e = go (occurs (o .name) seen) refl e (missed-n
         let a = occurs-none (o .name) (namesOf l) seen (r .1) in
         ((a .0, r .0), (h, a .1))
 
-none-twice-missed : (seen : List ℕ) (l : List Placed) → NoneTwice (namesOf l) → All (λ n. occurs n seen ≡ false) (namesOf l) →
+none-twice-missed : (seen : List ℕ) (l : List Sighting) → NoneTwice (namesOf l) → All (λ n. occurs n seen ≡ false) (namesOf l) →
     repeatedIn seen l ≡ none
 none-twice-missed seen [] u a = refl
 none-twice-missed seen (o ∷ l) u a =
@@ -151,8 +152,8 @@ all-unseen [] = tt
 all-unseen (n ∷ l) = (refl, all-unseen l)
 
 -- Nothing is found in a term exactly where no name stands twice in it.
-pub unrepeated-is-linear : (W : Vocabulary) (t : Term) → (repeatedIn [] (placed W t) ≡ none) ↔ Linear t
+pub unrepeated-is-linear : (W : Vocabulary) (t : Term) → (repeatedIn [] (sightings W t) ≡ none) ↔ Linear t
 unrepeated-is-linear W t = (
-  (λ e. subst NoneTwice (placed-names W t 1) (missed-none-twice [] (placed W t) e .0)),
-  (λ h. none-twice-missed [] (placed W t) (subst NoneTwice (sym (placed-names W t 1)) h) (all-unseen (namesOf (placed W t)))),
+  (λ e. subst NoneTwice (placed-names W t 1) (missed-none-twice [] (sightings W t) e .0)),
+  (λ h. none-twice-missed [] (sightings W t) (subst NoneTwice (sym (placed-names W t 1)) h) (all-unseen (namesOf (sightings W t)))),
 )

@@ -20,10 +20,9 @@ use borrow.Author.Tests.{lt-ltb, le-ltb}
 use Rattle.terms.specs.Term.{Term, any, Terms, Occurrence}
 use Rattle.wire.specs.Map.{Slot}
 use Rattle.wire.specs.Vocabulary.{Vocabulary}
-use Rattle.wire.specs.Written.{wordCount, wordCountAll, levels, levelsAll, deepest}
-use Rattle.wire.specs.Checks.{mostLevels}
+use Rattle.wire.specs.TermBytes.{wordCount, wordCountAll, levels, levelsAll, deepest, mostLevels}
 use Rattle.wire.specs.TermLines.{Due, dueAt}
-use Rattle.wire.specs.Reading.{Got, got, stop, andThen, Node, symbol, variable, whole, fault, node, atLimit, Read, ReadAll, withFirst, readSlots, fromNode, readTerm}
+use Rattle.wire.specs.Parser.{Got, got, stop, andThen, Node, wordHere, nameHere, wholeHere, fault, node, atLimit, Read, ReadAll, withFirst, readSlots, fromNode, readTerm}
 use Rattle.wire.proofs.Node.{NodeStands, node-stands}
 
 pub record Tally : Type 0 where
@@ -39,9 +38,9 @@ withLeaf level y = record { words = y .words; deepest = max (y .deepest) level }
 
 -- How a scan goes on behind a node of what is due first.
 abbrev pub scanNode : (List Due → List Occurrence → Tally → List ℕ → Got Tally) → Due → List Due → List Occurrence → Tally → Node → Got Tally
-scanNode go d ds seen y (symbol f ks r) = go (dueAt (suc (d .level)) ks ++ ds) seen (withWord (d .level) y) r
-scanNode go d ds seen y (variable k r) = go ds (seen ++ (record { name = k; sort = d .sort } ∷ [])) (withLeaf (d .level) y) r
-scanNode go d ds seen y (whole r) = go ds seen (withLeaf (d .level) y) r
+scanNode go d ds seen y (wordHere f ks r) = go (dueAt (suc (d .level)) ks ++ ds) seen (withWord (d .level) y) r
+scanNode go d ds seen y (nameHere k r) = go ds (seen ++ (record { name = k; sort = d .sort } ∷ [])) (withLeaf (d .level) y) r
+scanNode go d ds seen y (wholeHere r) = go ds seen (withLeaf (d .level) y) r
 scanNode go d ds seen y (fault k r) = stop k r
 
 abbrev pub scan : Vocabulary → ℕ → List Due → List Occurrence → Tally → List ℕ → Got Tally
@@ -62,15 +61,15 @@ tallied (stop n r) = stop n r
 
 -- The bytes behind a node are fewer than n.
 abbrev pub NodeBelow : ℕ → Node → Type 0
-NodeBelow n (symbol f ks r) = length r < n
-NodeBelow n (variable k r) = length r < n
-NodeBelow n (whole r) = length r < n
+NodeBelow n (wordHere f ks r) = length r < n
+NodeBelow n (nameHere k r) = length r < n
+NodeBelow n (wholeHere r) = length r < n
 NodeBelow n (fault k r) = Unit {0}
 
 stands-below : (W : Vocabulary) (root : Bool) (s : ℕ) (seen : List Occurrence) (l : List ℕ) (x : Node) → NodeStands W root s seen l x → NodeBelow (length l) x
-stands-below W root s seen l (symbol f ks r) h = omega (arith, ap length (h .bytes))
-stands-below W root s seen l (variable n r) h = omega (arith, ap length (h .bytes))
-stands-below W root s seen l (whole r) h = omega (arith, ap length (h .bytes))
+stands-below W root s seen l (wordHere f ks r) h = omega (arith, ap length (h .bytes))
+stands-below W root s seen l (nameHere n r) h = omega (arith, ap length (h .bytes))
+stands-below W root s seen l (wholeHere r) h = omega (arith, ap length (h .bytes))
 stands-below W root s seen l (fault n r) h = tt
 
 -- Each node takes a byte at least.
@@ -81,9 +80,9 @@ node-below W root s seen l = stands-below W root s seen l (node W root s seen l)
 node-agree : (n : ℕ) (g h : List Due → List Occurrence → Tally → List ℕ → Got Tally) (d : Due) (ds : List Due) (seen : List Occurrence) (y : Tally) (x : Node) →
     ((due : List Due) (seen : List Occurrence) (y : Tally) (r : List ℕ) → length r < n → g due seen y r ≡ h due seen y r) →
     NodeBelow n x → scanNode g d ds seen y x ≡ scanNode h d ds seen y x
-node-agree n g h d ds seen y (symbol f ks r) e p = e _ _ _ r p
-node-agree n g h d ds seen y (variable k r) e p = e _ _ _ r p
-node-agree n g h d ds seen y (whole r) e p = e _ _ _ r p
+node-agree n g h d ds seen y (wordHere f ks r) e p = e _ _ _ r p
+node-agree n g h d ds seen y (nameHere k r) e p = e _ _ _ r p
+node-agree n g h d ds seen y (wholeHere r) e p = e _ _ _ r p
 node-agree n g h d ds seen y (fault k r) e p = refl
 
 -- The two arms of a choice.
@@ -125,7 +124,7 @@ pub run-limit : (W : Vocabulary) (d : Due) (ds : List Due) (seen : List Occurren
     run W (d ∷ ds) seen y l ≡ atLimit l
 run-limit W d ds seen y l h = first-arm (ltb mostLevels (d .level)) (atLimit l) _ (lt-ltb _ _ h)
 
--- The tally behind a whole term that begins at a level, and behind the terms of a word's places.
+-- The tally behind a wholeHere term that begins at a level, and behind the terms of a word's places.
 abbrev pub withTerm : ℕ → Tally → Term → Tally
 withTerm level y t = record { words = y .words + wordCount t; deepest = max (y .deepest) (pred level + deepest t) }
 
@@ -161,15 +160,15 @@ then-holds P (stop n r) f h = tt
 
 -- A node that is no 255 at the root.
 abbrev NoWhole : Node → Type 0
-NoWhole (symbol f ks r) = Unit {0}
-NoWhole (variable k r) = Unit {0}
-NoWhole (whole r) = ⊥
+NoWhole (wordHere f ks r) = Unit {0}
+NoWhole (nameHere k r) = Unit {0}
+NoWhole (wholeHere r) = ⊥
 NoWhole (fault k r) = Unit {0}
 
 stands-no-whole : (W : Vocabulary) (s : ℕ) (seen : List Occurrence) (l : List ℕ) (x : Node) → NodeStands W false s seen l x → NoWhole x
-stands-no-whole W s seen l (symbol f ks r) h = tt
-stands-no-whole W s seen l (variable n r) h = tt
-stands-no-whole W s seen l (whole r) h = false≢true (h .atRoot)
+stands-no-whole W s seen l (wordHere f ks r) h = tt
+stands-no-whole W s seen l (nameHere n r) h = tt
+stands-no-whole W s seen l (wholeHere r) h = false≢true (h .atRoot)
 stands-no-whole W s seen l (fault n r) h = tt
 
 -- A term that is read below the root has a level of its own.
@@ -179,9 +178,9 @@ read-levels W zero s seen (b ∷ l) = tt
 read-levels W (suc left) s seen l = go (node W false s seen l) (stands-no-whole W s seen l (node W false s seen l) (node-stands W false s seen l))
   where
     go : (x : Node) → NoWhole x → Holds (λ a. 1 ≤ levels (a .term)) (fromNode (readTerm W left false) s seen x)
-    go (symbol f ks r) h = then-holds _ (readSlots (readTerm W left false) ks seen r) _ (λ ts r′. omega arith)
-    go (variable k r) h = omega arith
-    go (whole r) h = absurd h
+    go (wordHere f ks r) h = then-holds _ (readSlots (readTerm W left false) ks seen r) _ (λ ts r′. omega arith)
+    go (nameHere k r) h = omega arith
+    go (wholeHere r) h = absurd h
     go (fault k r) h = tt
 
 -- A run goes on behind a term as readTerm does with so many levels left.
@@ -245,13 +244,13 @@ run-reads W (suc left) d ds seen y l o e =
     go : ((level : ℕ) → suc level + left ≡ suc mostLevels → (ks : List Slot) → RunReadsAll W left level ks) →
         (x : Node) → scanNode (run W) d ds seen y x ≡
         andThen (fromNode (readTerm W left false) (d .sort) seen x) (λ a r. run W ds (a .seen) (withTerm (d .level) y (a .term)) r)
-    go ih (symbol f ks r) =
+    go ih (wordHere f ks r) =
         ih (d .level) (omega arith) ks ds seen (withWord (d .level) y) r (omega arith)
         ∙ then-same (readSlots (readTerm W left false) ks seen r) _ _
         (λ ts r′. ap (λ z. run W ds (ts .seen) z r′) (same-tally _ _ (omega arith) (omega arith)))
         ∙ sym (then-then (readSlots (readTerm W left false) ks seen r) _ _)
-    go ih (variable k r) = ap (λ z. run W ds (seen ++ (record { name = k; sort = d .sort } ∷ [])) z r) (same-tally _ _ (omega arith) (omega arith))
-    go ih (whole r) = ap (λ z. run W ds seen z r) (same-tally _ _ (omega arith) (omega arith))
+    go ih (nameHere k r) = ap (λ z. run W ds (seen ++ (record { name = k; sort = d .sort } ∷ [])) z r) (same-tally _ _ (omega arith) (omega arith))
+    go ih (wholeHere r) = ap (λ z. run W ds seen z r) (same-tally _ _ (omega arith) (omega arith))
     go ih (fault k r) = refl
 
 -- The root's due of kind s.

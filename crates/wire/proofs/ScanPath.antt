@@ -7,10 +7,10 @@ use native.Mathlib.Omega.{arith}
 use lib.ListN.{length}
 use Rattle.terms.specs.Term.{Occurrence}
 use Rattle.wire.specs.Vocabulary.{Vocabulary, InOrder}
-use Rattle.wire.specs.Written.{wholeByte}
+use Rattle.wire.specs.TermBytes.{wholeByte}
 use Rattle.wire.specs.Refusals.{Sooner}
 use Rattle.wire.specs.TermLines.{Due, State, Step, onWord, onName, onWhole, LeadsTo, here, next, NodeLine}
-use Rattle.wire.specs.Reading.{Got, stop}
+use Rattle.wire.specs.Parser.{Got, stop}
 use Rattle.wire.proofs.Map.{map-got}
 use Rattle.wire.proofs.Node.{node-symbol, node-name, node-whole}
 use Rattle.wire.proofs.Scan.{Tally, withWord, withLeaf, run, scanNode, run-node, rootDue, noTally}

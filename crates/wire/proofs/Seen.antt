@@ -10,7 +10,7 @@ use Rattle.terms.specs.Lists.{All}
 use Rattle.terms.specs.Term.{Occurrence, Consistent}
 use Rattle.terms.proofs.Bools.{or-parts, or-neither, false-of-not}
 use Rattle.terms.proofs.All.{all-implies, all-both, all-append, all-left, all-right}
-use Rattle.wire.specs.Reading.{clash}
+use Rattle.wire.specs.Parser.{clash}
 use Rattle.wire.specs.TermLines.{Clash}
 
 -- ---- the test of a clash is its meaning

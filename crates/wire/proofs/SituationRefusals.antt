@@ -9,14 +9,16 @@ use native.Mathlib.Omega.{arith}
 use lib.Dec.{eqb}
 use borrow.Author.Tests.{eqb-true, eqb-false}
 use Rattle.terms.specs.Term.{Term}
-use Rattle.wire.specs.Reply.{Reading, accept, refuse}
+use Rattle.wire.specs.Parser.{Reading, accept, refuse}
 use Rattle.wire.specs.Vocabulary.{Vocabulary, InOrder}
-use Rattle.wire.specs.Written.{encodeRoot, encodeTerm, GoodTerm, ground, firstGap}
-use Rattle.wire.specs.Reading.{Kinded}
-use Rattle.wire.specs.Checks.{checkedTerm}
-use Rattle.wire.specs.Refusals.{rank, Sooner, Decides, RefusesBy}
+use Rattle.wire.specs.TermBytes.{encodeRoot, encodeTerm, GoodTerm}
+use Rattle.wire.specs.SituationComputed.{ground, firstGap, situationOf, situationIn, checkedSituation}
+use Rattle.wire.specs.Reply.{Kinded}
+use Rattle.wire.specs.CheckComputed.{checkedTerm}
+use Rattle.wire.specs.Refusals.{rank, Sooner, Decides}
+use Rattle.wire.specs.Laws.{RefusesBy, SituationRefusals}
 use Rattle.wire.specs.TermLines.{TermLine, size, kind, inside, more}
-use Rattle.wire.specs.Situation.{FirstGap, situationOf, situationIn, checkedSituation, SituationLine, asTerm, incomplete, kinds, SituationRefusals}
+use Rattle.wire.specs.SituationLines.{FirstGap, SituationLine, everyTerm, incomplete, otherKind}
 use Rattle.wire.proofs.Refusals.{refuses-by, Judged}
 use Rattle.wire.proofs.Front.{term-front}
 use Rattle.wire.proofs.Gaps.{first-gap-is-exact}
@@ -41,15 +43,15 @@ term-rank W b (more s l x c r e p u v) = omega arith
 
 -- The term is refused, so the situation is.
 term-decides : (W : Vocabulary) (k : ℕ) (b : List ℕ) (n q : ℕ) → Decides (TermLine W b) n q → Decides (SituationLine W k b) n q
-term-decides W k b n q d = record { fits = asTerm n q (d .fits); first = λ m r h. first h }
+term-decides W k b n q d = record { fits = everyTerm n q (d .fits); first = λ m r h. first h }
   where
     low : rank n ≤ 15
     low = term-rank W b (d .fits)
 
     first : {m r : ℕ} → SituationLine W k b m r → Sooner n q m r
-    first (asTerm m r h) = d .first m r h
+    first (everyTerm m r h) = d .first m r h
     first (incomplete s t l r good e g) = inl (omega (arith, low))
-    first (kinds s l e h) = inl (omega (arith, low))
+    first (otherKind s l e h) = inl (omega (arith, low))
 
 -- The bytes are the writing of a good term, and none of lines 7 to 15 fits.
 module _ (W : Vocabulary) (inOrder : InOrder W) (k : ℕ) (b : List ℕ) (s : ℕ) (t : Term) (good : GoodTerm W s t)
@@ -70,24 +72,24 @@ module _ (W : Vocabulary) (inOrder : InOrder W) (k : ℕ) (b : List ℕ) (s : �
       gap = first-gap-is-exact W s t inOrder good q .0 e
 
       first : {m r : ℕ} → SituationLine W k b m r → Sooner 16 q m r
-      first (asTerm m r h) = absurd (clear m r h)
+      first (everyTerm m r h) = absurd (clear m r h)
       first (incomplete s′ u l r good′ e g) = sooner-place 16 q r (gap .first r (gap-here s′ u l r good′ e g .gap))
-      first (kinds s′ l e h) = inl (omega arith)
+      first (otherKind s′ l e h) = inl (omega arith)
 
   module _ (full : firstGap W t ≡ none) where
     other-lines : (P : ℕ → ℕ → Type 0) → ((s ≡ k → ⊥) → P 17 0) → {m r : ℕ} → SituationLine W k b m r → P m r
-    other-lines P f (asTerm m r h) = absurd (clear m r h)
+    other-lines P f (everyTerm m r h) = absurd (clear m r h)
     other-lines P f (incomplete s′ u l r good′ e g) =
         let h = first-gap-is-exact W s t inOrder good r .1 (gap-here s′ u l r good′ e g) in
         let z : _≡_ {A = ℕ} 0 1 = cc in absurd (omega arith)
-    other-lines P f (kinds s′ l e h) =
+    other-lines P f (otherKind s′ l e h) =
         let same : s′ ≡ s = cc in
         f (λ q. h (same ∙ q))
 
     kind-judged : (c : Bool) → eqb s k ≡ c → Judged (SituationLine W k b) (cond c (accept (ground t)) (refuse 17 0))
     kind-judged true e = λ n q h. other-lines (λ n q. ⊥) (λ d. d (eqb-true s k e)) h
     kind-judged false e = record {
-      fits = kinds s (encodeRoot W t) written (eqb-false s k e);
+      fits = otherKind s (encodeRoot W t) written (eqb-false s k e);
       first = λ m r h. other-lines (Sooner 17 0) (λ d. inr (refl, inr (refl, omega arith))) h;
     }
 

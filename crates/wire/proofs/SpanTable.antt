@@ -8,8 +8,9 @@ use lib.ListN.{length, getD}
 use Rattle.terms.specs.Lists.{range}
 use Rattle.terms.specs.Term.{Term, Ground}
 use Rattle.wire.specs.Vocabulary.{Vocabulary}
-use Rattle.wire.specs.Written.{nameCount}
-use Rattle.wire.specs.Matching.{tableLength, Span, span, spansOf, spanTable, spanIn}
+use Rattle.wire.specs.TermBytes.{nameCount}
+use Rattle.wire.specs.Matching.{tableLength, Span, span, spanIn}
+use Rattle.wire.specs.MatchComputed.{spansOf, spanTable}
 
 length-range : (from k : ℕ) → length (range from k) ≡ k
 length-range from zero = refl

@@ -23,8 +23,9 @@ use Rattle.terms.proofs.Bools.{or-parts}
 use Rattle.terms.proofs.Occurs.{occurs-append}
 use Rattle.wire.specs.Map.{mapBytes}
 use Rattle.wire.specs.Vocabulary.{Vocabulary}
-use Rattle.wire.specs.Written.{encodeAt, encodeAll, asTerm, asTerms}
-use Rattle.wire.specs.Matching.{size, Span, spanElse, spanFrom, spanAll, cutOut}
+use Rattle.wire.specs.TermBytes.{encodeAt, encodeAll, asTerm, asTerms}
+use Rattle.wire.specs.Matching.{size, Span, spanFrom, spanAll, cutOut}
+use Rattle.terms.specs.Lists.{orElse}
 use Rattle.wire.proofs.Cond.{cond-false}
 
 -- The first of two ground terms that may be missing.
@@ -60,7 +61,7 @@ SpanHolds W s (some x) none = ⊥
 SpanHolds W s (some x) (some h) = Covers W s x h
 
 else-holds : (W : Vocabulary) (s : List ℕ) (a b : Option Span) (c d : Option Ground) → SpanHolds W s a c → SpanHolds W s b d →
-    SpanHolds W s (spanElse a b) (coverElse c d)
+    SpanHolds W s (orElse a b) (coverElse c d)
 else-holds W s none b none d h k = k
 else-holds W s none b (some g) d h k = absurd h
 else-holds W s (some x) b none d h k = absurd h
@@ -98,7 +99,7 @@ mutual
 
 -- ---- a name that does not stand in the pattern
 
-none-else : (a b : Option Span) → a ≡ none → b ≡ none → spanElse a b ≡ none
+none-else : (a b : Option Span) → a ≡ none → b ≡ none → orElse a b ≡ none
 none-else none b e h = h
 none-else (some x) b e h = e
 

@@ -6,8 +6,8 @@ use native.Mathlib.Omega.{arith}
 use lib.ListN.{length}
 use Rattle.terms.specs.Term.{Term}
 use Rattle.wire.specs.Vocabulary.{Vocabulary}
-use Rattle.wire.specs.Written.{encodeTerm, deepest}
-use Rattle.wire.specs.Checks.{TermsInverse}
+use Rattle.wire.specs.TermBytes.{encodeTerm, deepest}
+use Rattle.wire.specs.Laws.{TermsInverse}
 use Rattle.wire.proofs.Levels.{deepest-bytes}
 use Rattle.wire.proofs.WholeTerms.{writes-whole, whole-writes}
 

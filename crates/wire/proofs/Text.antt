@@ -18,7 +18,8 @@ use lib.ListN.{length, getD, length-append}
 use borrow.Author.Tests.{ltb-true, ltb-false, lt-ltb, le-ltb}
 use Rattle.terms.specs.Lists.{All}
 use Rattle.terms.proofs.All.{all-append}
-use Rattle.wire.specs.Text.{digit, decimalIn, decimal, hexadecimal, valueFrom, value, DecimalIsExact}
+use Rattle.wire.specs.Text.{digit, decimalIn, decimal, hexadecimal}
+use Rattle.wire.specs.Laws.{valueFrom, value, DecimalIsExact}
 use Rattle.wire.proofs.Cond.{cond-true}
 
 pub digit-below : (d : ℕ) → d < 10 → digit d ≡ 48 + d

@@ -19,27 +19,15 @@
 --   part-is-table            part's span is the one that match's table gives the name
 --   linear-refusals          a pattern to be listed is refused exactly by lines 7 to 15 and 18 of the refusal list
 --   entries-inverse          whole patterns are read off bytes exactly where the bytes are their writings
---   name-offset-is-first     nameOffset gives the earliest byte at which a name stands in a term, where it does
 --   pattern-is-one           the bytes of list's inputs write one vocabulary and one pattern only
 --   list-keeps               the definition of list's reply and lent slice keeps what list promises
 --   decimal-is-exact         a number in decimal is of digits that stand for it, with no needless zero in front
---   printed-is-listed        the program's text is the refusal or the listing that list's promise speaks of
+--   print-keeps              the program's text is the refusal or the listing that list's promise speaks of
 --   accepted-is-short        an accepted vocabulary has at most 962 bytes
 --   more-alters-nothing      the program's text for the bytes that it takes is the text for all bytes of the input
 --   starred-hold             every starred case has the reply that document 01 gives
 --
-use Rattle.wire.specs.Vocabulary.{InOrderIsWellFormed}
-use Rattle.wire.specs.Checks.{VocabulariesInverse, TermsInverse, LimitsAreATest}
-use Rattle.wire.specs.Complete.{CompleteIsGround, NoGapIsComplete, FullMapMeansNoOpenPlace}
-use Rattle.wire.specs.Entries.{EntriesAreGood}
-use Rattle.wire.specs.VocabularyLines.{VocabularyRefusals}
-use Rattle.wire.specs.TermLines.{TermRefusals}
-use Rattle.wire.specs.Situation.{FirstGapIsExact, SituationRefusals}
-use Rattle.wire.specs.CheckPromises.{VocabularyKeeps, TermKeeps}
-use Rattle.wire.specs.Matching.{MatchKeeps, PartKeeps, PartIsTable}
-use Rattle.wire.specs.Listed.{EntriesInverse, NameOffsetIsFirst, PatternIsOne, LinearRefusals, ListKeeps}
-use Rattle.wire.specs.Text.{DecimalIsExact}
-use Rattle.wire.specs.Printed.{PrintedIsListed, AcceptedIsShort, MoreAltersNothing}
+use Rattle.wire.specs.Laws.{InOrderIsWellFormed, VocabulariesInverse, TermsInverse, LimitsAreATest, CompleteIsGround, NoGapIsComplete, FullMapMeansNoOpenPlace, EntriesAreGood, VocabularyRefusals, TermRefusals, FirstGapIsExact, SituationRefusals, VocabularyKeeps, TermKeeps, MatchKeeps, PartKeeps, PartIsTable, EntriesInverse, PatternIsOne, LinearRefusals, ListKeeps, DecimalIsExact, PrintKeeps, AcceptedIsShort, MoreAltersNothing}
 use Rattle.wire.specs.Starred.{StarredHold}
 
 pub in-order-is-well-formed : InOrderIsWellFormed
@@ -79,10 +67,10 @@ pub situation-refusals : SituationRefusals
 situation-refusals = Rattle.wire.proofs.SituationRefusals.situation-refusals
 
 pub vocabulary-keeps : VocabularyKeeps
-vocabulary-keeps = Rattle.wire.proofs.CheckPromises.vocabulary-keeps
+vocabulary-keeps = Rattle.wire.proofs.Checking.vocabulary-keeps
 
 pub term-keeps : TermKeeps
-term-keeps = Rattle.wire.proofs.CheckPromises.term-keeps
+term-keeps = Rattle.wire.proofs.Checking.term-keeps
 
 pub match-keeps : MatchKeeps
 match-keeps = Rattle.wire.proofs.Matching.match-keeps
@@ -99,9 +87,6 @@ linear-refusals = Rattle.wire.proofs.LinearRefusals.linear-refusals
 pub entries-inverse : EntriesInverse
 entries-inverse = Rattle.wire.proofs.EntriesRead.entries-inverse
 
-pub name-offset-is-first : NameOffsetIsFirst
-name-offset-is-first = Rattle.wire.proofs.NameOffsets.name-offset-is-first
-
 pub pattern-is-one : PatternIsOne
 pattern-is-one = Rattle.wire.proofs.Listed.pattern-is-one
 
@@ -111,8 +96,8 @@ list-keeps = Rattle.wire.proofs.Listed.list-keeps
 pub decimal-is-exact : DecimalIsExact
 decimal-is-exact = Rattle.wire.proofs.Text.decimal-is-exact
 
-pub printed-is-listed : PrintedIsListed
-printed-is-listed = Rattle.wire.proofs.Printed.printed-is-listed
+pub print-keeps : PrintKeeps
+print-keeps = Rattle.wire.proofs.Printed.print-keeps
 
 pub accepted-is-short : AcceptedIsShort
 accepted-is-short = Rattle.wire.proofs.VocabularyMore.accepted-is-short

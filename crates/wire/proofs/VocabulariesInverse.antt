@@ -4,10 +4,9 @@ use mathlib.Core.List.{List}
 use Prim.Native.Nat.{ℕ}
 use native.Mathlib.Omega.{arith}
 use Rattle.terms.proofs.Theorems.{first-empty-is-exact}
-use Rattle.wire.specs.Reply.{Reading, accept, refuse}
-use Rattle.wire.specs.Vocabulary.{Vocabulary, signature, encodeVocabulary}
-use Rattle.wire.specs.Reading.{line6, readVocabulary}
-use Rattle.wire.specs.Checks.{GoodVocabulary, VocabulariesInverse}
+use Rattle.wire.specs.Parser.{Reading, accept, refuse, line6, readVocabulary}
+use Rattle.wire.specs.Vocabulary.{Vocabulary, signature, encodeVocabulary, GoodVocabulary}
+use Rattle.wire.specs.Laws.{VocabulariesInverse}
 use Rattle.wire.proofs.Words.{in-order-well-formed}
 use Rattle.wire.proofs.VocabularyWritten.{read-written}
 use Rattle.wire.proofs.VocabularyRead.{Accepted, VocabularyRead, vocabulary-read}
@@ -24,6 +23,6 @@ read-good W good =
 
 pub vocabularies-inverse : VocabulariesInverse
 vocabularies-inverse b W bytes = (
-  (λ e. let read = accepted b W (readVocabulary b) (vocabulary-read b bytes) e in (read .good, read .bytes)),
-  (λ h. ap readVocabulary (h .1) ∙ read-good W (h .0)),
+  (λ e. let read = accepted b W (readVocabulary b) (vocabulary-read b bytes) e in record { good = read .good; written = read .bytes }),
+  (λ h. ap readVocabulary (h .written) ∙ read-good W (h .good)),
 )

@@ -7,11 +7,11 @@ use native.Mathlib.Omega.{arith}
 use lib.Dec.{eqb, ltb}
 use lib.ListN.{length, length-append}
 use borrow.Author.Tests.{ltb-true, ltb-false}
-use Rattle.wire.specs.Reply.{Reading, refuse, outside}
+use Rattle.wire.specs.Parser.{Reading, refuse, Got, got, stop, andThen, offset, readKinds, readWord, readWords, lines5and6, readVocabulary}
+use Rattle.wire.specs.Reply.{outside}
 use Rattle.wire.specs.Map.{mapBits, flagsIn, flags, bit, ones}
 use Rattle.wire.specs.Vocabulary.{Word, Vocabulary, mostKinds, mostWords}
-use Rattle.wire.specs.Reading.{Got, got, stop, andThen, offset, readKinds, readWord, readWords, lines5and6, readVocabulary}
-use Rattle.wire.specs.Printed.{mostVocabulary, AcceptedIsShort}
+use Rattle.wire.specs.Laws.{mostVocabulary, AcceptedIsShort}
 use Rattle.wire.proofs.Outside.{outside-false}
 
 -- ---- what is read off a front does not depend on the bytes x behind it

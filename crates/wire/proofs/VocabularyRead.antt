@@ -9,12 +9,12 @@ use native.Mathlib.Omega.{arith}
 use lib.Dec.{ltb, lit<}
 use lib.ListN.{length, drop}
 use borrow.Author.Tests.{ltb-true, ltb-false}
-use Rattle.terms.specs.Inhabited.{LeastEmpty, firstEmpty, FirstEmptyExact}
+use Rattle.terms.specs.Inhabited.{LeastEmpty}
+use Rattle.terms.specs.Emptiness.{firstEmpty, FirstEmptyExact}
 use Rattle.terms.proofs.Theorems.{first-empty-is-exact}
-use Rattle.wire.specs.Reply.{Reading, accept, refuse, IsBytes, outside}
-use Rattle.wire.specs.Vocabulary.{Word, Vocabulary, signature, InOrder, encodeWords, encodeVocabulary, mostKinds, mostWords}
-use Rattle.wire.specs.Reading.{Got, got, stop, offset, readWords, line6, lines5and6, readVocabulary}
-use Rattle.wire.specs.Checks.{GoodVocabulary}
+use Rattle.wire.specs.Parser.{Reading, accept, refuse, Got, got, stop, offset, readWords, line6, lines5and6, readVocabulary}
+use Rattle.wire.specs.Reply.{IsBytes, outside}
+use Rattle.wire.specs.Vocabulary.{Word, Vocabulary, signature, InOrder, encodeWords, encodeVocabulary, mostKinds, mostWords, GoodVocabulary}
 use Rattle.wire.specs.Refusals.{Sooner, Decides}
 use Rattle.wire.specs.VocabularyLines.{byteAt, recordAt, wordsOf, Outside, VocabularyLine, head, count, ends, kind, more, empty}
 use Rattle.wire.proofs.Bytes.{drop-begins, drop-ends, offset-drop}

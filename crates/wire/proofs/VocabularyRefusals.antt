@@ -1,10 +1,10 @@
 -- VocabularyRefusals: a vocabulary is refused exactly by the lines of the refusal list.
 use mathlib.Core.List.{List}
 use Prim.Native.Nat.{ℕ}
-use Rattle.wire.specs.Reply.{Reading, accept, refuse}
+use Rattle.wire.specs.Parser.{Reading, accept, refuse, readVocabulary}
 use Rattle.wire.specs.Vocabulary.{Vocabulary}
-use Rattle.wire.specs.Reading.{readVocabulary}
-use Rattle.wire.specs.VocabularyLines.{VocabularyLine, VocabularyRefusals}
+use Rattle.wire.specs.VocabularyLines.{VocabularyLine}
+use Rattle.wire.specs.Laws.{VocabularyRefusals}
 use Rattle.wire.proofs.Refusals.{Judged, refuses-by}
 use Rattle.wire.proofs.VocabularyRead.{VocabularyRead, vocabulary-read}
 

@@ -5,10 +5,10 @@ use Prim.Native.Nat.{ℕ, suc, _<_}
 use lib.ListN.{length}
 use borrow.Author.Tests.{lt-ltb}
 use Rattle.terms.specs.Lists.{All}
-use Rattle.terms.specs.Inhabited.{firstEmpty}
+use Rattle.terms.specs.Emptiness.{firstEmpty}
 use Rattle.wire.specs.Map.{flags, ones}
 use Rattle.wire.specs.Vocabulary.{Word, Vocabulary, signature, WordInOrder, InOrder, encodeWord, encodeWords, encodeVocabulary, mostKinds, mostWords}
-use Rattle.wire.specs.Reading.{got, readKinds, readWord, readWords, line6, readVocabulary}
+use Rattle.wire.specs.Parser.{got, readKinds, readWord, readWords, line6, readVocabulary}
 use Rattle.wire.proofs.Outside.{inside-outside}
 use Rattle.wire.proofs.WordsSteps.{words-first}
 
@@ -52,6 +52,3 @@ encode-front W X r s t e =
     let x = read-all-written X t in
     let words : W .words ≡ X .words = cc in
     λ i. record { kinds = kinds i; words = words i }
-
-pub encode-injective : (W X : Vocabulary) → InOrder W → InOrder X → encodeVocabulary W ≡ encodeVocabulary X → W ≡ X
-encode-injective W X s t e = encode-front W X [] s t (append-nil (encodeVocabulary W) ∙ e)

@@ -6,10 +6,10 @@ use Prim.Native.Nat.{ℕ, _≤_, _<_}
 use lib.Dec.{ltb}
 use borrow.Author.Tests.{ltb-true, lt-ltb}
 use Rattle.terms.specs.Term.{Term, Consistent}
-use Rattle.wire.specs.Reply.{Reading, accept, refuse, IsBytes}
+use Rattle.wire.specs.Parser.{Reading, accept, refuse, Got, got, stop, Read, readTerm, line15, readWhole}
+use Rattle.wire.specs.Reply.{IsBytes, Kinded}
 use Rattle.wire.specs.Vocabulary.{Vocabulary, InOrder}
-use Rattle.wire.specs.Written.{encodeRoot, encodeTerm, GoodTerm, deepest}
-use Rattle.wire.specs.Reading.{Got, got, stop, Read, readTerm, Kinded, line15, readWhole}
+use Rattle.wire.specs.TermBytes.{encodeRoot, encodeTerm, GoodTerm, deepest}
 use Rattle.wire.proofs.Cond.{choice}
 use Rattle.wire.proofs.WriteRead.{read-root}
 use Rattle.wire.proofs.ReadWrite.{Reads, term-reads}

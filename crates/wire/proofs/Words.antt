@@ -5,7 +5,8 @@ use lib.ListN.{length, length-map, List·getD-map}
 use Rattle.terms.specs.Lists.{All}
 use Rattle.terms.specs.Signature.{Symbol, symbol, result, arguments}
 use Rattle.terms.proofs.All.{all-at, all-implies, all-map}
-use Rattle.wire.specs.Vocabulary.{Vocabulary, symbolOf, signature, noWord, word, WordInOrder, InOrder, InOrderIsWellFormed}
+use Rattle.wire.specs.Vocabulary.{Vocabulary, symbolOf, signature, noWord, word, WordInOrder, InOrder}
+use Rattle.wire.specs.Laws.{InOrderIsWellFormed}
 
 pub length-symbols : (W : Vocabulary) → length (signature W .symbols) ≡ length (W .words)
 length-symbols W = length-map (W .words) symbolOf

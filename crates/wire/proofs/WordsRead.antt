@@ -14,7 +14,7 @@ use Rattle.terms.specs.Lists.{All}
 use Rattle.wire.specs.Reply.{IsBytes}
 use Rattle.wire.specs.Map.{readMap, flags, ones}
 use Rattle.wire.specs.Vocabulary.{Word, WordInOrder, encodeWord, encodeWords}
-use Rattle.wire.specs.Reading.{Got, got, stop, andThen, readKinds, readPlaces, readWord, readWords}
+use Rattle.wire.specs.Parser.{Got, got, stop, andThen, readKinds, readPlaces, readWord, readWords}
 use Rattle.wire.specs.VocabularyLines.{byteAt, placesOf, recordAt}
 use Rattle.wire.proofs.Bytes.{Begins, drop-begins, drop-ends, byte-small}
 use Rattle.wire.proofs.Records.{behind, behind-is, places-at, behind-beyond, after, after-from, record-after, KindIn, KindFrom, kind-from}
@@ -189,12 +189,3 @@ words-read b bytes k (suc n) i l d h =
     go (got w r) (front, inOrder, first) more =
         words-read-more b k n i w r (front, inOrder, first) (readWords k n r) (more r (first .rest) (first .inside))
     go (stop m r) s more = words-read-stop b k n i m r s
-
--- What the records read from offset 2 on tell, where they are read.
-pub words-got : (b : List ℕ) → IsBytes b → (k n : ℕ) (ws : List Word) (r : List ℕ) → 2 ≤ length b →
-    readWords k n (drop 2 b) ≡ got ws r → WordsRead b k n 2 (got ws r)
-words-got b bytes k n ws r h e = rw e at (words-read b bytes k n 2 (drop 2 b) refl h)
-
-pub words-rest : (b : List ℕ) → IsBytes b → (k n : ℕ) (ws : List Word) (r : List ℕ) → 2 ≤ length b →
-    readWords k n (drop 2 b) ≡ got ws r → r ≡ drop (recordAt b n) b
-words-rest b bytes k n ws r h e = rw (record-after b n) (words-got b bytes k n ws r h e .3 .rest)

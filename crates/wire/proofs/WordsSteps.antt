@@ -8,7 +8,7 @@ use lib.Dec.{ltb}
 use borrow.Author.Tests.{lt-ltb, le-ltb}
 use Rattle.wire.specs.Map.{flags, ones}
 use Rattle.wire.specs.Vocabulary.{Word}
-use Rattle.wire.specs.Reading.{Got, got, stop, andThen, readKinds, readWord, readWords}
+use Rattle.wire.specs.Parser.{Got, got, stop, andThen, readKinds, readWord, readWords}
 
 -- What is read first, then what is read behind it.
 abbrev pub joined : {A : Type 0} → Got (List A) → (List ℕ → Got (List A)) → Got (List A)
@@ -39,29 +39,8 @@ kinds-split k (suc n) j (x ∷ l) = ap (λ i. readKinds k i (x ∷ l)) (suc-add 
     go true more = ap (λ g. andThen g (λ ks r. got (x ∷ ks) r)) more ∙ joined-cons x (readKinds k n l) (readKinds k j)
     go false more = refl
 
--- One kind more, and where there is none.
-pub kinds-last : (k n x : ℕ) (l r ks : List ℕ) → readKinds k n l ≡ got ks (x ∷ r) → x < k → readKinds k (n + 1) l ≡ got (ks ++ (x ∷ [])) r
-kinds-last k n x l r ks e h = kinds-split k n 1 l ∙ rw (e, lt-ltb x k h)
-
-pub kinds-high : (k n j x : ℕ) (l r ks : List ℕ) → readKinds k n l ≡ got ks (x ∷ r) → k ≤ x → readKinds k (n + suc j) l ≡ stop 4 (x ∷ r)
-kinds-high k n j x l r ks e h = kinds-split k n (suc j) l ∙ rw (e, le-ltb x k h)
-
 pub kinds-end : (k n j : ℕ) (l ks : List ℕ) → readKinds k n l ≡ got ks [] → readKinds k (n + suc j) l ≡ stop 3 []
 kinds-end k n j l ks e = kinds-split k n (suc j) l ∙ rw e
-
--- A record, by its bytes.
-pub word-got : (k x m : ℕ) (l r ks : List ℕ) → x < k → readKinds k (ones (flags m)) l ≡ got ks r →
-    readWord k (x ∷ m ∷ l) ≡ got (record { result = x; placeMap = m; kinds = ks }) r
-word-got k x m l r ks h e = rw (lt-ltb x k h) (ap (λ g. andThen g (λ ks r. got (record { result = x; placeMap = m; kinds = ks }) r)) e)
-
-pub word-stop : (k x m n : ℕ) (l r : List ℕ) → x < k → readKinds k (ones (flags m)) l ≡ stop n r → readWord k (x ∷ m ∷ l) ≡ stop n r
-word-stop k x m n l r h e = rw (lt-ltb x k h) (ap (λ g. andThen g (λ ks r. got (record { result = x; placeMap = m; kinds = ks }) r)) e)
-
-pub word-high : (k x : ℕ) (l : List ℕ) → k ≤ x → readWord k (x ∷ l) ≡ stop 4 (x ∷ l)
-word-high k x l h = rw (le-ltb x k h)
-
-pub word-short : (k x : ℕ) → x < k → readWord k (x ∷ []) ≡ stop 3 []
-word-short k x h = rw (lt-ltb x k h)
 
 -- One record, then n more.
 pub words-first : (k n : ℕ) (l r r′ : List ℕ) (w : Word) (ws : List Word) → readWord k l ≡ got w r → readWords k n r ≡ got ws r′ →
@@ -77,11 +56,6 @@ words-split k (suc n) j l = ap (λ i. readWords k i l) (suc-add n j) ∙ go (rea
         joined (andThen g (λ w r. andThen (readWords k n r) (λ ws r′. got (w ∷ ws) r′))) (readWords k j)
     go (got w r) more = ap (λ g. andThen g (λ ws r′. got (w ∷ ws) r′)) (more r) ∙ joined-cons w (readWords k n r) (readWords k j)
     go (stop m r) more = refl
-
--- One record more.
-pub words-last : (k n : ℕ) (l r r′ : List ℕ) (ws : List Word) (w : Word) → readWords k n l ≡ got ws r → readWord k r ≡ got w r′ →
-    readWords k (n + 1) l ≡ got (ws ++ (w ∷ [])) r′
-words-last k n l r r′ ws w e f = words-split k n 1 l ∙ rw (e, f)
 
 -- Where a record stops, no more records are read.
 pub words-stop : (k n j m : ℕ) (l r r′ : List ℕ) (ws : List Word) → readWords k n l ≡ got ws r → readWord k r ≡ stop m r′ →

@@ -11,8 +11,8 @@ use Rattle.terms.specs.Term.{Term, any, var, app, Terms, nil, cons, Sorted, Sor
 use Rattle.terms.proofs.All.{all-left, all-right}
 use Rattle.wire.specs.Map.{writeMap, flags, within, Slot, slots, isOpen, writtenFlags}
 use Rattle.wire.specs.Vocabulary.{Vocabulary, InOrder, signature, word, mapOf}
-use Rattle.wire.specs.Written.{nameByte, writtenMap, encodeAt, encodeAll, encodeRoot, levels, levelsAll, deepest, nameCount}
-use Rattle.wire.specs.Reading.{Got, got, andThen, Read, ReadAll, withFirst, readSlots, fromNode, readTerm}
+use Rattle.wire.specs.TermBytes.{nameByte, writtenMap, encodeAt, encodeAll, encodeRoot, levels, levelsAll, deepest, nameCount}
+use Rattle.wire.specs.Parser.{Got, got, andThen, Read, ReadAll, withFirst, readSlots, fromNode, readTerm}
 use Rattle.wire.proofs.Map.{read-write-map, within-written, flags-written, sorts, Marked, sorts-slots, marked-written}
 use Rattle.wire.proofs.Seen.{clash-not, consistent-left, consistent-clash}
 use Rattle.wire.proofs.Words.{length-symbols, result-word, arguments-word, word-in-order}

@@ -1,20 +1,29 @@
--- Document 01's bytes: how a vocabulary and a term are written and read, and the refusal list.
--- Read in this order.
+-- Document 01's bytes: how a vocabulary and a term are written, the refusal list, and what the calls promise.
+-- Each file rests only on those before it.
+-- What has to be believed: the writings ..
 pub mod Reply
 pub mod Map
 pub mod Vocabulary
-pub mod Written
-pub mod Reading
-pub mod Checks
-pub mod Complete
-pub mod Entries
+pub mod TermBytes
+-- .. the refusal list ..
 pub mod Refusals
 pub mod VocabularyLines
 pub mod TermLines
-pub mod Situation
+pub mod SituationLines
+pub mod PatternLines
+-- .. and the promises.
+pub mod Checking
 pub mod Matching
-pub mod CheckPromises
-pub mod Listed
+pub mod Leftovers
 pub mod Text
-pub mod Printed
+pub mod Printing
+-- Ways to compute the replies, which laws fix:
+pub mod Parser
+pub mod CheckComputed
+pub mod SituationComputed
+pub mod MatchComputed
+pub mod ListComputed
+pub mod PrintComputed
+-- What is proved of all of it, and the starred cases:
+pub mod Laws
 pub mod Starred

@@ -34,12 +34,12 @@ abbrev pub writeMap : ℕ → List ℕ
 writeMap m = m ∷ []
 
 pub data MapRead : Type 0 where
-  got : ℕ → List ℕ → MapRead
-  missing : List ℕ → MapRead
+  mapGot : ℕ → List ℕ → MapRead
+  mapMissing : List ℕ → MapRead
 
 abbrev pub readMap : List ℕ → MapRead
-readMap [] = missing []
-readMap (m ∷ l) = got m l
+readMap [] = mapMissing []
+readMap (m ∷ l) = mapGot m l
 
 abbrev pub flagsIn : ℕ → ℕ → List Bool
 flagsIn zero m = []

@@ -3,17 +3,15 @@
 --   rank n                 lines of one rank are told apart by their bytes
 --   Sooner n q m r         number n at place q comes before number m at place r, or is the same
 --   Decides Line n q       of all lines that fit, n at q is the one that is given
---   RefusesBy Line r       the reading r refuses with a number exactly where its line decides, and some
---                          line fits exactly where it accepts nothing
 --
 -- `Line n q` says that the line of number n fits the input at the place q.
 --
 use mathlib.Core.Path.{_≡_}
 use mathlib.Core.Bool.{cond}
-use mathlib.Core.Logic.{_↔_, _⊎_}
+use mathlib.Core.Logic.{_⊎_}
 use Prim.Native.Nat.{ℕ, _<_, _≤_}
 use lib.Dec.{eqb}
-use Rattle.wire.specs.Reply.{Reading, accept, refuse, outside}
+use Rattle.wire.specs.Reply.{outside}
 
 -- "between 3 and 4 the earlier byte decides"; "for 9 to 14 the earliest byte decides".
 abbrev pub rank : ℕ → ℕ
@@ -27,7 +25,3 @@ Sooner n q m r = (rank n < rank m) ⊎ ((rank n ≡ rank m) × ((q < r) ⊎ ((q 
 pub record Decides (Line : ℕ → ℕ → Type 0) (n q : ℕ) : Type 0 where
   pub fits : Line n q
   pub first : (m r : ℕ) → Line m r → Sooner n q m r
-
-pub record RefusesBy {A : Type 0} (Line : ℕ → ℕ → Type 0) (reading : Reading A) : Type 0 where
-  pub given : (n q : ℕ) → (reading ≡ refuse n q) ↔ Decides Line n q
-  pub some : ((n : ℕ) × (q : ℕ) × Line n q) ↔ ((a : A) → reading ≡ accept a → ⊥)

@@ -18,11 +18,12 @@ use Prim.Native.String.{String}
 use lib.ListN.{replicate}
 use Rattle.terms.specs.Lists.{All}
 use Rattle.wire.specs.Reply.{Reply, accepted, refused}
-use Rattle.wire.specs.Checks.{vocabularyReply}
-use Rattle.wire.specs.Matching.{matched, yes, no, tableLength}
-use Rattle.wire.specs.Listed.{listed}
-use Rattle.wire.specs.Text.{ascii}
-use Rattle.wire.specs.Printed.{printed}
+use Rattle.wire.specs.Matching.{yes, no, tableLength}
+use Rattle.wire.specs.CheckComputed.{vocabularyReply}
+use Rattle.wire.specs.MatchComputed.{matched}
+use Rattle.wire.specs.ListComputed.{listed}
+use Rattle.wire.specs.Text.{ascii, newline}
+use Rattle.wire.specs.PrintComputed.{printed}
 
 pub data Call : Type 0 where
   checkVocabulary : List ℕ → Call
@@ -67,7 +68,7 @@ abbrev pub lent : List ℕ
 lent = replicate tableLength 7
 
 abbrev pub line : String → List ℕ
-line s = ascii s ++ (10 ∷ [])
+line s = ascii s ++ newline
 
 abbrev pub starred : List Row
 starred =

@@ -11,7 +11,6 @@
 --   LeadsTo W s l x         from there the bytes l lead to state x
 --   NodeLine W x d n q      line n, of 9 to 14, fits at state x, where d is due, and place q
 --   TermLine W b n q        line n fits the bytes b at the place q
---   TermRefusals            checkedTerm refuses by these lines
 --
 use mathlib.Core.Path.{_≡_}
 use mathlib.Core.Bool.{Bool, true, false}
@@ -19,12 +18,9 @@ use mathlib.Core.List.{List, [], _∷_, _++_, List·Memᴰ}
 use Prim.Native.Nat.{ℕ, suc, _+_, _<_, _≤_}
 use lib.ListN.{length}
 use Rattle.terms.specs.Term.{Occurrence}
-use Rattle.wire.specs.Map.{mapBytes, readMap, flags, within, Slot, slots}
-use Rattle.wire.specs.Map.MapRead.{got as mapGot, missing as mapMissing}
-use Rattle.wire.specs.Vocabulary.{Vocabulary, InOrder, word, mapOf}
-use Rattle.wire.specs.Written.{nameCount, nameByte, wholeByte}
-use Rattle.wire.specs.Checks.{leastBytes, mostBytes, mostLevels, checkedTerm}
-use Rattle.wire.specs.Refusals.{RefusesBy}
+use Rattle.wire.specs.Map.{mapBytes, mapGot, mapMissing, readMap, flags, within, Slot, slots}
+use Rattle.wire.specs.Vocabulary.{Vocabulary, word, mapOf}
+use Rattle.wire.specs.TermBytes.{nameCount, nameByte, wholeByte, leastBytes, mostBytes, mostLevels}
 use Rattle.wire.specs.VocabularyLines.{Outside}
 
 pub record Due : Type 0 where
@@ -114,7 +110,3 @@ pub data TermLine (W : Vocabulary) (b : List ℕ) : ℕ → ℕ → Type 0 where
   -- 15. "Bytes follow the term (the first of them)."
   more : (s : ℕ) (l : List ℕ) (x : State) (c : ℕ) (r : List ℕ) → b ≡ s ∷ l → LeadsTo W s l x →
       x .due ≡ [] → x .rest ≡ c ∷ r → TermLine W b 15 (x .at)
-
-abbrev pub TermRefusals : Type 0
-TermRefusals =
-    (W : Vocabulary) (b : List ℕ) → InOrder W → RefusesBy (TermLine W b) (checkedTerm W b)

@@ -5,19 +5,13 @@
 --   digit d              the code of a digit, 0 to 9 and then a to f
 --   decimalIn, decimal   a number in decimal
 --   hexadecimal l        bytes in lowercase hexadecimal without gaps
---   valueFrom, value     the number that decimal digits stand for
---   DecimalIsExact       a number in decimal is of digits that stand for it, with no needless zero in front
 --
-use mathlib.Core.Path.{_≡_}
 use mathlib.Core.Bool.{true, false, cond}
 use mathlib.Core.List.{List, [], _∷_, _++_}
-use mathlib.Core.Logic.{_⊎_}
-use Prim.Native.Nat.{ℕ, zero, suc, _+_, _*_, _-_, _/_, _%_, _≤_}
+use Prim.Native.Nat.{ℕ, zero, suc, _+_, _-_, _/_, _%_}
 use Prim.Native.Char.{code}
 use Prim.Native.String.{String, [] as nothing, _∷_ as _then_}
 use lib.Dec.{ltb}
-use lib.ListN.{length, getD}
-use Rattle.terms.specs.Lists.{All}
 
 abbrev pub ascii : String → List ℕ
 ascii nothing = []
@@ -42,17 +36,3 @@ decimal n = decimalIn (suc n) n
 abbrev pub hexadecimal : List ℕ → List ℕ
 hexadecimal [] = []
 hexadecimal (b ∷ l) = digit (b / 16) ∷ digit (b % 16) ∷ hexadecimal l
-
--- The digits read from left to right, behind digits that stand for n.
-abbrev pub valueFrom : ℕ → List ℕ → ℕ
-valueFrom n [] = n
-valueFrom n (c ∷ l) = valueFrom (10 * n + (c - code "0")) l
-
-abbrev pub value : List ℕ → ℕ
-value l = valueFrom 0 l
-
--- "in decimal": at least one digit, and a 0 in front only where it is the whole number.
-abbrev pub DecimalIsExact : Type 0
-DecimalIsExact =
-    (n : ℕ) → (value (decimal n) ≡ n) × All (λ c. (code "0" ≤ c) × (c ≤ code "9")) (decimal n) ×
-    ((length (decimal n) ≡ 1) ⊎ (code "1" ≤ getD (decimal n) 0 0))

@@ -9,17 +9,19 @@
 --   WordInOrder k w       the record w is in order where there are k kinds
 --   mostKinds, mostWords  document 01's limits on the two counts (16 and 96)
 --   InOrder W             the counts are within the limits and every record is in order
---   InOrderIsWellFormed   the signature of a vocabulary in order is well-formed
 --   encodeWord w          the bytes of a record
 --   encodeWords ws        the bytes of the records ws
 --   encodeVocabulary W    the bytes of W
+--   GoodVocabulary W      document 01's vocabularies: in order, and every kind has a complete situation
+--   HoldsVocabulary v W   the bytes v are accepted: they write the good vocabulary W
 --
 use mathlib.Core.Path.{_≡_}
 use mathlib.Core.List.{List, [], _∷_, _++_, map}
 use Prim.Native.Nat.{ℕ, _<_, _≤_, _^_}
 use lib.ListN.{length, getD}
 use Rattle.terms.specs.Lists.{All}
-use Rattle.terms.specs.Signature.{Symbol, Signature, WellFormed}
+use Rattle.terms.specs.Signature.{Symbol, Signature}
+use Rattle.terms.specs.Inhabited.{Inhabited}
 use Rattle.wire.specs.Map.{mapBits, writeMap, flags, ones}
 
 pub record Word : Type 0 where
@@ -67,9 +69,6 @@ pub record InOrder (W : Vocabulary) : Type 0 where
   pub fewWords : length (W .words) ≤ mostWords
   pub words : All (WordInOrder (W .kinds)) (W .words)
 
-abbrev pub InOrderIsWellFormed : Type 0
-InOrderIsWellFormed = (W : Vocabulary) → InOrder W → WellFormed (signature W)
-
 -- "one byte result kind, one byte place map, then one kind byte for each standing bit of the map".
 abbrev pub encodeWord : Word → List ℕ
 encodeWord w = w .result ∷ (writeMap (w .placeMap) ++ w .kinds)
@@ -81,3 +80,12 @@ encodeWords (w ∷ ws) = encodeWord w ++ encodeWords ws
 -- "Nothing follows the last record."
 abbrev pub encodeVocabulary : Vocabulary → List ℕ
 encodeVocabulary W = W .kinds ∷ length (W .words) ∷ encodeWords (W .words)
+
+-- "Every kind must have at least one complete situation, of any size and depth".
+pub record GoodVocabulary (W : Vocabulary) : Type 0 where
+  pub inOrder : InOrder W
+  pub inhabited : Inhabited (signature W)
+
+pub record HoldsVocabulary (v : List ℕ) (W : Vocabulary) : Type 0 where
+  pub good : GoodVocabulary W
+  pub written : v ≡ encodeVocabulary W

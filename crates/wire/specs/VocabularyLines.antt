@@ -8,7 +8,8 @@
 --   KindByte b q              a record's kind byte is due at offset q
 --   Outside low high n        the number n lies outside low to high
 --   VocabularyLine b n q      line n fits the bytes b at the place q
---   VocabularyRefusals        readVocabulary refuses by these lines
+--   VocabularyFirst v Under   a refusal of the vocabulary v, or one of those that a call gives under the vocabulary that
+--                             v writes
 --
 use mathlib.Core.Path.{_≡_}
 use mathlib.Core.List.{List, _++_}
@@ -16,12 +17,9 @@ use mathlib.Core.Logic.{_⊎_}
 use Prim.Native.Nat.{ℕ, zero, suc, _+_, _<_, _≤_}
 use lib.ListN.{length, getD, drop}
 use Rattle.terms.specs.Inhabited.{LeastEmpty}
-use Rattle.wire.specs.Reply.{IsBytes}
-use Rattle.wire.specs.Map.{mapBytes, MapRead, readMap, flags, ones}
-use Rattle.wire.specs.Map.MapRead.{got as mapGot, missing as mapMissing}
-use Rattle.wire.specs.Vocabulary.{Vocabulary, signature, mostKinds, mostWords, InOrder, encodeVocabulary}
-use Rattle.wire.specs.Reading.{readVocabulary}
-use Rattle.wire.specs.Refusals.{RefusesBy}
+use Rattle.wire.specs.Map.{mapBytes, MapRead, mapGot, mapMissing, readMap, flags, ones}
+use Rattle.wire.specs.Vocabulary.{Vocabulary, signature, mostKinds, mostWords, InOrder, encodeVocabulary, HoldsVocabulary}
+use Rattle.wire.specs.Refusals.{Decides}
 
 abbrev pub byteAt : List ℕ → ℕ → ℕ
 byteAt b i = getD b i 0
@@ -64,5 +62,7 @@ pub data VocabularyLine (b : List ℕ) : ℕ → ℕ → Type 0 where
   -- 6. "A kind has no complete situation (place: the lowest such kind)." Bytes r may follow: 5 then comes first.
   empty : (W : Vocabulary) (r : List ℕ) (k : ℕ) → InOrder W → b ≡ encodeVocabulary W ++ r → LeastEmpty (signature W) k → VocabularyLine b 6 k
 
-abbrev pub VocabularyRefusals : Type 0
-VocabularyRefusals = (b : List ℕ) → IsBytes b → RefusesBy (VocabularyLine b) (readVocabulary b)
+-- "The vocabulary is checked first". It is input 0; what a call judges then it judges under the vocabulary W.
+pub data VocabularyFirst (v : List ℕ) (Under : Vocabulary → ℕ → ℕ → ℕ → Type 0) : ℕ → ℕ → ℕ → Type 0 where
+  ofVocabulary : (n q : ℕ) → Decides (VocabularyLine v) n q → VocabularyFirst v Under n 0 q
+  under : (W : Vocabulary) (n i q : ℕ) → HoldsVocabulary v W → Under W n i q → VocabularyFirst v Under n i q

@@ -5,7 +5,7 @@ use Rattle.matcher.proofs.cover_root.Statement.{statement}
 use Rattle.matcher.proofs.cover_root.Tie as tie
 
 shared-slice-read-first : tie.Need-shared-slice-read-first
-shared-slice-read-first c = c .before .before .before .pre .0 .reads .patternLimits .least
+shared-slice-read-first c = c .before .before .before .pre .0 .held .pattern .limits .least
 
 returns : tie.Need-returns
 returns c = root-whole _ _ _ (c .before .before .before .before .pre .1 .0) (c .if1 .taken)
@@ -20,7 +20,7 @@ sub-cover c =
     omega arith
 
 sub-cover-2 : tie.Need-sub-cover-2
-sub-cover-2 c = let long = c .before .before .before .before .before .before .pre .0 .reads .situationLimits .least in omega arith
+sub-cover-2 c = let long = c .before .before .before .before .before .before .pre .0 .held .situation .limits .least in omega arith
 
 cover-requires : tie.Need-cover-requires
 cover-requires c κs =

@@ -9,11 +9,12 @@ use denote.Ref.{now}
 use lib.Dec.{lit<}
 use borrow.Author.Needs.{scaled-fits, zero≤}
 use Rattle.wire.specs.Reply.{accepted}
-use Rattle.wire.specs.Matching.{judged, clearReply}
+use Rattle.wire.specs.MatchComputed.{judged, clearReply}
 use Rattle.reader.specs.Answers.{inputsNumbers}
 use Rattle.reader.specs.declared.InputsAnswer.the-variants.{Clear}
+use Rattle.wire.proofs.Bytes.{bytes-of}
 use Rattle.matcher.proofs.Parts.{name-low, even-slot, odd-slot}
-use Rattle.matcher.proofs.Calls.{bytes-of, Lent, inputs-read, part-refused, part-above, part-none, part-inside, part-found, walked-as}
+use Rattle.matcher.proofs.Calls.{Lent, inputs-read, part-refused, part-above, part-none, part-inside, part-found, walked-as}
 use Rattle.matcher.proofs.part.Statement.{statement}
 use Rattle.matcher.proofs.part.Tie as tie
 

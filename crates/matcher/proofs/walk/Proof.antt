@@ -4,7 +4,7 @@ use Rattle.matcher.proofs.walk.Statement.{statement}
 use Rattle.matcher.proofs.walk.Tie as tie
 
 shared-slice-read-if1 : tie.Need-shared-slice-read-if1
-shared-slice-read-if1 c = c .before .before .before .pre .0 .reads .patternLimits .least
+shared-slice-read-if1 c = c .before .before .before .pre .0 .held .pattern .limits .least
 
 cover-root-requires : tie.Need-cover-root-requires
 cover-root-requires c κs = let start = c .before .before .before .before .before in (start .pre .0, (start .pre .1, c .before .if1 .taken))

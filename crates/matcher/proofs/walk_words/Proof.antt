@@ -58,7 +58,7 @@ named : (c : tie.Else4 Inv-loop μ-loop) → let l = c .before .before .before .
 named c x = at-name x (written (c .before .before .before .before) (c .before .before .before .if2 .taken) (c .before .before .if3 .left) x) (c .if4 .left)
 
 shared-slice-read-root-frame : tie.Need-shared-slice-read-root-frame Inv-loop μ-loop
-shared-slice-read-root-frame c = c .before .before .before .pre .0 .reads .patternLimits .least
+shared-slice-read-root-frame c = c .before .before .before .pre .0 .held .pattern .limits .least
 
 root-frame-requires : tie.Need-root-frame-requires Inv-loop μ-loop
 root-frame-requires c κs = tt
@@ -117,13 +117,13 @@ returns : tie.Need-returns Inv-loop μ-loop
 returns c = λ a. word-differs a (worded (c .before .before) a) (c .if5 .taken)
 
 add-frame : tie.Need-add-frame Inv-loop μ-loop
-add-frame c = let a = c .before .before .before .before .before .before .before .before .before .before .before .before .before .before .before .pre .0 in offset-fits (le-of-lt (pattern-second a (worded (c .before .before) a))) (a .reads .patternLimits .most)
+add-frame c = let a = c .before .before .before .before .before .before .before .before .before .before .before .before .before .before .before .pre .0 in offset-fits (le-of-lt (pattern-second a (worded (c .before .before) a))) (a .held .pattern .limits .most)
 
 shared-slice-read-frame : tie.Need-shared-slice-read-frame Inv-loop μ-loop
 shared-slice-read-frame c = pattern-second (c .before .before .before .before .before .before .before .before .before .before .before .before .before .before .before .before .pre .0) (worded (c .before .before .before) (c .before .before .before .before .before .before .before .before .before .before .before .before .before .before .before .before .pre .0))
 
 add-frame-2 : tie.Need-add-frame-2 Inv-loop μ-loop
-add-frame-2 c = let a = c .before .before .before .before .before .before .before .before .before .before .before .before .before .before .before .before .pre .0 in offset-fits (le-of-lt (situation-second a (worded (c .before .before .before) a))) (a .reads .situationLimits .most)
+add-frame-2 c = let a = c .before .before .before .before .before .before .before .before .before .before .before .before .before .before .before .before .pre .0 in offset-fits (le-of-lt (situation-second a (worded (c .before .before .before) a))) (a .held .situation .limits .most)
 
 shared-slice-read-frame-2 : tie.Need-shared-slice-read-frame-2 Inv-loop μ-loop
 shared-slice-read-frame-2 c = situation-second (c .before .before .before .before .before .before .before .before .before .before .before .before .before .before .before .before .before .pre .0) (worded (c .before .before .before .before) (c .before .before .before .before .before .before .before .before .before .before .before .before .before .before .before .before .before .pre .0))
@@ -141,10 +141,10 @@ add-depth : tie.Need-add-depth Inv-loop μ-loop
 add-depth c = level-fits (word-room (c .before .before .before .before .before .before .before .before .before .before .before .before .before .before .before .before .before .before .pre .0) (worded (c .before .before .before .before .before) (c .before .before .before .before .before .before .before .before .before .before .before .before .before .before .before .before .before .before .pre .0)) (c .before .before .before .before .before .before .before .before .before .before .before .before .loop-test .taken))
 
 add-i : tie.Need-add-i Inv-loop μ-loop
-add-i c = let a = c .before .before .before .before .before .before .before .before .before .before .before .before .before .before .before .before .before .before .pre .0 in offset-fits (word-pattern a (worded (c .before .before .before .before .before) a)) (a .reads .patternLimits .most)
+add-i c = let a = c .before .before .before .before .before .before .before .before .before .before .before .before .before .before .before .before .before .before .pre .0 in offset-fits (word-pattern a (worded (c .before .before .before .before .before) a)) (a .held .pattern .limits .most)
 
 add-j : tie.Need-add-j Inv-loop μ-loop
-add-j c = let a = c .before .before .before .before .before .before .before .before .before .before .before .before .before .before .before .before .before .before .pre .0 in offset-fits (word-situation a (worded (c .before .before .before .before .before) a)) (a .reads .situationLimits .most)
+add-j c = let a = c .before .before .before .before .before .before .before .before .before .before .before .before .before .before .before .before .before .before .pre .0 in offset-fits (word-situation a (worded (c .before .before .before .before .before) a)) (a .held .situation .limits .most)
 
 loop-less-3 : tie.Need-loop-less-3 Inv-loop μ-loop
 loop-less-3 c =
@@ -176,7 +176,7 @@ returns-2 : tie.Need-returns-2 Inv-loop μ-loop
 returns-2 c = turn-unnamed (turn (c .before .before .before .before .before .before .before .before .before)) (named (c .before .before .before .before .before)) (c .before .before .before .before .end-of2 .ensures) (c .before .before .wide .ensures) (c .before .cover .ensures) (not-true (c .before .cover .result) (c .if6 .taken))
 
 add-i-2 : tie.Need-add-i-2 Inv-loop μ-loop
-add-i-2 c = let a = c .before .before .before .before .before .before .before .before .before .before .before .before .before .before .before .before .before .before .pre .0 in offset-fits (name-inside a (named (c .before .before .before .before .before) a)) (a .reads .patternLimits .most)
+add-i-2 c = let a = c .before .before .before .before .before .before .before .before .before .before .before .before .before .before .before .before .before .before .pre .0 in offset-fits (name-inside a (named (c .before .before .before .before .before) a)) (a .held .pattern .limits .most)
 
 loop-less-4 : tie.Need-loop-less-4 Inv-loop μ-loop
 loop-less-4 c =

@@ -2,7 +2,8 @@
 use native.Mathlib.Omega.{arith}
 use denote.Ref.{now}
 use borrow.Author.Needs.{needs}
-use Rattle.matcher.proofs.Calls.{bytes-of, Lent}
+use Rattle.wire.proofs.Bytes.{bytes-of}
+use Rattle.matcher.proofs.Calls.{Lent}
 use Rattle.pheasantry.proofs.Parts.{part-above, part-matched}
 use Rattle.pheasantry.proofs.pheasantry_part.Statement.{statement}
 use Rattle.pheasantry.proofs.pheasantry_part.Tie as tie
@@ -53,7 +54,7 @@ wide-requires-2 c κs = search needs
 returns-2 : tie.Need-returns-2
 returns-2 c =
     part-matched (lent (c .before .before .before .before .before .before .before)) (c .before .before .before .before .before .before .before .before .before .before .args .name) (let low = c .before .before .before .before .before .before .if1 .left in omega arith)
-    (c .before .before .before .before .match-pattern .ensures .table) (c .before .before .wide .ensures) (c .before .wide2 .ensures)
+    (c .before .before .before .before .match-pattern .ensures .1 .table) (c .before .before .wide .ensures) (c .before .wide2 .ensures)
 
 pub pheasantry-part-spec : {M : Type 1} → statement M
 pheasantry-part-spec =

@@ -23,8 +23,9 @@ print-taken-requires c κs = search needs
 returns : tie.Need-returns
 returns c =
     let at-least = c .before .before .before in
-    let start = at-least .before .before in
-    prints (now (start .args .input)) (at-least .least .result) (at-least .least .ensures) (c .print-taken .ensures)
+    let bytes = at-least .before in
+    let start = bytes .before in
+    prints (now (start .args .input)) (at-least .least .result) (λ i. bytes .shared-slice-known .given i .fits) (at-least .least .ensures) (c .print-taken .ensures)
 
 pub print-spec : {M : Type 1} → statement M
 print-spec =

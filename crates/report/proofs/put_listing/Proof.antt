@@ -3,7 +3,7 @@ use mathlib.Core.List.{_++_}
 use native.Mathlib.Omega.{arith}
 use denote.Ref.{now}
 use Rattle.wire.specs.Text.{ascii, newline, decimal}
-use Rattle.wire.specs.Printed.{entryLines}
+use Rattle.wire.specs.Printing.{entryLines}
 use Rattle.wire.proofs.EntryCut.{cut}
 use Rattle.report.proofs.Putting.{second-of-three, third-of-three, put-three}
 use Rattle.report.proofs.Lines.{listing-is}

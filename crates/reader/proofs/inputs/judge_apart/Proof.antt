@@ -1,7 +1,7 @@
 -- `reader::inputs::judge_apart` meets its contract.
 use mathlib.Core.Path.{sym, ap, _∙_}
 use denote.Ref.{now}
-use Rattle.wire.specs.Checks.{checkedTerm}
+use Rattle.wire.specs.CheckComputed.{checkedTerm}
 use Rattle.signature.specs.Tables.{vocabularyIn}
 use Rattle.reader.specs.Answers.{termNumbers}
 use Rattle.reader.proofs.Judging.{vocabulary-never, pattern-refused, Taken, taken, pattern-accepted}

@@ -2,7 +2,7 @@
 use mathlib.Core.Path.{sym, ap, _∙_}
 use denote.Ref.{now}
 use lib.ListN.{length}
-use Rattle.wire.specs.Checks.{checkedTerm}
+use Rattle.wire.specs.CheckComputed.{checkedTerm}
 use Rattle.signature.specs.Tables.{vocabularyIn}
 use Rattle.reader.specs.Answers.{termNumbers}
 use Rattle.reader.proofs.Gaps.{gap-there, gap-none}

@@ -14,7 +14,7 @@ use Rattle.signature.specs.Tables.{vocabularyIn}
 use Rattle.reader.specs.Frames.{kindsIn, duesOf}
 use Rattle.reader.specs.Nodes.{tallyOf, answerOf}
 use Rattle.reader.specs.declared.term.Node.{Node as Answer}
-use Rattle.reader.proofs.Tables.{tabled, few-words, word-framed}
+use Rattle.reader.proofs.Tables.{tables-of, few-words, word-framed}
 use Rattle.reader.proofs.Standing.{Stood, stood, stood-room}
 use Rattle.reader.proofs.Scanning.{Scanning, scanning-begins, scanning-ends}
 use Rattle.reader.proofs.Turns.{top-slot, top-kinds, at-fits, singles-fits, turn-leave, Turn, turn-pass, kind-inside, Place, next-slot, level-fits, kindDue, place-refused, place-clash, place-name, place-bare, place-word, leftOf, left-leave, left-pass, left-read, left-word}
@@ -65,7 +65,7 @@ standing : (c : tie.After-node-at Inv-loop μ-loop) {y : Answer} → c .node-at 
     Stood (vocabularyIn (now (a .v))) (l .depth) (a .words) (now (a .maps)) (kindDue (now (a .v)) (getD (l .frames) (l .depth - 1) 0)) (l .at) (drop (l .at) (now (a .t))) y
 standing c e =
     let s = c .before .before .before .before .before .before .before .before .before .before .before in
-    stood (now (s .args .t)) (c .node-at .ensures) (tabled (s .pre .0)) e
+    stood (now (s .args .t)) (c .node-at .ensures) (tables-of (s .pre .0)) e
 
 loop-holds : tie.Need-loop-holds Inv-loop μ-loop
 loop-holds c =

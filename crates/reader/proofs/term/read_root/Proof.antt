@@ -10,7 +10,7 @@ use Rattle.signature.specs.Tables.{vocabularyIn}
 use Rattle.reader.specs.Nodes.{answerOf}
 use Rattle.reader.specs.declared.term.Node.{Node as Answer}
 use Rattle.reader.proofs.Frames.{frame-some}
-use Rattle.reader.proofs.Tables.{tabled, few-words, word-framed}
+use Rattle.reader.proofs.Tables.{tables-of, few-words, word-framed}
 use Rattle.reader.proofs.Standing.{Stood, stood}
 use Rattle.reader.proofs.Roots.{root-whole, root-long, root-refused, root-name, root-bare, root-word}
 use Rattle.reader.proofs.Full.{word-rowed}
@@ -25,7 +25,7 @@ standing : (c : tie.After-node-at) {y : Answer} → c .node-at .result ≡ y →
     Stood (vocabularyIn (now (a .v))) 0 (a .words) (now (a .maps)) (a .kind) 1 (drop 1 (now (a .t))) y
 standing c e =
     let s = c .before .before .before .before .before .before in
-    stood (now (s .args .t)) (c .node-at .ensures) (tabled (s .pre .0)) e
+    stood (now (s .args .t)) (c .node-at .ensures) (tables-of (s .pre .0)) e
 
 shared-slice-read-if1 : tie.Need-shared-slice-read-if1
 shared-slice-read-if1 c = c .before .before .before .pre .1 .0
@@ -36,7 +36,7 @@ finish-requires c κs = c .before .before .before .before .pre .1 .0
 returns : tie.Need-returns
 returns c =
     let s = c .before .before .before .before .before in
-    let words = s .pre .0 .words in
+    let words = s .pre .0 .tabled .words in
     let few = few (c .before .before .before .before) in
     c .finish .ensures
     ∙ ap (answerOf (now (s .args .t)))

@@ -1,4 +1,4 @@
--- Written: document 01's "Term bytes": how a term is written, and what is counted in it.
+-- TermBytes: document 01's "Term bytes": how a term is written, its limits, and what is counted in it.
 --
 --   nameCount, firstNameByte        how many names there are (64), and the byte of name 0 (128)
 --   nameByte n                      the byte of the name n
@@ -11,27 +11,21 @@
 --   wordCount t, wordCountAll ts    the number of words (names not counted)
 --   levels t, levelsAll ts          how many levels the term t, or the terms ts, take
 --   deepest t                       the deepest level of the term t at the root
+--   leastBytes, mostBytes           a term handed to a call has so many bytes (2 to 4,096)
+--   mostLevels                      .. and at most so many levels (32)
+--   Limits b t                      the term t and its bytes b are within these limits
+--   HoldsTerm W b s t               the bytes b are accepted: they write the good term t of kind s, within the limits
 --   complete t, completeAll ts      there is no name and no open place (nor a 255)
 --   asTerm g, asTerms gs            a ground term as a term, ground terms as terms
---   ground t, grounds ts            the ground term that a complete term is, and the ground terms
---   someOpen ts                     one of ts is an open place
---   orElse o p                      the first of two places that may be missing
---   gapFrom W t at, gapAll W ts at  the first gap of what begins at the offset `at`
---   firstGap W t                    the place of its first name, 255 or short map (document 01, line 16); `FirstGapIsExact`
---                                   (Situation) fixes it, so the three above can be passed over
---   nameOffsetFrom W t n at, nameOffsetAll W ts n at   where the name n first stands in what begins at the offset `at`
---   nameOffset W t n                where the name n first stands in the term t; `NameOffsetIsFirst` (Listed) fixes it, so the two
---                                   above can be passed over
 --
-use mathlib.Core.Bool.{Bool, true, false, _&&_, _||_, cond}
+use mathlib.Core.Path.{_≡_}
+use mathlib.Core.Bool.{Bool, true, false, _&&_}
 use mathlib.Core.List.{List, [], _∷_, _++_}
-use mathlib.Core.Option.{Option, some, none}
-use Prim.Native.Nat.{ℕ, suc, _+_, _<_, max}
-use lib.Dec.{eqb}
+use Prim.Native.Nat.{ℕ, suc, _+_, _<_, _≤_, max}
 use lib.ListN.{length}
 use Rattle.terms.specs.Lists.{All}
 use Rattle.terms.specs.Term.{Term, any, var, app, Terms, nil, cons, Ground, gapp, Grounds, gnil, gcons, WellSorted, names}
-use Rattle.wire.specs.Map.{mapBytes, writeMap, flags, number, isOpen, writtenFlags}
+use Rattle.wire.specs.Map.{writeMap, flags, number, writtenFlags}
 use Rattle.wire.specs.Vocabulary.{Vocabulary, signature, mapOf}
 
 -- "one byte 128 to 191, for names 0 to 63".
@@ -101,6 +95,27 @@ abbrev mutual
 abbrev pub deepest : Term → ℕ
 deepest t = max 1 (levels t)
 
+-- "A pattern or situation is 2 to 4,096 bytes".
+abbrev pub leastBytes : ℕ
+leastBytes = 2
+
+abbrev pub mostBytes : ℕ
+mostBytes = 4096
+
+-- "The deepest level is 32."
+abbrev pub mostLevels : ℕ
+mostLevels = 32
+
+pub record Limits (b : List ℕ) (t : Term) : Type 0 where
+  pub least : leastBytes ≤ length b
+  pub most : length b ≤ mostBytes
+  pub levels : deepest t ≤ mostLevels
+
+pub record HoldsTerm (W : Vocabulary) (b : List ℕ) (s : ℕ) (t : Term) : Type 0 where
+  pub good : GoodTerm W s t
+  pub written : b ≡ encodeTerm W s t
+  pub limits : Limits b t
+
 -- "A term is complete if it has no name, no 255, and every written map equals its word's place map."
 abbrev mutual
   pub complete : Term → Bool
@@ -119,51 +134,3 @@ abbrev mutual
   pub asTerms : Grounds → Terms
   asTerms gnil = nil
   asTerms (gcons g gs) = cons (asTerm g) (asTerms gs)
-
-abbrev mutual
-  pub ground : Term → Ground
-  ground any = gapp 0 gnil
-  ground (var n) = gapp 0 gnil
-  ground (app f ts) = gapp f (grounds ts)
-
-  pub grounds : Terms → Grounds
-  grounds nil = gnil
-  grounds (cons t ts) = gcons (ground t) (grounds ts)
-
-abbrev pub someOpen : Terms → Bool
-someOpen nil = false
-someOpen (cons t ts) = isOpen t || someOpen ts
-
-abbrev pub orElse : Option ℕ → Option ℕ → Option ℕ
-orElse (some q) o = some q
-orElse none o = o
-
--- An open place is its word's gap, not its own.
-abbrev mutual
-  pub gapFrom : Vocabulary → Term → ℕ → Option ℕ
-  gapFrom W any at = none
-  gapFrom W (var n) at = some at
-  gapFrom W (app f ts) at = cond (someOpen ts) (some (at + 1)) (gapAll W ts (at + 1 + mapBytes))
-
-  pub gapAll : Vocabulary → Terms → ℕ → Option ℕ
-  gapAll W nil at = none
-  gapAll W (cons t ts) at = orElse (gapFrom W t at) (gapAll W ts (at + length (encodeAt W t)))
-
--- The kind byte is byte 0, so the term itself begins at 1.
-abbrev pub firstGap : Vocabulary → Term → Option ℕ
-firstGap W any = some 1
-firstGap W (var n) = gapFrom W (var n) 1
-firstGap W (app f ts) = gapFrom W (app f ts) 1
-
-abbrev mutual
-  pub nameOffsetFrom : Vocabulary → Term → ℕ → ℕ → Option ℕ
-  nameOffsetFrom W any n at = none
-  nameOffsetFrom W (var m) n at = cond (eqb n m) (some at) none
-  nameOffsetFrom W (app f ts) n at = nameOffsetAll W ts n (at + 1 + mapBytes)
-
-  pub nameOffsetAll : Vocabulary → Terms → ℕ → ℕ → Option ℕ
-  nameOffsetAll W nil n at = none
-  nameOffsetAll W (cons t ts) n at = orElse (nameOffsetFrom W t n at) (nameOffsetAll W ts n (at + length (encodeAt W t)))
-
-abbrev pub nameOffset : Vocabulary → Term → ℕ → Option ℕ
-nameOffset W t n = nameOffsetFrom W t n 1

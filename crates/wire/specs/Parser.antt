@@ -1,8 +1,9 @@
--- Reading: vocabularies and terms read off their bytes.
+-- Parser: vocabularies and terms read off their bytes.
 --
--- This file is an algorithm. VocabulariesInverse and TermsInverse fix what it accepts, VocabularyRefusals and
--- TermRefusals what it refuses and with which number and place: an auditor may take it on their word.
+-- This file is an algorithm, and nothing in it has to be believed. VocabulariesInverse and TermsInverse (Laws) fix what it
+-- accepts, VocabularyRefusals and TermRefusals what it refuses and with which number and place.
 --
+--   Reading A                 what reading one input gives: a thing that is accepted, or a number and a place
 --   Got A                     what is read off the front of some bytes: a thing and the bytes behind it,
 --                             or a refusal's number and the bytes from the offending one on
 --   andThen r k               k goes on behind r
@@ -27,7 +28,6 @@
 --   readSlots reader ks seen l     the terms of the places ks, each read by reader
 --   fromNode reader s seen x       the term that begins with the node x
 --   readTerm W left root s seen l  a term of kind s, at most `left` levels deep
---   Kinded                    a term with its kind
 --   line15 b s g              line 15, once the term of the bytes b is read as g
 --   readWhole W left b        kind byte and term, at most `left` levels deep
 --   readAny W b               the same with no limit on levels
@@ -39,12 +39,15 @@ use Prim.Native.Nat.{ℕ, zero, suc, _+_, _-_}
 use lib.Dec.{eqb, ltb}
 use lib.ListN.{length}
 use Rattle.terms.specs.Term.{Term, any, var, app, Terms, nil, cons, Occurrence}
-use Rattle.terms.specs.Inhabited.{firstEmpty}
-use Rattle.wire.specs.Reply.{Reading, accept, refuse, outside}
-use Rattle.wire.specs.Map.{MapRead, readMap, flags, ones, within, Slot, slots}
-use Rattle.wire.specs.Map.MapRead.{got as mapGot, missing as mapMissing}
+use Rattle.terms.specs.Emptiness.{firstEmpty}
+use Rattle.wire.specs.Reply.{Kinded, kinded, outside}
+use Rattle.wire.specs.Map.{MapRead, mapGot, mapMissing, readMap, flags, ones, within, Slot, slots}
 use Rattle.wire.specs.Vocabulary.{Word, Vocabulary, signature, word, mapOf, mostKinds, mostWords}
-use Rattle.wire.specs.Written.{nameCount, firstNameByte, wholeByte}
+use Rattle.wire.specs.TermBytes.{nameCount, firstNameByte, wholeByte}
+
+pub data Reading (A : Type 0) : Type 0 where
+  accept : A → Reading A
+  refuse : ℕ → ℕ → Reading A
 
 pub data Got (A : Type 0) : Type 0 where
   got : A → List ℕ → Got A
@@ -98,10 +101,10 @@ readVocabulary (k ∷ n ∷ l) =
 
 pub data Node : Type 0 where
   -- A word, its slots, and the bytes behind its map.
-  symbol : ℕ → List Slot → List ℕ → Node
-  variable : ℕ → List ℕ → Node
+  wordHere : ℕ → List Slot → List ℕ → Node
+  nameHere : ℕ → List ℕ → Node
   -- 255 at the root.
-  whole : List ℕ → Node
+  wholeHere : List ℕ → Node
   fault : ℕ → List ℕ → Node
 
 abbrev pub clash : List Occurrence → ℕ → ℕ → Bool
@@ -117,20 +120,20 @@ isName b = not (outside firstNameByte (firstNameByte + nameCount - 1) b)
 abbrev pub mapNode : Vocabulary → ℕ → List ℕ → MapRead → Node
 mapNode W f l (mapMissing r) = fault 9 r
 mapNode W f l (mapGot m r) =
-    cond (within (flags m) (flags (mapOf W f))) (symbol f (slots (flags (mapOf W f)) (flags m) (word W f .kinds)) r) (fault 14 l)
+    cond (within (flags m) (flags (mapOf W f))) (wordHere f (slots (flags (mapOf W f)) (flags m) (word W f .kinds)) r) (fault 14 l)
 
 abbrev pub wordNode : Vocabulary → ℕ → ℕ → List ℕ → Node
 wordNode W s f l = cond (eqb (word W f .result) s) (mapNode W f l (readMap l)) (fault 12 (f ∷ l))
 
 abbrev pub nameNode : ℕ → List Occurrence → ℕ → List ℕ → Node
-nameNode s seen b l = cond (clash seen (b - firstNameByte) s) (fault 13 (b ∷ l)) (variable (b - firstNameByte) l)
+nameNode s seen b l = cond (clash seen (b - firstNameByte) s) (fault 13 (b ∷ l)) (nameHere (b - firstNameByte) l)
 
 -- `root` tells whether it is the root, `seen` which names stood earlier, and at which kinds.
 abbrev pub node : Vocabulary → Bool → ℕ → List Occurrence → List ℕ → Node
 node W root s seen [] = fault 9 []
 node W root s seen (b ∷ l) =
     cond (isWord W b) (wordNode W s b l)
-    (cond (isName b) (nameNode s seen b l) (cond (root && eqb b wholeByte) (whole l) (fault 11 (b ∷ l))))
+    (cond (isName b) (nameNode s seen b l) (cond (root && eqb b wholeByte) (wholeHere l) (fault 11 (b ∷ l))))
 
 -- A byte that is due is missing, or any byte is one too many.
 abbrev pub atLimit : {A : Type 0} → List ℕ → Got A
@@ -160,25 +163,21 @@ readSlots reader (k ∷ ks) seen l =
     ]
 
 abbrev pub fromNode : (ℕ → List Occurrence → List ℕ → Got Read) → ℕ → List Occurrence → Node → Got Read
-fromNode reader s seen (symbol f ks r) =
+fromNode reader s seen (wordHere f ks r) =
     andThen (readSlots reader ks seen r) (λ ts r′. got (record { term = app f (ts .terms); seen = ts .seen }) r′)
-fromNode reader s seen (variable n r) =
+fromNode reader s seen (nameHere n r) =
     got (record { term = var n; seen = seen ++ (record { name = n; sort = s } ∷ []) }) r
-fromNode reader s seen (whole r) = got (record { term = any; seen = seen }) r
+fromNode reader s seen (wholeHere r) = got (record { term = any; seen = seen }) r
 fromNode reader s seen (fault n r) = stop n r
 
 abbrev pub readTerm : Vocabulary → ℕ → Bool → ℕ → List Occurrence → List ℕ → Got Read
 readTerm W zero root s seen l = atLimit l
 readTerm W (suc left) root s seen l = fromNode (readTerm W left false) s seen (node W root s seen l)
 
-pub record Kinded : Type 0 where
-  pub kind : ℕ
-  pub term : Term
-
 -- Line 15: bytes that follow.
 abbrev pub line15 : List ℕ → ℕ → Got Read → Reading Kinded
 line15 b s (stop n r) = refuse n (offset b r)
-line15 b s (got a []) = accept (record { kind = s; term = a .term })
+line15 b s (got a []) = accept (kinded s (a .term))
 line15 b s (got a (x ∷ r)) = refuse 15 (offset b (x ∷ r))
 
 abbrev pub readWhole : Vocabulary → ℕ → List ℕ → Reading Kinded

@@ -1,0 +1,84 @@
+-- Laws: what is proved of the notions of the theory. Nothing here has to be believed: proofs/ has a proof of each.
+--
+--   Gives S p s v w f           f gives the variables of p the values of v, and its open places those of w
+--   EachChoiceHasAFilling       any choice of ground terms of the sorts due is a filling's
+--   EqualWhereTheyAgree         two fillings are equal exactly where they give the same values
+--   OneFilling                  no two fillings turn a pattern into the same ground term
+--   SortsAddNothing             between two terms of one sort, matching is being an instance
+--   MatchingIsFitting           for a ground term of the sort, matching is the same as having a filling
+--   Partition                   every ground term fits exactly one of the pattern and its entries, by one filling
+--   StrikeOut                   each entry has a ground term that fits it and nothing else
+--   EntriesAreLinearPatterns    each entry is a linear pattern of the sort
+--   ListingRepresents           the entries represent the non-instances (source 000, Definition 2.1)
+--
+use mathlib.Core.Path.{_≡_}
+use mathlib.Core.Bool.{true}
+use mathlib.Core.List.{map}
+use mathlib.Core.Logic.{_↔_}
+use Prim.Native.Nat.{ℕ, _<_}
+use lib.ListN.{length, getD}
+use Rattle.terms.specs.Lists.{All, occurs}
+use Rattle.terms.specs.Signature.{Signature, WellFormed}
+use Rattle.terms.specs.Term.{Term, Ground, SortedG, Sorted, WellSorted, occurrences, names, Linear, openSorts}
+use Rattle.terms.specs.Filling.{Filling, valueOf, openAt, fill, IsFilling, Fits}
+use Rattle.terms.specs.Substitution.{Tm, Matches, asTm, withVariables}
+use Rattle.terms.specs.Instance.{SortedT, Instance, Represents}
+use Rattle.terms.specs.Inhabited.{Inhabited}
+use Rattle.terms.specs.Listing.{listing, withEntries, FitsExactlyOne, Needed}
+
+-- ---- fillings
+
+pub record Gives (S : Signature) (p : Term) (s : ℕ) (v w : ℕ → Ground) (f : Filling) : Type 0 where
+  pub named : (n : ℕ) → occurs n (names p) ≡ true → valueOf (f .named) n ≡ v n
+  pub opened : (i : ℕ) → i < length (openSorts S p s) → openAt f i ≡ w i
+
+abbrev pub EachChoiceHasAFilling : Type 0
+EachChoiceHasAFilling =
+    (S : Signature) (p : Term) (s : ℕ) → Sorted S p s → (v w : ℕ → Ground) →
+    All (λ o. SortedG S (v (o .name)) (o .sort)) (occurrences S p s) →
+    ((i : ℕ) → i < length (openSorts S p s) → SortedG S (w i) (getD (openSorts S p s) i 0)) →
+    (f : Filling) × IsFilling S p s f × Gives S p s v w f
+
+-- Document 01: "Two fillings are different when some name, open place or 255 gets different terms."
+abbrev pub EqualWhereTheyAgree : Type 0
+EqualWhereTheyAgree =
+    (S : Signature) (p : Term) (s : ℕ) (f h : Filling) → IsFilling S p s f → IsFilling S p s h →
+    (f ≡ h) ↔ Gives S p s (valueOf (h .named)) (openAt h) f
+
+abbrev pub OneFilling : Type 0
+OneFilling =
+    (S : Signature) (p : Term) (s : ℕ) (f h : Filling) → Sorted S p s → IsFilling S p s f → IsFilling S p s h →
+    fill p f ≡ fill p h → f ≡ h
+
+-- ---- substitutions
+
+-- A substitution that turns t into u gives the variables of t values of their sorts.
+abbrev pub SortsAddNothing : Type 0
+SortsAddNothing =
+    (S : Signature) (t u : Tm) (s : ℕ) → SortedT S t s → SortedT S u s → Matches t u ↔ Instance S t u
+
+abbrev pub MatchingIsFitting : Type 0
+MatchingIsFitting =
+    (S : Signature) (p : Term) (s : ℕ) (g : Ground) → WellSorted S p s → SortedG S g s →
+    Fits S p s g ↔ Matches (withVariables S p s) (asTm g)
+
+-- ---- listings
+
+abbrev pub Partition : Type 0
+Partition =
+    (S : Signature) (p : Term) (s : ℕ) → Sorted S p s → Linear p → (g : Ground) → SortedG S g s →
+    FitsExactlyOne S (withEntries S p) s g
+
+abbrev pub StrikeOut : Type 0
+StrikeOut =
+    (S : Signature) (p : Term) (s : ℕ) → WellFormed S → Inhabited S → Sorted S p s → Linear p →
+    (i : ℕ) → i < length (listing S p) → Needed S p (listing S p) s i
+
+abbrev pub EntriesAreLinearPatterns : Type 0
+EntriesAreLinearPatterns =
+    (S : Signature) (p : Term) (s : ℕ) → Sorted S p s → Linear p → All (λ e. Sorted S e s × Linear e) (listing S p)
+
+abbrev pub ListingRepresents : Type 0
+ListingRepresents =
+    (S : Signature) (p : Term) (s : ℕ) → Sorted S p s → Linear p →
+    Represents S s (withVariables S p s) (map (λ e. withVariables S e s) (listing S p))

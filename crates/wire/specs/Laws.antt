@@ -1,0 +1,193 @@
+-- Laws: what is proved of the bytes, the refusal list and the replies. Nothing here has to be believed: proofs/ has a proof
+-- of each.
+--
+--   InOrderIsWellFormed       the signature of a vocabulary in order is well-formed
+--   VocabulariesInverse       a vocabulary is accepted exactly where it is the writing of a good one
+--   TermsInverse              a term is read exactly where it is the writing of a good one, with no limits
+--   LimitsAreATest            the limits on a term handed to a call are a test of their own
+--   CompleteIsGround          a good term is complete exactly where it is a ground term of its kind
+--   NoGapIsComplete           a term has no gap exactly where it is complete
+--   FullMapMeansNoOpenPlace   a written map equals its word's place map exactly where no place is open
+--   EntriesAreGood            each entry of a good linear pattern is one, and is never longer than the pattern
+--   EntriesInverse            so many whole patterns are read off bytes exactly where the bytes are their writings
+--   PatternIsOne              the bytes of list's inputs write one vocabulary and one pattern only
+--   RefusesBy Line r          the reading r refuses with a number exactly where its line decides, and some line fits
+--                             exactly where it accepts nothing
+--   VocabularyRefusals, TermRefusals, SituationRefusals, LinearRefusals    what is read is refused by these lines
+--   FirstGapIsExact           firstGap gives the first gap, where there is one
+--   VocabularyKeeps, TermKeeps, MatchKeeps, PartKeeps, ListKeeps, PrintKeeps    what is computed keeps the promises
+--   PartIsTable               part's span is the one that match's table gives the name
+--   valueFrom, value          the number that decimal digits stand for
+--   DecimalIsExact            a number in decimal is of digits that stand for it, with no needless zero in front
+--   mostVocabulary            document 01's bound on the bytes of an accepted vocabulary (962)
+--   AcceptedIsShort           an accepted vocabulary has at most so many bytes
+--   MoreAltersNothing         the text for the bytes that are taken is the text for all bytes of the input
+--
+use mathlib.Core.Path.{_≡_}
+use mathlib.Core.Bool.{true, false}
+use mathlib.Core.List.{List, [], _∷_}
+use mathlib.Core.Logic.{_↔_, _⊎_}
+use mathlib.Core.Option.{some, none}
+use Prim.Native.Nat.{ℕ, _+_, _*_, _-_, _<_, _≤_}
+use Prim.Native.Char.{code}
+use lib.ListN.{length, getD}
+use Rattle.terms.specs.Lists.{All}
+use Rattle.terms.specs.Signature.{WellFormed}
+use Rattle.terms.specs.Term.{Term, Terms, Ground, SortedAll, SortedG, Linear}
+use Rattle.terms.specs.Listing.{listing}
+use Rattle.wire.specs.Reply.{Kinded, kinded, IsBytes}
+use Rattle.wire.specs.Vocabulary.{Vocabulary, signature, word, mapOf, InOrder, HoldsVocabulary}
+use Rattle.wire.specs.TermBytes.{nameCount, writtenMap, encodeTerm, GoodTerm, deepest, mostBytes, mostLevels, complete, asTerm}
+use Rattle.wire.specs.Refusals.{Decides}
+use Rattle.wire.specs.VocabularyLines.{VocabularyLine}
+use Rattle.wire.specs.TermLines.{TermLine}
+use Rattle.wire.specs.SituationLines.{FirstGap, SituationLine}
+use Rattle.wire.specs.PatternLines.{PatternLine}
+use Rattle.wire.specs.Checking.{VocabularyPromise, TermPromise}
+use Rattle.wire.specs.Matching.{tableLength, noSpan, spanIn, yes, MatchPromise, PartPromise}
+use Rattle.wire.specs.Leftovers.{HoldsPattern, entriesBytes, ListPromise}
+use Rattle.wire.specs.Text.{decimal}
+use Rattle.wire.specs.Printing.{vocabularyPart, patternPart, PrintPromise}
+use Rattle.wire.specs.Parser.{Reading, accept, refuse, got, readVocabulary, readAny}
+use Rattle.wire.specs.CheckComputed.{checkedTerm, vocabularyReply, termReply}
+use Rattle.wire.specs.SituationComputed.{someOpen, firstGap, checkedSituation}
+use Rattle.wire.specs.MatchComputed.{matched, partSpan, partOf}
+use Rattle.wire.specs.ListComputed.{checkedLinear, listed, readEntries}
+use Rattle.wire.specs.PrintComputed.{printedFrom, printed}
+
+-- ---- writing and reading
+
+abbrev pub InOrderIsWellFormed : Type 0
+InOrderIsWellFormed = (W : Vocabulary) → InOrder W → WellFormed (signature W)
+
+abbrev pub VocabulariesInverse : Type 0
+VocabulariesInverse =
+    (b : List ℕ) (W : Vocabulary) → IsBytes b →
+    (readVocabulary b ≡ accept W) ↔ HoldsVocabulary b W
+
+abbrev pub TermsInverse : Type 0
+TermsInverse =
+    (W : Vocabulary) (b : List ℕ) (s : ℕ) (t : Term) → InOrder W → IsBytes b →
+    (readAny W b ≡ accept (kinded s t)) ↔ (GoodTerm W s t × (b ≡ encodeTerm W s t))
+
+abbrev pub LimitsAreATest : Type 0
+LimitsAreATest =
+    (W : Vocabulary) (b : List ℕ) (k : Kinded) →
+    (checkedTerm W b ≡ accept k) ↔ ((readAny W b ≡ accept k) × (length b ≤ mostBytes) × (deepest (k .term) ≤ mostLevels))
+
+-- ---- complete terms are the ground terms of the theory, of any size
+
+abbrev pub CompleteIsGround : Type 0
+CompleteIsGround =
+    (W : Vocabulary) (s : ℕ) (t : Term) → s < W .kinds →
+    (GoodTerm W s t × (complete t ≡ true)) ↔ ((g : Ground) × SortedG (signature W) g s × (t ≡ asTerm g))
+
+abbrev pub NoGapIsComplete : Type 0
+NoGapIsComplete = (W : Vocabulary) (t : Term) → (firstGap W t ≡ none) ↔ (complete t ≡ true)
+
+-- "every written map equals its word's place map": what `complete` says by open places.
+abbrev pub FullMapMeansNoOpenPlace : Type 0
+FullMapMeansNoOpenPlace =
+    (W : Vocabulary) (f : ℕ) (ts : Terms) → InOrder W → f < length (W .words) → SortedAll (signature W) ts (word W f .kinds) →
+    (writtenMap W f ts ≡ mapOf W f) ↔ (someOpen ts ≡ false)
+
+-- ---- entries
+
+abbrev pub EntriesAreGood : Type 0
+EntriesAreGood =
+    (W : Vocabulary) (s : ℕ) (p : Term) → GoodTerm W s p → Linear p →
+    All (λ e. GoodTerm W s e × Linear e × (length (encodeTerm W s e) ≤ length (encodeTerm W s p))) (listing (signature W) p)
+
+abbrev pub EntriesInverse : Type 0
+EntriesInverse =
+    (W : Vocabulary) (n : ℕ) (b : List ℕ) (l : List Kinded) → InOrder W → IsBytes b →
+    (readEntries W n b ≡ got l []) ↔
+    ((length l ≡ n) × All (λ k. GoodTerm W (k .kind) (k .term)) l × (b ≡ entriesBytes W l))
+
+abbrev pub PatternIsOne : Type 0
+PatternIsOne =
+    (v p : List ℕ) (W W′ : Vocabulary) (s s′ : ℕ) (t t′ : Term) → IsBytes v → IsBytes p →
+    HoldsPattern v p W s t → HoldsPattern v p W′ s′ t′ → (W ≡ W′) × (s ≡ s′) × (t ≡ t′)
+
+-- ---- refusals
+
+pub record RefusesBy {A : Type 0} (Line : ℕ → ℕ → Type 0) (reading : Reading A) : Type 0 where
+  pub given : (n q : ℕ) → (reading ≡ refuse n q) ↔ Decides Line n q
+  pub some : ((n : ℕ) × (q : ℕ) × Line n q) ↔ ((a : A) → reading ≡ accept a → ⊥)
+
+abbrev pub VocabularyRefusals : Type 0
+VocabularyRefusals = (b : List ℕ) → IsBytes b → RefusesBy (VocabularyLine b) (readVocabulary b)
+
+abbrev pub TermRefusals : Type 0
+TermRefusals =
+    (W : Vocabulary) (b : List ℕ) → InOrder W → RefusesBy (TermLine W b) (checkedTerm W b)
+
+abbrev pub FirstGapIsExact : Type 0
+FirstGapIsExact =
+    (W : Vocabulary) (s : ℕ) (t : Term) → InOrder W → GoodTerm W s t → (q : ℕ) → (firstGap W t ≡ some q) ↔ FirstGap W t q
+
+abbrev pub SituationRefusals : Type 0
+SituationRefusals =
+    (W : Vocabulary) (k : ℕ) (b : List ℕ) → InOrder W → IsBytes b → RefusesBy (SituationLine W k b) (checkedSituation W k b)
+
+abbrev pub LinearRefusals : Type 0
+LinearRefusals =
+    (W : Vocabulary) (b : List ℕ) → InOrder W → IsBytes b → RefusesBy (PatternLine W b) (checkedLinear W b)
+
+-- ---- promises
+
+abbrev pub VocabularyKeeps : Type 0
+VocabularyKeeps = (v : List ℕ) → IsBytes v → VocabularyPromise v (vocabularyReply v)
+
+abbrev pub TermKeeps : Type 0
+TermKeeps = (v b : List ℕ) → IsBytes v → IsBytes b → TermPromise v b (termReply v b)
+
+abbrev pub MatchKeeps : Type 0
+MatchKeeps =
+    (v p s table : List ℕ) → IsBytes v → IsBytes p → IsBytes s →
+    MatchPromise v p s table (matched v p s table .table) (matched v p s table .reply)
+
+abbrev pub PartKeeps : Type 0
+PartKeeps =
+    (v p s : List ℕ) (n : ℕ) → IsBytes v → IsBytes p → IsBytes s → PartPromise v p s n (partSpan v p s n) (partOf v p s n)
+
+-- "the same pattern and situation and a name": what part answers stands in match's table.
+abbrev pub PartIsTable : Type 0
+PartIsTable =
+    (v p s table : List ℕ) (n : ℕ) → length table ≡ tableLength →
+    (matched v p s table .reply ≡ yes → n < nameCount → partSpan v p s n ≡ spanIn (matched v p s table .table) n) ×
+    ((matched v p s table .reply ≡ yes → ⊥) ⊎ (nameCount ≤ n) → partSpan v p s n ≡ noSpan)
+
+abbrev pub ListKeeps : Type 0
+ListKeeps =
+    (v p out : List ℕ) → IsBytes v → IsBytes p → ListPromise v p out (listed v p out .out) (listed v p out .reply)
+
+-- ---- the program's text
+
+abbrev pub PrintKeeps : Type 0
+PrintKeeps = (v p : List ℕ) → IsBytes v → IsBytes p → PrintPromise v p (printedFrom v p)
+
+-- The digits read from left to right, behind digits that stand for n.
+abbrev pub valueFrom : ℕ → List ℕ → ℕ
+valueFrom n [] = n
+valueFrom n (c ∷ l) = valueFrom (10 * n + (c - code "0")) l
+
+abbrev pub value : List ℕ → ℕ
+value l = valueFrom 0 l
+
+-- "in decimal": at least one digit, and a 0 in front only where it is the whole number.
+abbrev pub DecimalIsExact : Type 0
+DecimalIsExact =
+    (n : ℕ) → (value (decimal n) ≡ n) × All (λ c. (code "0" ≤ c) × (c ≤ code "9")) (decimal n) ×
+    ((length (decimal n) ≡ 1) ⊎ (code "1" ≤ getD (decimal n) 0 0))
+
+-- "an accepted vocabulary has at most 962"
+abbrev pub mostVocabulary : ℕ
+mostVocabulary = 962
+
+abbrev pub AcceptedIsShort : Type 0
+AcceptedIsShort = (v : List ℕ) (W : Vocabulary) → readVocabulary v ≡ accept W → length v ≤ mostVocabulary
+
+-- "so more can't alter the result"
+abbrev pub MoreAltersNothing : Type 0
+MoreAltersNothing = (b : List ℕ) → printed b ≡ printedFrom (vocabularyPart b) (patternPart b)
