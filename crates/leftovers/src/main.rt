@@ -1,11 +1,24 @@
 // Document 01's program `leftovers`: takes the first 65,536 bytes of standard input, and prints the text for them.
+// An input that cannot be read, or a text that cannot be written whole, is told in a line on the error output.
+mod input;
+
+use input::Taken;
+use libc::STDERR_FILENO;
 use libc::STDIN_FILENO;
 use libc::STDOUT_FILENO;
 
 fn main() {
-    let mut input = io::large_buffer();
-    let n = io::read_full(STDIN_FILENO, &mut input);
+    let mut bytes = io::large_buffer();
+    let Taken::Bytes(n) = input::take(STDIN_FILENO, &mut bytes) else {
+        io::write_all(STDERR_FILENO, b"leftovers: the input could not be read\n");
+        return;
+    };
     let mut text = [0u8; 524288];
-    let k = report::print(&input[0..n], &mut text);
-    io::write_all(STDOUT_FILENO, &text[0..k]);
+    let k = report::print(&bytes[0..n], &mut text);
+    if !io::write_all(STDOUT_FILENO, &text[0..k]) {
+        io::write_all(
+            STDERR_FILENO,
+            b"leftovers: the output could not be written whole\n",
+        );
+    }
 }

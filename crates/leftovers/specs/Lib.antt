@@ -1,0 +1,2 @@
+-- What the contract of taking the input cites.
+pub mod Input
