@@ -800,21 +800,25 @@ FULL_TREE = "00 02 03 [1,18] 00 00 [21,2] [19,6] [17,14] [15,30] [13,62] [11,126
 
 
 def main():
-    by_hand()
-    matched_by_hand()
-    listed_by_hand()
-    printed_by_hand()
-    listings_divide()
     crates = Path(__file__).parent.parent / "crates"
-    if sys.argv[1] == "long-input":
-        sys.stdout.buffer.write(LONG_INPUT)
-        return
     programs = {
         "examples": lambda: examples((crates / "examples" / "stdin").read_text()),
         "families": families,
         "leftovers": lambda: printed((crates / "leftovers" / "stdin").read_bytes()).splitlines(),
     }
-    lines = list(programs[sys.argv[1]]())
+    wanted = sys.argv[1] if len(sys.argv) > 1 else None
+    if wanted != "long-input" and wanted not in programs:
+        print("usage: python3 tools/expected.py examples | families | long-input | leftovers", file=sys.stderr)
+        sys.exit(2)
+    by_hand()
+    matched_by_hand()
+    listed_by_hand()
+    printed_by_hand()
+    listings_divide()
+    if wanted == "long-input":
+        sys.stdout.buffer.write(LONG_INPUT)
+        return
+    lines = list(programs[wanted]())
     sys.stdout.write("".join(line + "\n" for line in lines))
 
 
