@@ -3,40 +3,21 @@
  *
  * Five functions over lent memory. They check a vocabulary, check a term, match a pattern with a
  * complete situation, say which part of a situation a name covers, and list the leftovers of a
- * pattern. Document 01 has the formats and the rules.
+ * pattern. docs/FORMAT.md of the repository has the formats and the rules.
  *
- * Link with libpheasantry.a, which `rt staticlib pheasantry` writes into target/staticlib. The
- * archive is for x86-64 Linux. It needs memcpy and memset of the C library, and nothing else.
+ * Link
+ *   `make install` installs this header, libpheasantry.a and a file for pkg-config: compile with
+ *   `pkg-config --cflags --libs pheasantry`. Without installing, `rt staticlib pheasantry` writes
+ *   libpheasantry.a into target/staticlib. The archive is for x86-64 Linux and can be linked into
+ *   programs and shared libraries. It needs memcpy, memmove and memset of the C library, and nothing
+ *   else.
  *
  * Reply
- *   Every function answers in the three numbers of `reply`.
+ *   Every function answers in the numbers of `reply`. All of them are written in either case.
  *   Accepted: reply[0] is 0, and reply[1] and reply[2] are the values that the function names, 0
  *   where there is none.
- *   Refused: reply[0] is the number of a line below, reply[1] the input (0 vocabulary, 1 pattern or
- *   checked term, 2 situation, 3 lent output) and reply[2] the place. A refusal leaves every lent
- *   output as it was. All three numbers are written in either case.
- *
- * Refusals. The place is the offset of the offending or the missing byte, unless said.
- *    1  the vocabulary has fewer than 2 bytes, or not 1 to 16 kinds (place 0)
- *    2  the vocabulary has not 1 to 96 words
- *    3  the vocabulary ends where a byte of a record is due
- *    4  a kind in a record is not below the number of kinds
- *    5  bytes follow the last record
- *    6  a kind has no complete situation (place: the lowest such kind)
- *    7  the term has fewer than 2 or more than 4096 bytes (place 0)
- *    8  the term's first byte is not below the number of kinds
- *    9  the term ends where a byte is due
- *   10  something stands where level 33 begins
- *   11  the byte is no word, no name, nor 255 at the root
- *   12  the word's result kind differs from the kind due there
- *   13  the name stood earlier at a place of another kind
- *   14  a written map has a bit that the word's place map lacks
- *   15  bytes follow the term
- *   16  the situation is not complete (its first name, 255 or short map)
- *   17  pattern and situation have different kinds (input 2, place 0)
- *   18  a name stands twice in a pattern to be listed (its second occurrence)
- *   19  the table's length is not 128 (input 3, place 0)
- *   20  the listing is longer than the lent output (input 3, place: the listing's length in bytes)
+ *   Refused: reply[0] is a number of enum pheasantry_refusal, reply[1] the input, a number of enum
+ *   pheasantry_input, and reply[2] the place. A refusal leaves every lent output as it was.
  *   The vocabulary is checked first, then the pattern, then the situation, then the lent output.
  *
  * Memory
@@ -46,8 +27,11 @@
  *     `reply` always, points to as many elements as are said, aligned as their type asks.
  *   - What a call writes (table, out, reply) overlaps with nothing else that is handed to that
  *     call. Inputs are only read, and may overlap each other.
- *   - Nothing is allocated, kept or freed. Measured on the stack: pheasantry_list takes up to 64 KiB,
- *     the others less than 4 KiB.
+ *   - Nothing is allocated, kept or freed.
+ *   - 16 KiB of stack are enough for every call. Measured by bindings/c/stack.c, on 32 levels, terms
+ *     of 4,096 bytes, 96 words of 16 kinds and listings of 12 MB: pheasantry_list took at most 11,768
+ *     bytes, the others at most 2,040, and the dynamic linker some 3,200 bytes more where it had to
+ *     look up a function of the C library during the call.
  *
  * Threads
  *   There is no global state. Calls may run at the same time, as long as nothing writes the memory
@@ -59,8 +43,80 @@
 #include <stddef.h>
 #include <stdint.h>
 
+/* The version of this header and of the archive that it is installed with. */
+#define PHEASANTRY_VERSION "0.1.0"
+#define PHEASANTRY_VERSION_MAJOR 0
+#define PHEASANTRY_VERSION_MINOR 1
+#define PHEASANTRY_VERSION_PATCH 0
+
+/* The length that `reply` must have. A later version may have more numbers. */
+#define PHEASANTRY_REPLY_LENGTH 3
+
 /* The length that the table of pheasantry_match must have, in uint16_t: two for each of 64 names. */
 #define PHEASANTRY_TABLE_LENGTH 128
+
+/*
+ * Why a call is refused: reply[0]. The place, reply[2], is the offset of the byte at fault or of the
+ * missing byte, unless said. Later versions may add numbers; none changes its meaning.
+ */
+enum pheasantry_refusal {
+    PHEASANTRY_ACCEPTED = 0,
+
+    /* the vocabulary has fewer than 2 bytes, or not 1 to 16 kinds (place 0) */
+    PHEASANTRY_REFUSED_HEAD = 1,
+    /* the vocabulary has not 1 to 96 words */
+    PHEASANTRY_REFUSED_WORD_COUNT = 2,
+    /* the vocabulary ends where a byte of a record is due */
+    PHEASANTRY_REFUSED_RECORD_ENDS = 3,
+    /* a kind in a record is not below the number of kinds */
+    PHEASANTRY_REFUSED_RECORD_KIND = 4,
+    /* bytes follow the last record */
+    PHEASANTRY_REFUSED_RECORDS_CONTINUE = 5,
+    /* a kind has no complete situation (place: the lowest such kind) */
+    PHEASANTRY_REFUSED_EMPTY_KIND = 6,
+
+    /* the term has fewer than 2 or more than 4,096 bytes (place 0) */
+    PHEASANTRY_REFUSED_SIZE = 7,
+    /* the term's first byte is not below the number of kinds */
+    PHEASANTRY_REFUSED_TERM_KIND = 8,
+    /* the term ends where a byte is due */
+    PHEASANTRY_REFUSED_TERM_ENDS = 9,
+    /* something stands where level 33 begins */
+    PHEASANTRY_REFUSED_TOO_DEEP = 10,
+    /* the byte is no word, no name, nor 255 at the root */
+    PHEASANTRY_REFUSED_NO_WORD_OR_NAME = 11,
+    /* the word's result kind differs from the kind due there */
+    PHEASANTRY_REFUSED_WRONG_KIND = 12,
+    /* the name stood earlier at a place of another kind */
+    PHEASANTRY_REFUSED_CLASH = 13,
+    /* the written map has a bit that the word's place map lacks */
+    PHEASANTRY_REFUSED_STRAY_BIT = 14,
+    /* bytes follow the term */
+    PHEASANTRY_REFUSED_TERM_CONTINUES = 15,
+
+    /* the situation is not complete (place: its first name, 255 or short map) */
+    PHEASANTRY_REFUSED_INCOMPLETE = 16,
+    /* pattern and situation have different kinds (place 0) */
+    PHEASANTRY_REFUSED_KINDS_DIFFER = 17,
+    /* the name stands twice in a pattern to be listed (place: its second occurrence) */
+    PHEASANTRY_REFUSED_REPEATED = 18,
+    /* the table has not 128 numbers (place 0) */
+    PHEASANTRY_REFUSED_TABLE_LENGTH = 19,
+    /* the listing is longer than the lent bytes (place: its length) */
+    PHEASANTRY_REFUSED_NO_ROOM = 20
+};
+
+/* Which input is refused: reply[1]. */
+enum pheasantry_input {
+    /* 1 to 6 */
+    PHEASANTRY_INPUT_VOCABULARY = 0,
+    /* the pattern, or the term that pheasantry_check_term is to check: 7 to 15 and 18 */
+    PHEASANTRY_INPUT_PATTERN = 1,
+    /* 7 to 17 */
+    PHEASANTRY_INPUT_SITUATION = 2,
+    /* the lent table or the lent bytes: 19 and 20 */
+    PHEASANTRY_INPUT_OUTPUT = 3
+};
 
 #ifdef __cplusplus
 extern "C" {
@@ -73,7 +129,7 @@ extern "C" {
  * Refused: 1 to 6.
  */
 void pheasantry_check_vocabulary(const uint8_t *vocabulary, size_t vocabulary_length,
-                                 uint64_t reply[3]);
+                                 uint64_t reply[PHEASANTRY_REPLY_LENGTH]);
 
 /*
  * Checks a term, a pattern or a situation, under a vocabulary.
@@ -83,7 +139,7 @@ void pheasantry_check_vocabulary(const uint8_t *vocabulary, size_t vocabulary_le
  */
 void pheasantry_check_term(const uint8_t *vocabulary, size_t vocabulary_length,
                            const uint8_t *term, size_t term_length,
-                           uint64_t reply[3]);
+                           uint64_t reply[PHEASANTRY_REPLY_LENGTH]);
 
 /*
  * Matches a pattern with a complete situation.
@@ -99,7 +155,7 @@ void pheasantry_match(const uint8_t *vocabulary, size_t vocabulary_length,
                       const uint8_t *pattern, size_t pattern_length,
                       const uint8_t *situation, size_t situation_length,
                       uint16_t *table, size_t table_length,
-                      uint64_t reply[3]);
+                      uint64_t reply[PHEASANTRY_REPLY_LENGTH]);
 
 /*
  * Says which part of a situation a name of the pattern covers. The name is its number 0 to 63, not
@@ -114,7 +170,7 @@ void pheasantry_part(const uint8_t *vocabulary, size_t vocabulary_length,
                      const uint8_t *pattern, size_t pattern_length,
                      const uint8_t *situation, size_t situation_length,
                      uint64_t name,
-                     uint64_t reply[3]);
+                     uint64_t reply[PHEASANTRY_REPLY_LENGTH]);
 
 /*
  * Writes the leftovers of a pattern into out: whole patterns, each with its kind byte, each directly
@@ -128,7 +184,7 @@ void pheasantry_part(const uint8_t *vocabulary, size_t vocabulary_length,
 void pheasantry_list(const uint8_t *vocabulary, size_t vocabulary_length,
                      const uint8_t *pattern, size_t pattern_length,
                      uint8_t *out, size_t out_length,
-                     uint64_t reply[3]);
+                     uint64_t reply[PHEASANTRY_REPLY_LENGTH]);
 
 #ifdef __cplusplus
 }

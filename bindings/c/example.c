@@ -1,7 +1,13 @@
 /*
- * The bench example of document 01: what does wait(up, free) leave over?
+ * The bench example: what does wait(up, free) leave over?
  *
- *   rt staticlib pheasantry
+ * With the library installed (`make install`):
+ *
+ *   cc -std=c99 bindings/c/example.c $(pkg-config --cflags --libs pheasantry) -o example
+ *   ./example
+ *
+ * From the repository alone, after `rt staticlib pheasantry`:
+ *
  *   cc -std=c99 -Iinclude bindings/c/example.c target/staticlib/libpheasantry.a -o target/example
  *   target/example
  *
@@ -55,14 +61,16 @@ static size_t entry_length(const uint8_t *bytes)
 
 static void list(void)
 {
-    uint64_t reply[3];
+    uint64_t reply[PHEASANTRY_REPLY_LENGTH];
     uint8_t small[14];
     pheasantry_list(vocabulary, sizeof vocabulary, wait_up_free, sizeof wait_up_free, small,
                     sizeof small, reply);
     printf("no room in 14 bytes: refused %" PRIu64 " %" PRIu64 " %" PRIu64 "\n", reply[0], reply[1],
            reply[2]);
 
-    /* The place of refusal 20 is the length that is needed. */
+    /* The place of this refusal is the length that is needed. */
+    if (reply[0] != PHEASANTRY_REFUSED_NO_ROOM)
+        exit(1);
     size_t needed = reply[2];
     uint8_t *out = malloc(needed);
     if (out == NULL)
@@ -82,11 +90,11 @@ static void list(void)
 
 static void match(void)
 {
-    uint64_t reply[3];
+    uint64_t reply[PHEASANTRY_REPLY_LENGTH];
     uint16_t table[PHEASANTRY_TABLE_LENGTH];
     pheasantry_match(vocabulary, sizeof vocabulary, wait_name_full, sizeof wait_name_full,
                      wait_up_full, sizeof wait_up_full, table, PHEASANTRY_TABLE_LENGTH, reply);
-    if (reply[0] == 0 && reply[1] == 1)
+    if (reply[0] == PHEASANTRY_ACCEPTED && reply[1] == 1)
         printf("wait(n0, full) with wait(up, full): yes, name 0 at %d, length %d\n", table[0], table[1]);
 
     pheasantry_part(vocabulary, sizeof vocabulary, wait_name_full, sizeof wait_name_full, wait_up_full,
@@ -96,18 +104,18 @@ static void match(void)
 
     pheasantry_match(vocabulary, sizeof vocabulary, wait_name_full, sizeof wait_name_full,
                      wait_up_free, sizeof wait_up_free, table, PHEASANTRY_TABLE_LENGTH, reply);
-    if (reply[0] == 0 && reply[1] == 0)
+    if (reply[0] == PHEASANTRY_ACCEPTED && reply[1] == 0)
         printf("wait(n0, full) with wait(up, free): no\n");
 }
 
 int main(void)
 {
-    uint64_t reply[3];
+    uint64_t reply[PHEASANTRY_REPLY_LENGTH];
     pheasantry_check_vocabulary(vocabulary, sizeof vocabulary, reply);
-    if (reply[0] == 0)
+    if (reply[0] == PHEASANTRY_ACCEPTED)
         printf("vocabulary: accepted\n");
     pheasantry_check_term(vocabulary, sizeof vocabulary, wait_up_free, sizeof wait_up_free, reply);
-    if (reply[0] == 0)
+    if (reply[0] == PHEASANTRY_ACCEPTED)
         printf("wait(up, free): %" PRIu64 " words, deepest level %" PRIu64 "\n", reply[1], reply[2]);
     list();
     match();

@@ -1,0 +1,264 @@
+/*
+ * How many bytes of stack does each call take, on the largest and the deepest inputs?
+ *
+ *   make stack
+ *
+ * Each call runs in a process of its own, on a stack that is painted before. The lowest word that lost
+ * its paint says how far down the call went, with what it called of the C library. It runs twice, with
+ * two paints, since a call may write what looks like one of them. The first call of a C library
+ * function may go through the dynamic linker, which takes stack as well; a new process makes every
+ * call a first one. The exit status is 1 where a call took more than the header says.
+ */
+#define _GNU_SOURCE
+#include <inttypes.h>
+#include <stdio.h>
+#include <stdlib.h>
+#include <sys/mman.h>
+#include <sys/wait.h>
+#include <ucontext.h>
+#include <unistd.h>
+
+#include "pheasantry.h"
+
+/* What the header says is enough, in bytes. */
+enum { ENOUGH = 16 * 1024 };
+
+enum { STACK_WORDS = 32768, OUT_LENGTH = 1 << 24 };
+enum call { CHECK_VOCABULARY, CHECK_TERM, MATCH, PART, LIST, CALLS };
+
+struct bytes {
+    uint8_t at[8192];
+    size_t length;
+};
+
+/* ---------------------------------------------------------------- a call on a painted stack */
+
+static uint64_t stack[STACK_WORDS];
+static uint8_t out[OUT_LENGTH];
+static uint16_t table[PHEASANTRY_TABLE_LENGTH];
+static uint64_t reply[PHEASANTRY_REPLY_LENGTH];
+static ucontext_t before, during;
+static uintptr_t top;
+static enum call call;
+static const struct bytes *vocabulary, *pattern, *situation;
+
+static void call_it(void)
+{
+    const struct bytes *v = vocabulary, *p = pattern, *s = situation;
+    top = (uintptr_t)__builtin_frame_address(0);
+    switch (call) {
+    case CHECK_VOCABULARY:
+        pheasantry_check_vocabulary(v->at, v->length, reply);
+        break;
+    case CHECK_TERM:
+        pheasantry_check_term(v->at, v->length, p->at, p->length, reply);
+        break;
+    case MATCH:
+        pheasantry_match(v->at, v->length, p->at, p->length, s->at, s->length, table,
+                         PHEASANTRY_TABLE_LENGTH, reply);
+        break;
+    case PART:
+        pheasantry_part(v->at, v->length, p->at, p->length, s->at, s->length, 0, reply);
+        break;
+    default:
+        pheasantry_list(v->at, v->length, p->at, p->length, out, OUT_LENGTH, reply);
+    }
+}
+
+/* The paint is put on by a loop: a call of memset here would be the program's first. */
+static size_t taken_under(uint64_t paint)
+{
+    volatile uint64_t *words = stack;
+    for (size_t i = 0; i < STACK_WORDS; i++)
+        words[i] = paint;
+    getcontext(&during);
+    during.uc_stack.ss_sp = stack;
+    during.uc_stack.ss_size = sizeof stack;
+    during.uc_link = &before;
+    makecontext(&during, call_it, 0);
+    swapcontext(&before, &during);
+    size_t kept = 0;
+    while (words[kept] == paint)
+        kept++;
+    return top - (uintptr_t)(stack + kept);
+}
+
+static size_t taken(void)
+{
+    size_t one = taken_under(0xa5a5a5a5a5a5a5a5), other = taken_under(0x5a5a5a5a5a5a5a5a);
+    return one > other ? one : other;
+}
+
+/* ---------------------------------------------------------------- vocabularies and terms */
+
+static void put(struct bytes *b, unsigned byte)
+{
+    b->at[b->length++] = (uint8_t)byte;
+}
+
+static void hex(struct bytes *b, const char *digits)
+{
+    unsigned byte;
+    for (; sscanf(digits, "%2x", &byte) == 1; digits += 2)
+        put(b, byte);
+}
+
+/* Under B: so many levels. */
+static void more(struct bytes *t, unsigned levels)
+{
+    put(t, 0);
+    for (unsigned level = 1; level < levels; level++)
+        put(t, 1), put(t, 1);
+    put(t, 0), put(t, 0);
+}
+
+/* 96 words: for each kind one without places, and the others with eight, of the kinds from their own on. */
+static void words_96(struct bytes *v, unsigned kinds)
+{
+    put(v, kinds), put(v, 96);
+    for (unsigned w = 0; w < 96; w++) {
+        put(v, w % kinds), put(v, w < kinds ? 0 : 255);
+        for (unsigned place = 0; w >= kinds && place < 8; place++)
+            put(v, (w + place) % kinds);
+    }
+}
+
+/* Under words_96: 32 levels, each in place 7 of the one above it. The lower places are open, but for so
+ * many of the first levels and, if there are any, the last one above the end. */
+static void chain(struct bytes *t, unsigned kinds, unsigned full)
+{
+    unsigned kind = 0;
+    put(t, kind);
+    for (unsigned level = 1; level < 32; level++) {
+        int written = level <= full || (full > 0 && level == 31);
+        put(t, kinds + kind), put(t, written ? 255 : 128);
+        for (unsigned place = 0; written && place < 7; place++)
+            put(t, (kind + place) % kinds), put(t, 0);
+        kind = (kind + 7) % kinds;
+    }
+    put(t, kind), put(t, 0);
+}
+
+/* Under C: the full tree of pairs, with words or with the names from 0 on at its leaves. */
+static void pairs(struct bytes *t, unsigned levels, int names)
+{
+    static unsigned name;
+    if (levels > 1) {
+        put(t, 2), put(t, 3);
+        pairs(t, levels - 1, names);
+        pairs(t, levels - 1, names);
+    } else if (names)
+        put(t, 128 + name++ % 64);
+    else
+        put(t, 0), put(t, 0);
+}
+
+/* Under C: the tree of 11 levels, with other bytes for its last leaf. */
+static void tree_to(struct bytes *t, const char *leaf)
+{
+    put(t, 0);
+    pairs(t, 11, 0);
+    t->length -= 2;
+    hex(t, leaf);
+}
+
+/* Under C: 32 levels, each in place 1 of the one above it, and a tree of pairs in place 0. */
+static void trees(struct bytes *t)
+{
+    put(t, 0);
+    for (unsigned level = 1; level < 32; level++) {
+        put(t, 2), put(t, 3);
+        pairs(t, level < 26 ? 6 : 32 - level, 0);
+    }
+    put(t, 0), put(t, 0);
+}
+
+/* ---------------------------------------------------------------- the table */
+
+struct said {
+    size_t taken;
+    uint64_t reply[PHEASANTRY_REPLY_LENGTH];
+};
+
+static volatile struct said *said;
+static size_t most;
+
+static void row(const char *name, const struct bytes *v, const struct bytes *p, const struct bytes *s)
+{
+    vocabulary = v, pattern = p, situation = s;
+    printf("%5zu %5zu  %-45s", v->length, p->length, name);
+    for (int c = 0; c < CALLS; c++) {
+        int status;
+        call = (enum call)c;
+        fflush(stdout);
+        if (fork() == 0) {
+            said->taken = taken();
+            for (int i = 0; i < PHEASANTRY_REPLY_LENGTH; i++)
+                said->reply[i] = reply[i];
+            _exit(0);
+        }
+        if (wait(&status) < 0 || status != 0)
+            exit(1);
+        printf("%7zu", said->taken);
+        if (most < said->taken)
+            most = said->taken;
+    }
+    if (said->reply[0] == 0)
+        printf("%10" PRIu64 " bytes\n", said->reply[2]);
+    else
+        printf("   refused %" PRIu64 "\n", said->reply[0]);
+}
+
+int main(void)
+{
+    /* The bench vocabularies, C with a word more, and 96 words of one kind and of 16. */
+    static struct bytes a, b, c, d, one, sixteen;
+    hex(&a, "03060003010201000100020002000000");
+    hex(&b, "01020000000100");
+    hex(&c, "01030000000000030000");
+    hex(&d, "010400000000000300000000");
+    words_96(&one, 1);
+    words_96(&sixteen, 16);
+
+    static struct bytes up_free, deep, too_deep, open_1, late_1, full_1, open_16, full_16;
+    hex(&up_free, "00000301000300");
+    more(&deep, 32);
+    more(&too_deep, 33);
+    chain(&open_1, 1, 0);
+    chain(&late_1, 1, 4);
+    chain(&full_1, 1, 31);
+    chain(&open_16, 16, 0);
+    chain(&full_16, 16, 31);
+
+    static struct bytes with_trees, tree, other_tree, largest, names, twice;
+    trees(&with_trees);
+    tree_to(&tree, "0000");
+    tree_to(&other_tree, "0100");
+    tree_to(&largest, "020180");
+    hex(&names, "00");
+    pairs(&names, 7, 1);
+    hex(&twice, "0002038080");
+
+    said = mmap(NULL, sizeof *said, PROT_READ | PROT_WRITE, MAP_SHARED | MAP_ANONYMOUS, -1, 0);
+    if (said == MAP_FAILED)
+        return 1;
+    printf("vocabulary and pattern in bytes, and what they are; stack taken, in bytes, by\n");
+    printf("%57s%7s%7s%7s%7s%7s   listing\n", "", "vocab.", "term", "match", "part", "list");
+    row("A, wait(up, free)", &a, &up_free, &up_free);
+    row("B, 32 levels", &b, &deep, &deep);
+    row("B, 33 levels", &b, &too_deep, &too_deep);
+    row("96 words, 32 levels", &one, &open_1, &full_1);
+    row("the same, the last level beyond 128 bytes", &one, &late_1, &full_1);
+    row("the same, every place written", &one, &full_1, &full_1);
+    row("96 words of 16 kinds, 32 levels", &sixteen, &open_16, &full_16);
+    row("the same, every place written", &sixteen, &full_16, &full_16);
+    row("C, 32 levels with trees beside them", &c, &with_trees, &with_trees);
+    row("C, a tree of 11 levels", &c, &tree, &tree);
+    row("the same, and a situation that differs", &c, &tree, &other_tree);
+    row("the same, one more word of its kind", &d, &tree, &tree);
+    row("C, the tree with a name at its end", &c, &largest, &tree);
+    row("C, 64 names", &c, &names, &tree);
+    row("C, a name twice", &c, &twice, &tree);
+    printf("the most: %zu bytes of %d\n", most, ENOUGH);
+    return most > ENOUGH;
+}
