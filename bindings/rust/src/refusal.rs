@@ -1,122 +1,162 @@
-//! Document 01's refusal list.
+//! Why a call is refused. `docs/FORMAT.md` has the same list.
 use std::error::Error;
 use std::fmt;
 
 /// Which input was refused.
 #[derive(Clone, Copy, Debug, PartialEq, Eq, Hash)]
+#[non_exhaustive]
 pub enum Input {
     /// Input 0.
-    Vocabulary,
+    Vocabulary = 0,
     /// Input 1: a pattern, or the term of a term check.
-    Pattern,
+    Pattern = 1,
     /// Input 2.
-    Situation,
+    Situation = 2,
     /// Input 3: the lent table or the lent bytes.
-    Output,
+    Output = 3,
 }
 
-/// Why a call was refused: a line of the refusal list.
+impl Input {
+    const ALL: [Input; 4] = [
+        Input::Vocabulary,
+        Input::Pattern,
+        Input::Situation,
+        Input::Output,
+    ];
+
+    /// The input's number, 0 to 3.
+    #[must_use]
+    pub fn number(self) -> u8 {
+        self as u8
+    }
+}
+
+impl fmt::Display for Input {
+    fn fmt(&self, f: &mut fmt::Formatter<'_>) -> fmt::Result {
+        f.write_str(match self {
+            Input::Vocabulary => "vocabulary",
+            Input::Pattern => "pattern",
+            Input::Situation => "situation",
+            Input::Output => "lent output",
+        })
+    }
+}
+
+/// Why a call was refused: a line of the refusal list. Its text says the same.
 #[derive(Clone, Copy, Debug, PartialEq, Eq, Hash)]
+#[non_exhaustive]
 pub enum Reason {
-    /// 1: the vocabulary has fewer than 2 bytes, or not 1 to 16 kinds.
+    /// 1: the vocabulary has fewer than 2 bytes, or not 1 to 16 kinds. The place is 0.
     Head = 1,
     /// 2: the vocabulary has not 1 to 96 words.
-    WordCount,
-    /// 3: the vocabulary ends where a record's byte is due.
-    RecordEnds,
-    /// 4: a kind in a record is not below the kind count.
-    RecordKind,
+    WordCount = 2,
+    /// 3: the vocabulary ends where a byte of a record is due.
+    RecordEnds = 3,
+    /// 4: a kind in a record is not below the number of kinds.
+    RecordKind = 4,
     /// 5: bytes follow the last record.
-    RecordsContinue,
-    /// 6: a kind has no complete situation; the place is the lowest such kind.
-    EmptyKind,
-    /// 7: the term has fewer than 2 or more than 4,096 bytes.
-    Size,
-    /// 8: the term's first byte is not below the kind count.
-    TermKind,
+    RecordsContinue = 5,
+    /// 6: a kind has no complete situation. The place is the lowest such kind.
+    EmptyKind = 6,
+    /// 7: the term has fewer than 2 or more than 4,096 bytes. The place is 0.
+    Size = 7,
+    /// 8: the term's first byte is not below the number of kinds.
+    TermKind = 8,
     /// 9: the term ends where a byte is due.
-    TermEnds,
+    TermEnds = 9,
     /// 10: something stands where level 33 begins.
-    TooDeep,
-    /// 11: a byte is no word, no name, nor 255 at the root.
-    NoWordOrName,
-    /// 12: a word's result kind differs from the kind due there.
-    WrongKind,
-    /// 13: a name stood earlier at a place of another kind.
-    Clash,
-    /// 14: a written map has a bit that the word's place map lacks.
-    StrayBit,
+    TooDeep = 10,
+    /// 11: the byte is no word, no name, nor 255 at the root.
+    NoWordOrName = 11,
+    /// 12: the word's result kind differs from the kind due there.
+    WrongKind = 12,
+    /// 13: the name stood earlier at a place of another kind.
+    Clash = 13,
+    /// 14: the written map has a bit that the word's place map lacks.
+    StrayBit = 14,
     /// 15: bytes follow the term.
-    TermContinues,
-    /// 16: the situation is not complete.
-    Incomplete,
-    /// 17: pattern and situation have different kinds.
-    KindsDiffer,
-    /// 18: a name stands twice in a pattern to be listed.
-    Repeated,
-    /// 19: the table has not 128 numbers.
-    TableLength,
-    /// 20: the listing is longer than the lent bytes; the place is its length.
-    NoRoom,
+    TermContinues = 15,
+    /// 16: the situation is not complete. The place is its first name, 255 or short map.
+    Incomplete = 16,
+    /// 17: pattern and situation have different kinds. The place is 0.
+    KindsDiffer = 17,
+    /// 18: the name stands twice in a pattern to be listed. The place is its second occurrence.
+    Repeated = 18,
+    /// 19: the table has not 128 numbers. The place is 0.
+    TableLength = 19,
+    /// 20: the listing is longer than the lent bytes. The place is its length.
+    NoRoom = 20,
 }
 
-const REASONS: [(Reason, &str); 20] = [
-    (
+impl Reason {
+    const ALL: [Reason; 20] = [
         Reason::Head,
-        "the vocabulary has fewer than 2 bytes, or not 1 to 16 kinds",
-    ),
-    (Reason::WordCount, "the vocabulary has not 1 to 96 words"),
-    (
+        Reason::WordCount,
         Reason::RecordEnds,
-        "the vocabulary ends where a record's byte is due",
-    ),
-    (
         Reason::RecordKind,
-        "a kind in a record is not below the kind count",
-    ),
-    (Reason::RecordsContinue, "bytes follow the last record"),
-    (Reason::EmptyKind, "a kind has no complete situation"),
-    (
+        Reason::RecordsContinue,
+        Reason::EmptyKind,
         Reason::Size,
-        "the term has fewer than 2 or more than 4,096 bytes",
-    ),
-    (
         Reason::TermKind,
-        "the term's first byte is not below the kind count",
-    ),
-    (Reason::TermEnds, "the term ends where a byte is due"),
-    (Reason::TooDeep, "something stands where level 33 begins"),
-    (
+        Reason::TermEnds,
+        Reason::TooDeep,
         Reason::NoWordOrName,
-        "the byte is no word, no name, nor 255 at the root",
-    ),
-    (
         Reason::WrongKind,
-        "the word's result kind differs from the kind due there",
-    ),
-    (
         Reason::Clash,
-        "the name stood earlier at a place of another kind",
-    ),
-    (
         Reason::StrayBit,
-        "the written map has a bit that the word's place map lacks",
-    ),
-    (Reason::TermContinues, "bytes follow the term"),
-    (Reason::Incomplete, "the situation is not complete"),
-    (
+        Reason::TermContinues,
+        Reason::Incomplete,
         Reason::KindsDiffer,
-        "pattern and situation have different kinds",
-    ),
-    (
         Reason::Repeated,
-        "the name stands twice in a pattern to be listed",
-    ),
-    (Reason::TableLength, "the table has not 128 numbers"),
-    (Reason::NoRoom, "the listing is longer than the lent bytes"),
-];
+        Reason::TableLength,
+        Reason::NoRoom,
+    ];
+
+    /// The line's number, 1 to 20.
+    #[must_use]
+    pub fn number(self) -> u8 {
+        self as u8
+    }
+}
+
+impl fmt::Display for Reason {
+    fn fmt(&self, f: &mut fmt::Formatter<'_>) -> fmt::Result {
+        f.write_str(match self {
+            Reason::Head => "the vocabulary has fewer than 2 bytes, or not 1 to 16 kinds",
+            Reason::WordCount => "the vocabulary has not 1 to 96 words",
+            Reason::RecordEnds => "the vocabulary ends where a byte of a record is due",
+            Reason::RecordKind => "a kind in a record is not below the number of kinds",
+            Reason::RecordsContinue => "bytes follow the last record",
+            Reason::EmptyKind => "a kind has no complete situation",
+            Reason::Size => "the term has fewer than 2 or more than 4,096 bytes",
+            Reason::TermKind => "the term's first byte is not below the number of kinds",
+            Reason::TermEnds => "the term ends where a byte is due",
+            Reason::TooDeep => "something stands where level 33 begins",
+            Reason::NoWordOrName => "the byte is no word, no name, nor 255 at the root",
+            Reason::WrongKind => "the word's result kind differs from the kind due there",
+            Reason::Clash => "the name stood earlier at a place of another kind",
+            Reason::StrayBit => "the written map has a bit that the word's place map lacks",
+            Reason::TermContinues => "bytes follow the term",
+            Reason::Incomplete => "the situation is not complete",
+            Reason::KindsDiffer => "pattern and situation have different kinds",
+            Reason::Repeated => "the name stands twice in a pattern to be listed",
+            Reason::TableLength => "the table has not 128 numbers",
+            Reason::NoRoom => "the listing is longer than the lent bytes",
+        })
+    }
+}
 
 /// A refusal: its number, the input and a place.
+///
+/// Its text has the three numbers, and says what they mean:
+///
+/// ```
+/// use pheasantry::Vocabulary;
+///
+/// let refusal = Vocabulary::new(&[1, 97]).unwrap_err();
+/// assert_eq!((refusal.number(), refusal.input().number(), refusal.place()), (2, 0, 1));
+/// assert_eq!(refusal.to_string(), "refused 2 0 1: the vocabulary has not 1 to 96 words (vocabulary, byte 1)");
+/// ```
 #[derive(Clone, Copy, Debug, PartialEq, Eq, Hash)]
 pub struct Refusal {
     reason: Reason,
@@ -125,40 +165,47 @@ pub struct Refusal {
 }
 
 impl Refusal {
-    // The archive's numbers are those of the list, which its contracts say.
+    // The archive's numbers are those of the two lists, as its contracts say. Others mean that the archive is
+    // of another version than this crate.
     pub(crate) fn of(number: u64, input: u64, place: usize) -> Refusal {
-        let input = match input {
-            0 => Input::Vocabulary,
-            1 => Input::Pattern,
-            2 => Input::Situation,
-            _ => Input::Output,
-        };
-        let (reason, _) = REASONS[number as usize - 1];
-        Refusal {
-            reason,
-            input,
-            place,
+        let reason = Reason::ALL
+            .into_iter()
+            .find(|reason| u64::from(reason.number()) == number);
+        let input = Input::ALL
+            .into_iter()
+            .find(|known| u64::from(known.number()) == input);
+        match (reason, input) {
+            (Some(reason), Some(input)) => Refusal {
+                reason,
+                input,
+                place,
+            },
+            _ => panic!("libpheasantry.a is of another version than this crate: refusal {number}"),
         }
     }
 
     /// The line of the refusal list.
+    #[must_use]
     pub fn reason(&self) -> Reason {
         self.reason
     }
 
     /// The line's number, 1 to 20.
+    #[must_use]
     pub fn number(&self) -> u8 {
-        self.reason as u8
+        self.reason.number()
     }
 
     /// The input that was refused.
+    #[must_use]
     pub fn input(&self) -> Input {
         self.input
     }
 
-    /// The offset of the offending byte or of the missing one. For [`Reason::EmptyKind`] it is a kind, for
+    /// The offset of the byte at fault or of the missing one. For [`Reason::EmptyKind`] it is a kind, for
     /// [`Reason::NoRoom`] the length that is needed, and 0 for [`Reason::Head`], [`Reason::Size`],
     /// [`Reason::KindsDiffer`] and [`Reason::TableLength`], which are about no one byte.
+    #[must_use]
     pub fn place(&self) -> usize {
         self.place
     }
@@ -166,19 +213,19 @@ impl Refusal {
 
 impl fmt::Display for Refusal {
     fn fmt(&self, f: &mut fmt::Formatter<'_>) -> fmt::Result {
-        let (number, place) = (self.number(), self.place);
-        let (_, says) = REASONS[usize::from(number) - 1];
-        write!(f, "refused {number} {} {place}: {says}", self.input as u8)?;
-        match (self.input, self.reason) {
-            (_, Reason::EmptyKind) => write!(f, " (vocabulary, kind {place})"),
-            (_, Reason::NoRoom) => write!(f, " (it takes {place} bytes)"),
-            (Input::Output, _) => Ok(()),
-            (Input::Vocabulary, Reason::Head) => write!(f, " (vocabulary)"),
-            (Input::Pattern, Reason::Size) => write!(f, " (pattern)"),
-            (Input::Situation, Reason::Size | Reason::KindsDiffer) => write!(f, " (situation)"),
-            (Input::Vocabulary, _) => write!(f, " (vocabulary, byte {place})"),
-            (Input::Pattern, _) => write!(f, " (pattern, byte {place})"),
-            (Input::Situation, _) => write!(f, " (situation, byte {place})"),
+        let Refusal {
+            reason,
+            input,
+            place,
+        } = self;
+        let (number, given) = (reason.number(), input.number());
+        write!(f, "refused {number} {given} {place}: {reason}")?;
+        match reason {
+            Reason::EmptyKind => write!(f, " ({input}, kind {place})"),
+            Reason::NoRoom => write!(f, " (it takes {place} bytes)"),
+            Reason::Head | Reason::Size | Reason::KindsDiffer => write!(f, " ({input})"),
+            Reason::TableLength => Ok(()),
+            _ => write!(f, " ({input}, byte {place})"),
         }
     }
 }

@@ -1,7 +1,7 @@
-//! Document 01's bench examples and each line of its refusal list, through the archive.
+//! The bench examples and each line of the refusal list, through the archive.
 use pheasantry::{
     check_term, check_vocabulary, entries, leftovers, list, match_into, match_pattern, part,
-    Checked, Listed, Refusal,
+    Checked, Refusal,
 };
 
 const A: [u8; 16] = [3, 6, 0, 3, 1, 2, 1, 0, 1, 0, 2, 0, 2, 0, 0, 0];
@@ -14,7 +14,12 @@ const PAIR_N0_N0: [u8; 5] = [0, 2, 3, 0x80, 0x80];
 
 fn numbers<T: std::fmt::Debug>(answer: Result<T, Refusal>) -> (u8, u8, usize) {
     let refusal = answer.unwrap_err();
-    (refusal.number(), refusal.input() as u8, refusal.place())
+    (refusal.number(), refusal.input().number(), refusal.place())
+}
+
+fn checked(answer: Result<Checked, Refusal>) -> (usize, usize) {
+    let checked = answer.unwrap();
+    (checked.words, checked.deepest)
 }
 
 // The term of B with so many levels: more(.. more(none)).
@@ -35,13 +40,8 @@ fn wait_up_free_leaves_three_over() {
     assert_eq!(leftovers(&A, &WAIT_UP_FREE).unwrap(), expected);
 
     let mut out = [9; 20];
-    assert_eq!(
-        list(&A, &WAIT_UP_FREE, &mut out),
-        Ok(Listed {
-            entries: 3,
-            bytes: 15
-        })
-    );
+    let listed = list(&A, &WAIT_UP_FREE, &mut out).unwrap();
+    assert_eq!((listed.entries, listed.bytes), (3, 15));
     assert_eq!(out[..15], expected.concat());
     assert_eq!(out[15..], [9; 5]);
     assert!(entries(&out[..15]).eq(expected.iter().map(Vec::as_slice)));
@@ -88,9 +88,12 @@ fn matches() {
     let spans = match_pattern(&C, &[0, 0x80], &PAIR_A_A).unwrap().unwrap();
     assert_eq!(spans.get(0), Some(1..7));
     assert_eq!(
-        [spans.get(63), spans.get(64), spans.get(usize::MAX)],
+        [spans.get(63), spans.get(64), spans.get(255)],
         [None, None, None]
     );
+    // Name 63 is the last.
+    let spans = match_pattern(&C, &[0, 0xbf], &PAIR_A_A).unwrap().unwrap();
+    assert_eq!(spans.iter().collect::<Vec<_>>(), [(63, 1..7)]);
 
     let mut table = [9; 128];
     assert_eq!(
@@ -111,7 +114,8 @@ fn part_is_the_very_part() {
         (&PAIR_N0_N0[..], &PAIR_A_B[..], 0),
         (&PAIR_N0_N0, &PAIR_A_A, 1),
         (&PAIR_N0_N0, &PAIR_A_A, 64),
-        (&PAIR_N0_N0, &PAIR_A_A, u64::MAX),
+        (&PAIR_N0_N0, &PAIR_A_A, 128),
+        (&PAIR_N0_N0, &PAIR_A_A, 255),
         (&PAIR_N0_N0, &[], 0),
         (&[], &PAIR_A_A, 0),
     ] {
@@ -121,27 +125,9 @@ fn part_is_the_very_part() {
 
 #[test]
 fn terms_are_counted() {
-    assert_eq!(
-        check_term(&A, &WAIT_UP_FREE),
-        Ok(Checked {
-            words: 3,
-            deepest: 2
-        })
-    );
-    assert_eq!(
-        check_term(&C, &[0, 255]),
-        Ok(Checked {
-            words: 0,
-            deepest: 1
-        })
-    );
-    assert_eq!(
-        check_term(&B, &levels(32)),
-        Ok(Checked {
-            words: 32,
-            deepest: 32
-        })
-    );
+    assert_eq!(checked(check_term(&A, &WAIT_UP_FREE)), (3, 2));
+    assert_eq!(checked(check_term(&C, &[0, 255])), (0, 1));
+    assert_eq!(checked(check_term(&B, &levels(32))), (32, 32));
 }
 
 #[test]
@@ -180,7 +166,9 @@ fn every_line_of_the_refusal_list() {
 
 #[test]
 fn refusals_are_told() {
-    let said = |answer: Result<Listed, Refusal>| answer.unwrap_err().to_string();
+    fn said<T: std::fmt::Debug>(answer: Result<T, Refusal>) -> String {
+        answer.unwrap_err().to_string()
+    }
     assert_eq!(
         said(list(&A, &WAIT_UP_FREE, &mut [])),
         "refused 20 3 15: the listing is longer than the lent bytes (it takes 15 bytes)"
@@ -189,18 +177,31 @@ fn refusals_are_told() {
         said(list(&C, &PAIR_N0_N0, &mut [])),
         "refused 18 1 4: the name stands twice in a pattern to be listed (pattern, byte 4)"
     );
+    assert_eq!(
+        said(check_vocabulary(&[1, 1, 0, 1, 0])),
+        "refused 6 0 0: a kind has no complete situation (vocabulary, kind 0)"
+    );
+    assert_eq!(
+        said(match_pattern(&C, &[0, 255], &[0])),
+        "refused 7 2 0: the term has fewer than 2 or more than 4,096 bytes (situation)"
+    );
+    assert_eq!(
+        said(match_into(&C, &[0, 255], &PAIR_A_A, &mut [])),
+        "refused 19 3 0: the table has not 128 numbers"
+    );
 }
 
 #[test]
 fn calls_run_at_the_same_time() {
-    std::thread::scope(|scope| {
-        for _ in 0..8 {
-            scope.spawn(|| {
-                for _ in 0..1000 {
-                    assert_eq!(leftovers(&A, &WAIT_UP_FREE).unwrap().len(), 3);
-                    assert_eq!(part(&C, &PAIR_N0_N0, &PAIR_A_A, 0), [0, 0]);
-                }
-            });
-        }
+    let threads = [(); 8].map(|()| {
+        std::thread::spawn(|| {
+            for _ in 0..1000 {
+                assert_eq!(leftovers(&A, &WAIT_UP_FREE).unwrap().len(), 3);
+                assert_eq!(part(&C, &PAIR_N0_N0, &PAIR_A_A, 0), [0, 0]);
+            }
+        })
     });
+    for thread in threads {
+        thread.join().unwrap();
+    }
 }

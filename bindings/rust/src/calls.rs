@@ -1,0 +1,216 @@
+//! The archive's calls over a vocabulary's bytes.
+use crate::archive::{self, Reply};
+use crate::{entries, Checked, Listed, Reason, Refusal, Spans, TABLE_LENGTH};
+
+// The two values of a reply. Both are below 2⁶⁴, and a `usize` has 64 bits where the archive runs.
+fn values(reply: Reply) -> Result<(usize, usize), Refusal> {
+    match reply {
+        [0, first, second] => Ok((first as usize, second as usize)),
+        [number, input, place] => Err(Refusal::of(number, input, place as usize)),
+    }
+}
+
+/// Checks a vocabulary.
+///
+/// ```
+/// use pheasantry::{check_vocabulary, Reason};
+///
+/// assert_eq!(check_vocabulary(&[1, 2, 0, 0, 0, 1, 0]), Ok(()));
+/// // The only word needs a situation of its own kind.
+/// let refusal = check_vocabulary(&[1, 1, 0, 1, 0]).unwrap_err();
+/// assert_eq!(refusal.reason(), Reason::EmptyKind);
+/// assert_eq!(refusal.to_string(), "refused 6 0 0: a kind has no complete situation (vocabulary, kind 0)");
+/// ```
+///
+/// # Errors
+///
+/// Refused with 1 to 6.
+pub fn check_vocabulary(vocabulary: &[u8]) -> Result<(), Refusal> {
+    let mut reply = Reply::default();
+    // SAFETY: the pointers and lengths are those of slices that live through the call.
+    unsafe {
+        archive::pheasantry_check_vocabulary(vocabulary.as_ptr(), vocabulary.len(), &mut reply);
+    }
+    values(reply).map(|_| ())
+}
+
+/// Checks a term, a pattern or a situation, under a vocabulary.
+///
+/// ```
+/// let vocabulary = [3, 6, 0, 3, 1, 2, 1, 0, 1, 0, 2, 0, 2, 0, 0, 0];
+/// let checked = pheasantry::check_term(&vocabulary, &[0, 0, 3, 1, 0, 3, 0])?;
+/// assert_eq!((checked.words, checked.deepest), (3, 2));
+/// # Ok::<(), pheasantry::Refusal>(())
+/// ```
+///
+/// # Errors
+///
+/// Refused with 1 to 6 for the vocabulary and 7 to 15 for the term, which is [`Input::Pattern`].
+///
+/// [`Input::Pattern`]: crate::Input::Pattern
+pub fn check_term(vocabulary: &[u8], term: &[u8]) -> Result<Checked, Refusal> {
+    let mut reply = Reply::default();
+    // SAFETY: the pointers and lengths are those of slices that live through the call.
+    unsafe {
+        archive::pheasantry_check_term(
+            vocabulary.as_ptr(),
+            vocabulary.len(),
+            term.as_ptr(),
+            term.len(),
+            &mut reply,
+        );
+    }
+    let (words, deepest) = values(reply)?;
+    Ok(Checked { words, deepest })
+}
+
+/// Matches a pattern with a complete situation. Yes gives the part that each name covers, no nothing.
+///
+/// ```
+/// use pheasantry::match_pattern;
+///
+/// let vocabulary = [1, 3, 0, 0, 0, 0, 0, 3, 0, 0];
+/// let pair_n0_n0 = [0, 2, 3, 0x80, 0x80];
+/// let spans = match_pattern(&vocabulary, &pair_n0_n0, &[0, 2, 3, 0, 0, 0, 0])?.unwrap();
+/// assert_eq!(spans.get(0), Some(3..5));
+/// assert_eq!(spans.get(1), None);
+/// assert_eq!(match_pattern(&vocabulary, &pair_n0_n0, &[0, 2, 3, 0, 0, 1, 0])?, None);
+/// # Ok::<(), pheasantry::Refusal>(())
+/// ```
+///
+/// # Errors
+///
+/// Refused with 1 to 6 for the vocabulary, 7 to 15 for the pattern and 7 to 17 for the situation.
+pub fn match_pattern(
+    vocabulary: &[u8],
+    pattern: &[u8],
+    situation: &[u8],
+) -> Result<Option<Spans>, Refusal> {
+    let mut table = [0; TABLE_LENGTH];
+    let yes = match_into(vocabulary, pattern, situation, &mut table)?;
+    Ok(yes.then_some(Spans { table }))
+}
+
+/// Matches a pattern with a complete situation. Yes fills the lent table, which has [`TABLE_LENGTH`]
+/// numbers: the offset of name n at 2n, its length at 2n + 1, and 0 and 0 for a name that does not stand
+/// in the pattern. No leaves the table as it was.
+///
+/// # Errors
+///
+/// Refused as [`match_pattern`], and with 19 where the table has another length. A refusal leaves the
+/// table as it was.
+pub fn match_into(
+    vocabulary: &[u8],
+    pattern: &[u8],
+    situation: &[u8],
+    table: &mut [u16],
+) -> Result<bool, Refusal> {
+    let mut reply = Reply::default();
+    // SAFETY: the pointers and lengths are those of slices that live through the call, and the
+    // table and the reply, which it writes, are borrowed for it alone.
+    unsafe {
+        archive::pheasantry_match(
+            vocabulary.as_ptr(),
+            vocabulary.len(),
+            pattern.as_ptr(),
+            pattern.len(),
+            situation.as_ptr(),
+            situation.len(),
+            table.as_mut_ptr(),
+            table.len(),
+            &mut reply,
+        );
+    }
+    values(reply).map(|(yes, _)| yes == 1)
+}
+
+/// The part of the situation that a name of the pattern covers. It is empty where match would not say
+/// yes, also where it would be refused, and where the name does not stand in the pattern. A covered part
+/// has at least 2 bytes.
+///
+/// ```
+/// let vocabulary = [3, 6, 0, 3, 1, 2, 1, 0, 1, 0, 2, 0, 2, 0, 0, 0];
+/// let wait_n0_full = [0, 0, 3, 0x80, 4, 0];
+/// let wait_up_full = [0, 0, 3, 1, 0, 4, 0];
+/// assert_eq!(pheasantry::part(&vocabulary, &wait_n0_full, &wait_up_full, 0), [1, 0]);
+/// assert!(pheasantry::part(&vocabulary, &wait_n0_full, &wait_up_full, 1).is_empty());
+/// ```
+#[must_use]
+pub fn part<'s>(vocabulary: &[u8], pattern: &[u8], situation: &'s [u8], name: u8) -> &'s [u8] {
+    let mut reply = Reply::default();
+    // SAFETY: the pointers and lengths are those of slices that live through the call.
+    unsafe {
+        archive::pheasantry_part(
+            vocabulary.as_ptr(),
+            vocabulary.len(),
+            pattern.as_ptr(),
+            pattern.len(),
+            situation.as_ptr(),
+            situation.len(),
+            u64::from(name),
+            &mut reply,
+        );
+    }
+    let [_, offset, length] = reply.map(|number| number as usize);
+    &situation[offset..offset + length]
+}
+
+/// Writes the leftovers of a pattern into `out`: whole patterns, each directly behind the one before
+/// it, which [`entries`] takes apart. Bytes behind the last stay as they were.
+///
+/// ```
+/// use pheasantry::{list, Reason};
+///
+/// let vocabulary = [3, 6, 0, 3, 1, 2, 1, 0, 1, 0, 2, 0, 2, 0, 0, 0];
+/// let wait_up_free = [0, 0, 3, 1, 0, 3, 0];
+/// let refusal = list(&vocabulary, &wait_up_free, &mut [0; 14]).unwrap_err();
+/// assert_eq!((refusal.reason(), refusal.place()), (Reason::NoRoom, 15));
+///
+/// let mut out = [0; 15];
+/// let listed = list(&vocabulary, &wait_up_free, &mut out)?;
+/// assert_eq!((listed.entries, listed.bytes), (3, 15));
+/// # Ok::<(), pheasantry::Refusal>(())
+/// ```
+///
+/// # Errors
+///
+/// Refused with 1 to 6 for the vocabulary, 7 to 15 and 18 for the pattern, and 20 where `out` is too
+/// short; the place is then the length that is needed. A refusal leaves `out` as it was.
+pub fn list(vocabulary: &[u8], pattern: &[u8], out: &mut [u8]) -> Result<Listed, Refusal> {
+    let mut reply = Reply::default();
+    // SAFETY: the pointers and lengths are those of slices that live through the call, and out and
+    // the reply, which it writes, are borrowed for it alone.
+    unsafe {
+        archive::pheasantry_list(
+            vocabulary.as_ptr(),
+            vocabulary.len(),
+            pattern.as_ptr(),
+            pattern.len(),
+            out.as_mut_ptr(),
+            out.len(),
+            &mut reply,
+        );
+    }
+    let (entries, bytes) = values(reply)?;
+    Ok(Listed { entries, bytes })
+}
+
+/// The leftovers of a pattern, each a whole pattern with its kind byte, in the order in which [`list`]
+/// writes them.
+///
+/// It measures first and then allocates what is needed, so that it is never refused for want of room. A
+/// listing can take some 400 million bytes; [`list`] with an empty `out` only measures.
+///
+/// # Errors
+///
+/// Refused with 1 to 6 for the vocabulary, and 7 to 15 and 18 for the pattern.
+pub fn leftovers(vocabulary: &[u8], pattern: &[u8]) -> Result<Vec<Vec<u8>>, Refusal> {
+    let needed = match list(vocabulary, pattern, &mut []) {
+        Ok(_) => return Ok(Vec::new()),
+        Err(refusal) if refusal.reason() == Reason::NoRoom => refusal.place(),
+        Err(refusal) => return Err(refusal),
+    };
+    let mut out = vec![0; needed];
+    let listed = list(vocabulary, pattern, &mut out)?;
+    Ok(entries(&out[..listed.bytes]).map(<[u8]>::to_vec).collect())
+}

@@ -1,0 +1,118 @@
+//! The C header and this crate say the same: the version, the refusals and the inputs.
+use pheasantry::{check_term, check_vocabulary, list, match_into, Reason, Refusal, TABLE_LENGTH};
+
+const HEADER: &str = include_str!("../../../include/pheasantry.h");
+
+// What a line of the header defines a macro as.
+fn defined(name: &str) -> &'static str {
+    HEADER
+        .lines()
+        .find_map(|line| {
+            line.strip_prefix("#define ")?
+                .strip_prefix(name)?
+                .strip_prefix(' ')
+        })
+        .unwrap_or_else(|| panic!("{name} is not defined"))
+}
+
+// The lines of an enum: what stands in the comment above each name, the name behind a prefix, and its number.
+fn enumerated(prefix: &str) -> Vec<(&'static str, &'static str, u8)> {
+    let mut comment = "";
+    let mut found = Vec::new();
+    for line in HEADER.lines().map(str::trim) {
+        if let Some(text) = line.strip_prefix("/* ") {
+            comment = text.trim_end_matches(" */");
+        } else if let Some((name, number)) = line.split_once(" = ") {
+            if let Some(name) = name.strip_prefix(prefix) {
+                found.push((comment, name, number.trim_end_matches(',').parse().unwrap()));
+            }
+        }
+    }
+    found
+}
+
+// A refusal of every number.
+fn refusals() -> Vec<Refusal> {
+    let c = [1, 3, 0, 0, 0, 0, 0, 3, 0, 0];
+    let a = [3, 6, 0, 3, 1, 2, 1, 0, 1, 0, 2, 0, 2, 0, 0, 0];
+    let b = [1, 2, 0, 0, 0, 1, 0];
+    let deep = [[0].to_vec(), [1, 1].repeat(33)].concat();
+    let pair = [0, 2, 3, 0, 0, 0, 0];
+    let vocabularies: [&[u8]; 6] = [
+        &[],
+        &[1, 97],
+        &[1, 1, 0],
+        &[1, 1, 1, 0],
+        &[1, 1, 0, 0, 0],
+        &[2, 1, 0, 0],
+    ];
+    let terms: [(&[u8], &[u8]); 9] = [
+        (&c, &[0]),
+        (&c, &[1, 0, 0]),
+        (&c, &[0, 2, 3]),
+        (&b, &deep),
+        (&c, &[0, 3]),
+        (&a, &[1, 0, 0]),
+        (&a, &[0, 0, 3, 0x80, 0x80]),
+        (&c, &[0, 2, 4]),
+        (&c, &[0, 0, 0, 0]),
+    ];
+    let mut refusals = Vec::new();
+    refusals.extend(vocabularies.map(|v| check_vocabulary(v).unwrap_err()));
+    refusals.extend(terms.map(|(v, t)| check_term(v, t).unwrap_err()));
+    refusals.extend([
+        match_into(&c, &[0, 255], &[0, 2, 1, 0, 0], &mut []).unwrap_err(),
+        match_into(&a, &[0, 255], &[1, 1, 0], &mut []).unwrap_err(),
+        list(&c, &[0, 2, 3, 0x80, 0x80], &mut []).unwrap_err(),
+        match_into(&c, &[0, 255], &pair, &mut []).unwrap_err(),
+        list(&c, &pair, &mut []).unwrap_err(),
+    ]);
+    refusals
+}
+
+// A name of the crate as C has it: NoWordOrName is NO_WORD_OR_NAME.
+fn in_c(reason: Reason) -> String {
+    let mut name = String::new();
+    for letter in format!("{reason:?}").chars() {
+        if letter.is_uppercase() && !name.is_empty() {
+            name.push('_');
+        }
+        name.extend(letter.to_uppercase());
+    }
+    name
+}
+
+#[test]
+fn one_version() {
+    let version = env!("CARGO_PKG_VERSION");
+    assert_eq!(defined("PHEASANTRY_VERSION"), format!("{version:?}"));
+    let numbers =
+        ["MAJOR", "MINOR", "PATCH"].map(|part| defined(&format!("PHEASANTRY_VERSION_{part}")));
+    assert_eq!(numbers.join("."), version);
+    assert_eq!(defined("PHEASANTRY_TABLE_LENGTH"), TABLE_LENGTH.to_string());
+}
+
+#[test]
+fn the_same_refusals() {
+    let in_header = enumerated("PHEASANTRY_REFUSED_");
+    let refusals = refusals();
+    assert_eq!(in_header.len(), refusals.len());
+    for ((comment, name, number), refusal) in in_header.into_iter().zip(refusals) {
+        let reason = refusal.reason();
+        assert_eq!((name, number), (&*in_c(reason), reason.number()));
+        let says = comment.split(" (place").next().unwrap();
+        assert_eq!(says, reason.to_string());
+    }
+}
+
+#[test]
+fn the_same_inputs() {
+    use pheasantry::Input::{Output, Pattern, Situation, Vocabulary};
+    let in_header: Vec<(String, u8)> = enumerated("PHEASANTRY_INPUT_")
+        .into_iter()
+        .map(|(_, name, number)| (name.to_lowercase(), number))
+        .collect();
+    let here = [Vocabulary, Pattern, Situation, Output]
+        .map(|input| (format!("{input:?}").to_lowercase(), input.number()));
+    assert_eq!(in_header, here);
+}
