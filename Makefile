@@ -7,7 +7,8 @@
 #   make uninstall PREFIX=/some/dir          removes the three files again
 #   make check-version                       header, its numbers and Rust crate: one version
 #   make check-install                       installs below target/, compiles the C example with the flags
-#                                            of pkg-config alone, and holds what it prints to its head
+#                                            of pkg-config alone, and holds what it prints to its head; the
+#                                            archive needs no more of the C library than the header says
 #   make stack                               measures how much stack the calls take
 #
 # The version stands in include/pheasantry.h; pheasantry.pc gets it from there.
@@ -68,6 +69,7 @@ staged = DESTDIR='$(tried)/stage' PREFIX=/usr
 flags = PKG_CONFIG_PATH='$(tried)/lib/pkgconfig' $(PKG_CONFIG)
 
 check-install: $(archive)
+	test "$$(nm -u $(archive) | sed -n 's/^ *U //p' | sort | paste -s -d ' ' -)" = 'memcpy memmove memset'
 	rm -rf '$(tried)'
 	$(MAKE) install $(here)
 	test "$$($(flags) --modversion pheasantry)" = '$(version)'
