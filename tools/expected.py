@@ -687,7 +687,7 @@ def by_hand():
 
 
 def matched_by_hand():
-    """Document 01's own examples of match, with the numbers that it or READINGS gives, and parts counted on paper."""
+    """Document 01's own examples of match, with the numbers that it or docs/DECISIONS.md gives, and parts counted on paper."""
 
     def table_of(vocabulary, pattern, situation):
         table = [7] * 128
@@ -713,7 +713,7 @@ def matched_by_hand():
     assert table_of(C, "00 bf", "00 00 00") == ("yes", {126: 1, 127: 2})
     # "`00 ff` with situation `00 02 01 00 00`: 16, input 2, place 2."
     assert refusal_of(C, "00 ff", "00 02 01 00 00") == "refused 16 2 2"
-    # READINGS: 15 before 16, 16 before 17, 16 before 19, and 19 before a no.
+    # DECISIONS: 15 before 16, 16 before 17, 16 before 19, and 19 before a no.
     assert refusal_of(C, "00 ff", "00 02 01 00 00 07") == "refused 15 2 5"
     assert refusal_of(A, "00 ff", "01 80") == "refused 16 2 1"
     assert refusal_of(C, "00 ff", "00 02 01 00 00", 127) == "refused 16 2 2"
@@ -741,7 +741,7 @@ def matched_by_hand():
 
 
 def listed_by_hand():
-    """Document 01's own examples of list, READINGS' two, and listings counted on paper."""
+    """Document 01's own examples of list, DECISIONS' two, and listings counted on paper."""
 
     def entries(vocabulary, pattern, length, behind=0):
         """The answer and the bytes of list into so many, behind which so many stay as they were."""
@@ -766,7 +766,7 @@ def listed_by_hand():
     assert entries(C, "00 ff", 4, 4) == ("accepted 0 0", "")
     # "pair(n0, n0). Listed: 18, input 1, place 4", with no byte lent too.
     assert refusal(C, "00 02 03 80 80", 100) == refusal(C, "00 02 03 80 80", 0) == "refused 18 1 4"
-    # READINGS: names of lower places stay; the earliest byte that is a second occurrence.
+    # DECISIONS: names of lower places stay; the earliest byte that is a second occurrence.
     assert entries(C, "00 02 03 80 00 00", 18) == ("accepted 4 18", "000000" + "000100" + "000203800100" + "000203800200")
     assert refusal(C, "00 02 03 02 03 80 81 02 03 81 80", 100) == "refused 18 1 9"
     # Places 0 and 7, and 1 and 4: of left(a, right(b, a)) first a, then place 0 with left for a (01 is its map), then
@@ -784,7 +784,7 @@ def listed_by_hand():
 
 
 def printed_by_hand():
-    """The text that document 01 gives whole, and READINGS' inputs."""
+    """The text that document 01 gives whole, and DECISIONS' inputs."""
     assert printed(h("00 10") + A + h("00 00 03 01 00 03 00")) == "leftovers 3\n1 000500\n2 0000010200\n3 00000301000400\n"
     assert printed(h("00 0a") + C + h("00 ff")) == "leftovers 0\n"
     # "No byte or one byte: the vocabulary is empty"; "Length 11 before C's ten bytes"
