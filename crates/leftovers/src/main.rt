@@ -15,7 +15,8 @@ fn main() {
     };
     let mut text = [0u8; 524288];
     let k = report::print(&bytes[0..n], &mut text);
-    if !io::write_all(STDOUT_FILENO, &text[0..k]) {
+    // Some failures, as of a file that lies on another machine, come only when the output is closed.
+    if !io::write_all(STDOUT_FILENO, &text[0..k]) || libc::close(STDOUT_FILENO) < 0 {
         io::write_all(
             STDERR_FILENO,
             b"leftovers: the output could not be written whole\n",

@@ -56,6 +56,9 @@ part-write-all-end c = search needs
 write-all-requires-2 : tie.Need-write-all-requires-2
 write-all-requires-2 c κs = search needs
 
+close-requires : tie.Need-close-requires
+close-requires c κs = search needs
+
 slice-aggregate-write-all-2 : tie.Need-slice-aggregate-write-all-2
 slice-aggregate-write-all-2 c = search needs
 
@@ -88,6 +91,7 @@ main-spec =
     part-write-all-start
     part-write-all-end
     write-all-requires-2
+    close-requires
     slice-aggregate-write-all-2
     write-all-requires-3
     returns-2
