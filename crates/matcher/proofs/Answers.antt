@@ -1,10 +1,10 @@
 -- Answers: different answers of match have different numbers or values.
-use mathlib.Core.Path.{_≡_, refl, sym, ap, _∙_}
-use mathlib.Core.List.{List, [], _∷_}
+use mathlib.Core.Path.{_≡_, refl, sym, ap}
+use mathlib.Core.List.{List}
 use Prim.Native.Nat.{ℕ, _≤_}
 use native.Mathlib.Omega.{arith}
 use Rattle.wire.specs.Reply.{Reply, accepted, refused}
-use Rattle.wire.specs.Matching.{yes, no}
+use Rattle.wire.specs.Matching.{no}
 use Rattle.signature.specs.Answers.{vocabularyRefused}
 use Rattle.signature.specs.declared.VocabularyRefusal.{VocabularyRefusal}
 use Rattle.signature.specs.declared.VocabularyRefusal.the-variants as Voc
@@ -15,7 +15,7 @@ use Rattle.reader.specs.declared.InputsRefusal.{InputsRefusal}
 use Rattle.reader.specs.declared.InputsRefusal.the-variants as I
 use Rattle.reader.specs.declared.InputsAnswer.the-variants.{Refused}
 use Rattle.reader.proofs.Answers.{inputs-answers-differ}
-use Rattle.matcher.specs.Answers.{matchNumbers, MatchAnswersDiffer}
+use Rattle.matcher.specs.Answers.{MatchAnswersDiffer}
 use Rattle.matcher.specs.declared.MatchAnswer.the-variants.{Yes, No, Inputs, TableLength}
 
 -- The line of a refusal: 0 where there is none.

@@ -3,17 +3,16 @@ use mathlib.Core.Path.{_≡_, refl, sym, ap, ap₂, _∙_, subst, subst₂}
 use mathlib.Core.Bool.{Bool, true, false, not, cond, false≢true}
 use mathlib.Core.List.{List, [], _∷_, _++_, append-nil}
 use mathlib.Core.Option.{Option, some, none}
-use Prim.Native.Nat.{ℕ, zero, suc, _+_, _*_, _/_, _%_, _<_, _≤_, max}
+use Prim.Native.Nat.{ℕ, zero, suc, _+_, _*_, _/_, _%_, _<_, _≤_}
 use native.Mathlib.Omega.{arith}
 use lib.Dec.{eqb}
-use lib.ListN.{length, getD, drop, replicate, getD-replicate, length-replicate}
+use lib.ListN.{length, getD, drop, replicate, getD-replicate}
 use lib.Seq.{ext-getD}
 use borrow.Author.Tests.{eqb-true}
 use Rattle.terms.specs.Lists.{All, orElse}
-use Rattle.terms.specs.Term.{Term, any, var, app, Terms, nil, cons, Ground, gapp, Grounds, gnil, gcons, Sorted, SortedAll, SortedGs, names}
+use Rattle.terms.specs.Term.{Term, any, var, app, Terms, nil, cons, Ground, Grounds, gnil, gcons, Sorted, SortedAll, SortedGs, names}
 use Rattle.terms.specs.Filling.{Filling}
 use Rattle.terms.specs.Matcher.{matchAll, matcher, noFilling}
-use Rattle.wire.specs.Map.{isOpen}
 use Rattle.wire.specs.Vocabulary.{Vocabulary, signature, InOrder}
 use Rattle.wire.specs.TermBytes.{nameCount, wholeByte, encodeAt, encodeAll, encodeRoot, asTerm, levels}
 use Rattle.wire.specs.Matching.{Inputs, HoldsInputs, Span, orNoSpan, span, spanFrom, spanIn}

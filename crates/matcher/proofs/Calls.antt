@@ -1,9 +1,9 @@
 -- Calls: the answers of match and part are those of the definitions, which keep the calls' promises.
 use mathlib.Core.Path.{_≡_, refl, sym, ap, ap₂, _∙_, subst, subst₂}
 use mathlib.Core.Bool.{Bool, true, false, cond, _&&_, true≢false, false≢true}
-use mathlib.Core.List.{List, [], _∷_, _++_, append-nil}
+use mathlib.Core.List.{List, [], append-nil}
 use mathlib.Core.Option.{Option, some, none}
-use Prim.Native.Nat.{ℕ, zero, suc, _+_, _-_, _*_, _<_, _≤_}
+use Prim.Native.Nat.{ℕ, _+_, _-_, _*_, _<_, _≤_}
 use native.Mathlib.Omega.{arith}
 use lib.Dec.{eqb, ltb}
 use lib.ListN.{length, getD, take, drop, length-drop, length-append}
@@ -14,15 +14,14 @@ use Rattle.terms.specs.Filling.{Filling}
 use Rattle.terms.specs.Matcher.{matcher}
 use Rattle.wire.specs.Reply.{Reply, accepted, refused, IsBytes}
 use Rattle.wire.specs.TermBytes.{nameCount, encodeAt, asTerm}
-use Rattle.wire.specs.Vocabulary.{Vocabulary}
-use Rattle.wire.specs.Matching.{Inputs, tableLength, Span, orNoSpan, noSpan, span, spanFrom, spanIn, yes, no, cutOut, HoldsInputs, MatchPromise, PartPromise}
+use Rattle.wire.specs.Matching.{Inputs, tableLength, Span, orNoSpan, noSpan, span, spanFrom, spanIn, yes, no, cutOut, MatchPromise, PartPromise}
 use Rattle.wire.specs.MatchComputed.{Judged, clear, refusal, judged, clearReply, spanTable, verdict, matchedWith, matched, MatchShown, spanFound, spanWith, partSpan}
 use Rattle.wire.proofs.Inputs.{clear-is-held}
 use Rattle.wire.proofs.Matching.{match-keeps, part-keeps}
 use Rattle.wire.proofs.GroundBytes.{size-least, root-ground}
-use Rattle.wire.proofs.Spans.{coverFrom, Covers, SpanHolds, span-covers, span-absent}
+use Rattle.wire.proofs.Spans.{coverFrom, SpanHolds, span-covers, span-absent}
 use Rattle.wire.proofs.SpanTable.{length-table, table-span}
-use Rattle.reader.specs.Answers.{inputsRefused, inputsNumbers}
+use Rattle.reader.specs.Answers.{inputsRefused}
 use Rattle.reader.specs.declared.InputsRefusal.{InputsRefusal}
 use Rattle.reader.specs.declared.InputsAnswer.the-variants.{Clear, Refused}
 use Rattle.reader.proofs.Answers.{inputs-answers-differ}

@@ -7,7 +7,7 @@ use lib.Count
 use lib.ListN.{length, getD, length-append}
 use Rattle.terms.specs.Term.{Grounds, gnil, gcons, SortedGs}
 use Rattle.wire.specs.Map.{flags, ones}
-use Rattle.wire.specs.Vocabulary.{Vocabulary, signature, mapOf, InOrder}
+use Rattle.wire.specs.Vocabulary.{Vocabulary, signature, mapOf}
 use Rattle.wire.specs.TermBytes.{encodeAt, encodeAll, asTerm, asTerms}
 use Rattle.wire.proofs.Map.{ones-count}
 use Rattle.wire.proofs.Words.{word-in-order}

@@ -1,5 +1,5 @@
 -- Itself: a pattern that is the situation itself fits it, and has no name.
-use mathlib.Core.Path.{_≡_, refl, sym, ap, ap₂, _∙_, subst}
+use mathlib.Core.Path.{_≡_, refl, sym, ap, ap₂, _∙_}
 use mathlib.Core.Bool.{true, false}
 use mathlib.Core.List.{List, [], _∷_}
 use mathlib.Core.Option.{Option, some, none}
@@ -20,7 +20,7 @@ use Rattle.wire.specs.Matching.{Inputs, HoldsInputs, size, Span, spanFrom, span
 use Rattle.wire.specs.MatchComputed.{spansOf, spanTable}
 use Rattle.wire.proofs.TermsInverse.{deepest-length}
 use Rattle.wire.proofs.WholeTerms.{writes-whole}
-use Rattle.matcher.specs.Walking.{found, Walked, WalkedOver}
+use Rattle.matcher.specs.Walking.{found, Walked}
 use Rattle.matcher.proofs.Joined.{onward, match-first}
 
 abbrev termIn : Reading Kinded → Term

@@ -7,10 +7,10 @@
 --   turnsOf xs n         a bound on the turns that the first n frames of xs take
 --
 use mathlib.Core.Path.{_≡_, refl, sym, ap, ap₂, _∙_, subst}
-use mathlib.Core.Bool.{Bool, true, false, not, cond}
+use mathlib.Core.Bool.{Bool, true, false, not}
 use mathlib.Core.List.{List, [], _∷_, _++_}
 use mathlib.Core.Logic.{_≢_}
-use Prim.Native.Nat.{ℕ, zero, suc, _+_, _*_, _/_, _%_, _^_, _<_, _≤_, max}
+use Prim.Native.Nat.{ℕ, zero, suc, _+_, _*_, _/_, _%_, _^_, _<_, _≤_}
 use native.Mathlib.Nat.{pow-suc}
 use native.Mathlib.Omega.{arith}
 use lib.Dec.{eqb}
@@ -18,7 +18,7 @@ use lib.ListN.{length, getD, set}
 use lib.Seq.{getD-set-same, getD-set-other}
 use borrow.Author.Tests.{eq-eqb, ne-eqb}
 use Rattle.terms.specs.Signature.{Signature}
-use Rattle.terms.specs.Term.{Term, any, var, app, Terms, nil, cons, SortedAll}
+use Rattle.terms.specs.Term.{Term, Terms, nil, cons, SortedAll}
 use Rattle.wire.specs.Map.{flagsIn, flags, bit, number, ones, isOpen, writtenFlags}
 use Rattle.wire.specs.TermBytes.{levels, levelsAll}
 use Rattle.reader.specs.Frames.{writtenIn, placesIn, Framed}

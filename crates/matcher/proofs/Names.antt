@@ -1,10 +1,10 @@
 -- Names: the turn at a name: the part is noted for it, or is the part that it covers, or there is no filling.
 use mathlib.Core.Path.{_≡_, refl, sym, ap, ap₂, _∙_, subst, subst₂}
 use mathlib.Core.Bool.{Bool, true, false, cond, true≢false, false≢true}
-use mathlib.Core.List.{List, [], _∷_, _++_}
+use mathlib.Core.List.{List, _∷_, _++_}
 use mathlib.Core.Logic.{_≢_, _⊎_, inl, inr}
 use mathlib.Core.Option.{Option, some, none}
-use Prim.Native.Nat.{ℕ, suc, _+_, _*_, _<_, _≤_}
+use Prim.Native.Nat.{ℕ, _+_, _*_, _<_, _≤_}
 use native.Mathlib.Decide.{ℕ-discrete}
 use native.Mathlib.Omega.{arith}
 use lib.Dec.{eqb}
@@ -16,12 +16,12 @@ use Rattle.terms.specs.Matcher.{same as sameGround, withName, matchName, matchA
 use Rattle.terms.specs.Filling.{Filling}
 use Rattle.terms.proofs.Bools.{eqb-refl, false-of-not}
 use Rattle.terms.proofs.Term.{same-true, same-refl}
-use Rattle.wire.specs.Vocabulary.{Vocabulary, signature, InOrder}
+use Rattle.wire.specs.Vocabulary.{Vocabulary, InOrder}
 use Rattle.wire.specs.TermBytes.{nameCount, nameByte, encodeAt, encodeAll, asTerm, asTerms}
-use Rattle.wire.specs.Matching.{size, Span, spanAll, spanFrom, spanIn, cutOut}
+use Rattle.wire.specs.Matching.{size, Span, spanAll, spanFrom, spanIn}
 use Rattle.terms.specs.Lists.{orElse}
 use Rattle.wire.proofs.GroundBytes.{size-least, ground-same}
-use Rattle.wire.proofs.Spans.{coverElse, Covers, covers-cut}
+use Rattle.wire.proofs.Spans.{coverElse, covers-cut}
 use Rattle.matcher.specs.Walking.{Covered}
 use Rattle.matcher.proofs.Marks.{Mark}
 use Rattle.matcher.proofs.Joined.{onward, match-first}

@@ -4,29 +4,25 @@
 --   Told W s x o       a span is noted exactly where the name is bound, and it holds what the name is bound to
 --   Side               the terms ts of the pattern and gs of the situation are still due, and f is found so far
 --
-use mathlib.Core.Path.{_≡_, refl, sym, ap, ap₂, _∙_, subst}
-use mathlib.Core.Bool.{Bool, true, false, not, cond, true≢false, false≢true}
-use mathlib.Core.List.{List, [], _∷_, _++_, append-assoc}
+use mathlib.Core.Path.{_≡_, refl, sym, ap, _∙_}
+use mathlib.Core.Bool.{true, false, not, cond, true≢false}
+use mathlib.Core.List.{List, [], _∷_, _++_}
 use mathlib.Core.Option.{Option, some, none}
-use Prim.Native.Nat.{ℕ, suc, _+_, _-_, _*_, _<_, _≤_, max}
+use Prim.Native.Nat.{ℕ, _+_, _-_, _*_, _<_, _≤_}
 use native.Mathlib.Omega.{arith}
 use lib.Dec.{eqb}
-use lib.ListN.{length, getD, take, drop, set, length-set, length-drop, length-append}
-use lib.Seq.{drop-drop, drop-at, take-at, getD-drop, getD-set-same, getD-set-other}
+use lib.ListN.{length, getD, drop, length-drop, length-append}
+use lib.Seq.{drop-drop, drop-at}
 use Rattle.terms.specs.Lists.{All, orElse}
-use Rattle.terms.specs.Signature.{arguments}
-use Rattle.terms.specs.Term.{Term, any, var, app, Terms, nil, cons, Ground, gapp, Grounds, gnil, gcons, SortedAll, SortedG, SortedGs, namesAll}
-use Rattle.terms.specs.Matcher.{same, withOpen, withName, matchName, matchFrom, matchAll, matcher}
+use Rattle.terms.specs.Term.{Term, any, var, app, Terms, nil, cons, Ground, Grounds, gnil, gcons, SortedAll, SortedG, SortedGs, namesAll}
+use Rattle.terms.specs.Matcher.{withOpen, matchAll, matcher}
 use Rattle.terms.specs.Filling.{Filling}
-use Rattle.wire.specs.Map.{isOpen}
-use Rattle.wire.specs.Vocabulary.{Vocabulary, signature, mapOf, InOrder}
+use Rattle.wire.specs.Vocabulary.{Vocabulary, signature, InOrder}
 use Rattle.wire.specs.TermBytes.{nameCount, encodeAt, encodeAll, asTerm, asTerms}
 use Rattle.wire.specs.Matching.{size, Span, spanFrom, spanAll, spanIn}
-use Rattle.wire.proofs.GroundBytes.{size-least, node-bytes}
 use Rattle.wire.proofs.Spans.{Covers}
 use Rattle.matcher.specs.Walking.{Standing}
 use Rattle.matcher.proofs.Marks.{Mark, Marked}
-use Rattle.matcher.proofs.Joined.{match-first}
 use Rattle.matcher.proofs.Bound.{bound}
 
 abbrev pub noted : ℕ → Span → Option Span

@@ -1,9 +1,9 @@
 -- Words: the turn at a word: it stands in the situation too, and its places are due, or there is no filling.
 use mathlib.Core.Path.{_≡_, refl, sym, ap, ap₂, _∙_, subst}
-use mathlib.Core.Bool.{Bool, true, false, true≢false, false≢true}
-use mathlib.Core.List.{List, [], _∷_, _++_, append-assoc}
-use mathlib.Core.Option.{Option, some, none}
-use Prim.Native.Nat.{ℕ, suc, _+_, _*_, _<_, _≤_}
+use mathlib.Core.Bool.{true, false}
+use mathlib.Core.List.{List, _∷_, _++_}
+use mathlib.Core.Option.{Option, none}
+use Prim.Native.Nat.{ℕ, suc, _+_, _<_, _≤_}
 use native.Mathlib.Omega.{arith}
 use lib.Dec.{eqb}
 use lib.ListN.{length, getD, drop, length-drop}
@@ -11,19 +11,17 @@ use lib.Seq.{drop-drop, getD-drop}
 use borrow.Author.Tests.{ne-eqb}
 use Rattle.terms.specs.Lists.{All, orElse}
 use Rattle.terms.specs.Signature.{arguments}
-use Rattle.terms.specs.Term.{Term, any, var, app, Terms, nil, cons, Ground, gapp, Grounds, gnil, gcons, namesAll}
+use Rattle.terms.specs.Term.{Term, app, Terms, cons, Ground, gapp, Grounds, gcons}
 use Rattle.terms.specs.Filling.{Filling}
-use Rattle.terms.specs.Matcher.{matchFrom, matchAll, matcher}
+use Rattle.terms.specs.Matcher.{matchAll, matcher}
 use Rattle.terms.proofs.Bools.{eqb-refl}
 use Rattle.terms.proofs.Matcher.{match-app}
-use Rattle.wire.specs.Map.{flags}
 use Rattle.wire.specs.Vocabulary.{Vocabulary, signature, mapOf, InOrder}
-use Rattle.wire.specs.TermBytes.{nameCount, writtenMap, encodeAt, encodeAll, asTerm, asTerms}
+use Rattle.wire.specs.TermBytes.{nameCount, writtenMap, encodeAll, asTerm, asTerms}
 use Rattle.wire.specs.Matching.{size, spanAll}
-use Rattle.wire.proofs.Words.{length-symbols}
 use Rattle.wire.proofs.GroundBytes.{node-bytes, known-word, count-arguments, joined, joined-sorted, joined-bytes}
 use Rattle.reader.specs.Frames.{Framed}
-use Rattle.matcher.proofs.Marks.{Mark, marks, Marked, chained, marked-chained, marked-word}
+use Rattle.matcher.proofs.Marks.{Mark, marks, chained, marked-chained, marked-word}
 use Rattle.matcher.proofs.Joined.{onward, match-first, match-chained, span-chained, chained-bytes, chained-sorted, chained-names}
 use Rattle.matcher.proofs.Side.{spanAt, Side, due}
 

@@ -13,7 +13,7 @@
 use mathlib.Core.Path.{_≡_, refl, sym, _∙_, ap, subst}
 use mathlib.Core.Bool.{Bool, true, false, not, _&&_, _||_, true≢false, false≢true}
 use mathlib.Core.List.{List, [], _∷_}
-use mathlib.Core.Logic.{_↔_, Iff·symm, Iff·trans, _⊎_, inl, inr}
+use mathlib.Core.Logic.{_↔_, _⊎_, inl, inr}
 use mathlib.Core.Option.{some, none}
 use Prim.Native.Nat.{ℕ, zero, suc, _≤_, _<_, zero-le, suc-le-suc}
 use native.Mathlib.Nat.{zero-lt-suc}
@@ -26,12 +26,11 @@ use Rattle.terms.specs.Lists.{All, occurs, range}
 use Rattle.terms.specs.Signature.{Symbol, Signature, noSymbol, symbol, result, arguments, WellFormed}
 use Rattle.terms.specs.Term.{Ground, gapp, Grounds, gnil, gcons, SortedG, SortedGs}
 use Rattle.terms.specs.Inhabited.{Inhabited, Empty, LeastEmpty}
-use Rattle.terms.specs.Emptiness.{covered, joined, grow, reached, first, firstEmpty, FirstEmptyIsExact}
+use Rattle.terms.specs.Emptiness.{covered, joined, grow, reached, first, FirstEmptyIsExact}
 use Rattle.terms.proofs.Signature.{symbol-sorts}
 use Rattle.terms.proofs.Bools.{and-parts, and-both, false-of-not}
 use Rattle.terms.proofs.All.{all-implies, all-at, at-all}
 use Rattle.terms.proofs.Occurs.{missing, occurs-head, occurs-tail, occurs-cases, occurs-range}
-use Rattle.terms.proofs.Keep.{keep-same}
 use Rattle.terms.proofs.Count.{count, count-raise, count-full, length-range}
 use Rattle.terms.proofs.First.{firstOf, first-least, least-first, first-nowhere, nowhere-first}
 

@@ -10,13 +10,13 @@ use Prim.Native.Nat.{ℕ, zero, suc, _+_, _-_, _/_, _%_, _^_, _<_, _≤_}
 use native.Mathlib.Nat.{pow-suc, pow-succ', div-div-eq-div-mul}
 use native.Mathlib.Omega.{arith}
 use lib.Dec.{eqb}
-use lib.ListN.{length, take, drop, set, length-append, take-append-drop}
-use lib.Seq.{length-take-le, take-at, set-at}
+use lib.ListN.{length, take, drop, set, length-append}
+use lib.Seq.{take-at, set-at}
 use Rattle.terms.specs.Term.{Term, any, var, app, Terms, nil, cons, Sorted, SortedAll}
-use Rattle.wire.specs.Map.{mapBits, mapBytes, writeMap, flagsIn, flags, number, ones, isOpen, writtenFlags}
+use Rattle.wire.specs.Map.{mapBits, mapBytes, writeMap, flagsIn, flags, ones, isOpen, writtenFlags}
 use Rattle.wire.specs.Vocabulary.{Vocabulary, InOrder, signature, word, mapOf}
 use Rattle.wire.specs.TermBytes.{writtenMap, encodeAt, encodeAll}
-use Rattle.wire.proofs.Map.{length-flagsIn, number-flags, flags-written}
+use Rattle.wire.proofs.Map.{flags-written}
 use Rattle.wire.proofs.Words.{length-symbols, arguments-word, word-in-order}
 use Rattle.wire.proofs.EntryMaps.{closed, closed-bytes}
 

@@ -17,7 +17,7 @@ use Rattle.terms.proofs.Theorems.{partition, strike-out, listing-represents}
 use Rattle.wire.specs.Reply.{Reply, accepted, refused, IsBytes, Kinded, kinded}
 use Rattle.wire.specs.Parser.{Reading, accept, refuse, readVocabulary}
 use Rattle.wire.specs.Vocabulary.{Vocabulary, signature, InOrder, HoldsVocabulary}
-use Rattle.wire.specs.TermBytes.{encodeTerm, GoodTerm, deepest, leastBytes, mostBytes, mostLevels, HoldsTerm}
+use Rattle.wire.specs.TermBytes.{encodeTerm, GoodTerm, deepest, leastBytes, HoldsTerm}
 use Rattle.wire.specs.CheckComputed.{checkedTerm}
 use Rattle.wire.specs.PatternLines.{sightings}
 use Rattle.wire.specs.ListComputed.{repeatedIn, linearOf, linearIn, checkedLinear, Listed, listedInto, listedPattern, listedVocabulary, listed}

@@ -16,7 +16,7 @@ use Rattle.wire.specs.TermBytes.{nameCount}
 use Rattle.wire.specs.Matching.{Inputs, tableLength, Span, orNoSpan, noSpan, span, spanIn, yes}
 use Rattle.wire.specs.MatchComputed.{Judged, clear, refusal, judged, Matched, verdict, matchedWith, matched, spanFound, spanWith}
 use Rattle.wire.specs.Laws.{PartIsTable}
-use Rattle.wire.proofs.Cond.{cond-true, choice}
+use Rattle.wire.proofs.Cond.{cond-true}
 use Rattle.wire.proofs.Matching.{not-accepted, no-not-yes}
 use Rattle.wire.proofs.Spans.{span-absent}
 use Rattle.wire.proofs.SpanTable.{table-span}

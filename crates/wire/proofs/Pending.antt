@@ -7,7 +7,7 @@
 --
 use mathlib.Core.Path.{_≡_, refl, sym, ap, ap₂, _∙_}
 use mathlib.Core.List.{List, [], _∷_, _++_, append-nil}
-use Prim.Native.Nat.{ℕ, zero, suc, _+_, _≤_, _<_}
+use Prim.Native.Nat.{ℕ, suc, _+_, _≤_, _<_}
 use native.Mathlib.Omega.{arith}
 use lib.ListN.{length, getD, drop, length-append, length-drop}
 use lib.Seq.{drop-drop, drop-at, getD-drop}
@@ -15,7 +15,7 @@ use Rattle.terms.specs.Signature.{arguments}
 use Rattle.terms.specs.Term.{Ground, gapp, Grounds, gnil, gcons, SortedG, SortedGs}
 use Rattle.wire.specs.Map.{mapBytes, writeMap, flags, ones}
 use Rattle.wire.specs.Vocabulary.{Vocabulary, signature, mapOf, InOrder}
-use Rattle.wire.specs.TermBytes.{encodeAt, encodeAll, wordCount, wordCountAll, asTerm, asTerms}
+use Rattle.wire.specs.TermBytes.{encodeAt, encodeAll, asTerm, asTerms}
 use Rattle.wire.specs.Matching.{size}
 use Rattle.wire.proofs.GroundBytes.{joined, joined-sorted, known-word, count-arguments, first-node}
 

@@ -6,7 +6,7 @@ use mathlib.Core.Logic.{_⊎_, inl, inr}
 use Prim.Native.Nat.{ℕ, zero, suc, _+_, _*_, _<_, _≤_}
 use native.Mathlib.Omega.{arith}
 use lib.Dec.{ltb}
-use lib.ListN.{length, take, drop, replicate, length-map, length-replicate, take-append-drop, length-append, length-take, length-drop}
+use lib.ListN.{length, take, drop, replicate, length-replicate, take-append-drop, length-append, length-take, length-drop}
 use lib.Seq.{take-all, take-append-le, drop-append-le}
 use borrow.Author.Tests.{ltb-true, ltb-false, lt-ltb}
 use Rattle.terms.specs.Term.{Term}

@@ -15,9 +15,9 @@ use Rattle.wire.specs.Reply.{IsBytes}
 use Rattle.wire.specs.Map.{readMap, flags, ones}
 use Rattle.wire.specs.Vocabulary.{Word, WordInOrder, encodeWord, encodeWords}
 use Rattle.wire.specs.Parser.{Got, got, stop, andThen, readKinds, readPlaces, readWord, readWords}
-use Rattle.wire.specs.VocabularyLines.{byteAt, placesOf, recordAt}
+use Rattle.wire.specs.VocabularyLines.{byteAt, placesOf}
 use Rattle.wire.proofs.Bytes.{Begins, drop-begins, drop-ends, byte-small}
-use Rattle.wire.proofs.Records.{behind, behind-is, places-at, behind-beyond, after, after-from, record-after, KindIn, KindFrom, kind-from}
+use Rattle.wire.proofs.Records.{behind, behind-is, places-at, behind-beyond, after, after-from, KindIn, KindFrom, kind-from}
 use Rattle.wire.proofs.Parts.{Stopped, stopped-within, Passed, passed-within}
 
 -- The offsets from i up to e.
