@@ -14,7 +14,7 @@ use Rattle.wire.specs.PatternLines.{sightings}
 use Rattle.wire.specs.Leftovers.{entriesOf, listingBytes, ListPromise}
 use Rattle.wire.proofs.Bytes.{bytes-of}
 use Rattle.wire.proofs.Inputs.{checked-in}
-use Rattle.wire.proofs.Listed.{list-keeps}
+use Rattle.wire.proofs.Leftovers.{list-keeps}
 use Rattle.wire.proofs.VocabulariesInverse.{vocabularies-inverse}
 use Rattle.signature.specs.Answers.{vocabularyRefused}
 use Rattle.signature.specs.Tables.{acceptedIn, vocabularyIn, wordsBefore, resultsOf, laid}
@@ -24,7 +24,7 @@ use Rattle.signature.proofs.Accepted.{accepted-words}
 use Rattle.reader.specs.Answers.{termRefused}
 use Rattle.reader.specs.declared.TermRefusal.{TermRefusal}
 use Rattle.reader.specs.declared.TermRefusal.the-variants as T
-use Rattle.complement.specs.Listing.{sightingsIn, repeatOf}
+use Rattle.complement.specs.Entering.{sightingsIn, repeatOf}
 use Rattle.complement.specs.Calls.{Patterned, ListsPattern}
 use Rattle.complement.specs.declared.Repeat.{Repeat}
 use Rattle.complement.specs.declared.Repeat.the-variants.{At, Nothing}

@@ -14,7 +14,7 @@ use Rattle.terms.proofs.Keep.{keep-keep, keep-same}
 use Rattle.wire.proofs.Cond.{cond-true, cond-false}
 use Rattle.wire.proofs.EntryBytes.{othersBytes}
 use Rattle.wire.specs.Map.{writeMap}
-use Rattle.complement.specs.Listing.{isOther, othersIn, hasKind, lowest, Chained, Written}
+use Rattle.complement.specs.Entering.{isOther, othersIn, hasKind, lowest, Chained, Written}
 use Rattle.complement.proofs.Siblings.{Listed, listed-none, listed-room, listed-taken, listed-all}
 use Rattle.complement.proofs.Writing.{part, back}
 

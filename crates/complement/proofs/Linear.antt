@@ -19,7 +19,7 @@ use Rattle.wire.specs.Leftovers.{entriesBytes, entriesOf}
 use Rattle.wire.proofs.Cond.{cond-true, cond-false}
 use Rattle.wire.proofs.EntryBytes.{entries-bytes}
 use Rattle.wire.proofs.EntrySizes.{countAt, sizeAt, summedIn, pattern-count, pattern-length}
-use Rattle.complement.specs.Listing.{KindsFew, Measures, TermAt, TermListed}
+use Rattle.complement.specs.Entering.{KindsFew, Measures, TermAt, TermListed}
 use Rattle.complement.specs.Calls.{Patterned, bytesOf}
 use Rattle.complement.proofs.Tallying.{kinds-few}
 

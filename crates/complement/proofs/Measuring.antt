@@ -14,7 +14,7 @@ use Rattle.wire.specs.Parser.{isWord}
 use Rattle.wire.proofs.Cond.{cond-true, cond-false}
 use Rattle.wire.proofs.EntrySizes.{countAt, sizeAt, summedIn}
 use Rattle.signature.specs.Tables.{Tabled}
-use Rattle.complement.specs.Listing.{othersIn, Measures}
+use Rattle.complement.specs.Entering.{othersIn, Measures}
 use Rattle.complement.proofs.Others.{others-tabled}
 use Rattle.complement.proofs.Tallying.{others-few}
 

@@ -13,7 +13,7 @@ use Rattle.terms.proofs.All.{all-range}
 use Rattle.wire.specs.Vocabulary.{Vocabulary, signature}
 use Rattle.wire.proofs.Words.{length-symbols, result-word}
 use Rattle.signature.specs.Tables.{Tabled}
-use Rattle.complement.specs.Listing.{isOther, othersIn}
+use Rattle.complement.specs.Entering.{isOther, othersIn}
 
 range-append : (from n m : ℕ) → range from (n + m) ≡ range from n ++ range (from + n) m
 range-append from zero m = ap₂ range (let e : from ≡ from + 0 = omega arith in e) (let e : 0 + m ≡ m = omega arith in e)

@@ -17,7 +17,7 @@ use Rattle.wire.specs.TermBytes.{encodeAt, encodeAll, levels, levelsAll}
 use Rattle.wire.proofs.EntryBytes.{spots, spotsBytes, spots-bytes-append}
 use Rattle.wire.proofs.EntryMaps.{bitSpots}
 use Rattle.wire.proofs.EntryWalk.{Stands, flags-at, copy-patched}
-use Rattle.complement.specs.Listing.{Written, TermAt, TermListed, PlacesAt, PlacesListed}
+use Rattle.complement.specs.Entering.{Written, TermAt, TermListed, PlacesAt, PlacesListed}
 use Rattle.complement.proofs.Writing.{part, back, part-room, written-none, written-more, written-length}
 
 -- ---- the terms of the bits

@@ -24,7 +24,7 @@ use Rattle.wire.specs.PatternLines.{sightingsFrom, sightingsAll, sightings}
 use Rattle.wire.specs.ListComputed.{repeatedIn}
 use Rattle.wire.proofs.Cond.{cond-true, cond-false}
 use Rattle.wire.proofs.Words.{length-symbols}
-use Rattle.complement.specs.Listing.{sightingsIn}
+use Rattle.complement.specs.Entering.{sightingsIn}
 use Rattle.complement.proofs.Measuring.{none-left}
 
 -- ---- which bytes are names

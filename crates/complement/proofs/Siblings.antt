@@ -6,7 +6,7 @@ use native.Mathlib.Omega.{arith}
 use lib.ListN.{length, drop, length-append}
 use Rattle.wire.specs.Map.{writeMap}
 use Rattle.wire.proofs.EntryBytes.{othersBytes}
-use Rattle.complement.specs.Listing.{Written}
+use Rattle.complement.specs.Entering.{Written}
 use Rattle.complement.proofs.Writing.{part, back, part-room, written-more, written-none, written-length}
 
 others-bytes-append : (front l m : List ℕ) → othersBytes front (l ++ m) ≡ othersBytes front l ++ othersBytes front m

@@ -13,7 +13,7 @@ use Rattle.terms.proofs.Count.{bit, count, count-append, count-le, count-range,
 use Rattle.wire.specs.Vocabulary.{Vocabulary, InOrder}
 use Rattle.wire.proofs.Words.{word-in-order}
 use Rattle.signature.specs.Tables.{Tabled}
-use Rattle.complement.specs.Listing.{KindsFew, isOther, othersIn, hasKind, Tallied}
+use Rattle.complement.specs.Entering.{KindsFew, isOther, othersIn, hasKind, Tallied}
 use Rattle.complement.proofs.Others.{range-next}
 
 length-keep : (t : ℕ → Bool) (l : List ℕ) → length (keep t l) ≡ count t l

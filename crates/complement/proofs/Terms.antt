@@ -16,7 +16,7 @@ use Rattle.wire.proofs.Words.{length-symbols}
 use Rattle.wire.proofs.EntryBytes.{othersBytes, spots, spotsBytes}
 use Rattle.wire.proofs.EntryMaps.{closed, closed-bytes, bitSpots, spots-by-bits}
 use Rattle.wire.proofs.EntryWalk.{Stands, closed-stands, word-bytes}
-use Rattle.complement.specs.Listing.{othersIn, Written, TermAt, TermListed, PlacesAt, PlacesListed}
+use Rattle.complement.specs.Entering.{othersIn, Written, TermAt, TermListed, PlacesAt, PlacesListed}
 use Rattle.complement.proofs.Others.{others-tabled}
 use Rattle.complement.proofs.Places.{places-none}
 use Rattle.complement.proofs.Writing.{part, back, back-same, part-room, written-none, written-more, written-length}

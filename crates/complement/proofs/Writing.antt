@@ -5,7 +5,7 @@ use Prim.Native.Nat.{ℕ, _+_, _-_, _≤_}
 use native.Mathlib.Omega.{arith}
 use lib.ListN.{length, take, drop, length-append, length-drop, take-append-drop}
 use lib.Seq.{take-all, take-at, drop-at, drop-drop, drop-length}
-use Rattle.complement.specs.Listing.{Written}
+use Rattle.complement.specs.Entering.{Written}
 
 pub written-none : (before : List ℕ) → Written [] before 0 before
 written-none before = record { count = refl; same = refl }

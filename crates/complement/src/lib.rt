@@ -10,7 +10,7 @@ ghost use Rattle.wire.specs.ListComputed.{repeatedIn, listed, ListShown};
 ghost use Rattle.wire.proofs.EntryBytes.{othersBytes};
 ghost use Rattle.complement.specs.Answers.{listNumbers};
 ghost use Rattle.complement.specs.Calls.{Patterned, HasRoom, WritesEntries, ListsLinear, ListsPattern};
-ghost use Rattle.complement.specs.Listing.{KindsFew, Byte, Tallied, Measures, sightingsIn, repeatOf, othersIn, Chained, Written, TermAt, ListsTerm, PlacesAt, ListsPlaces};
+ghost use Rattle.complement.specs.Entering.{KindsFew, Byte, Tallied, Measures, sightingsIn, repeatOf, othersIn, Chained, Written, TermAt, ListsTerm, PlacesAt, ListsPlaces};
 use reader::TermAnswer;
 use reader::TermRefusal;
 use signature::VocabularyRefusal;

@@ -17,7 +17,7 @@ use Rattle.wire.specs.Vocabulary.{Vocabulary}
 use Rattle.wire.specs.TermBytes.{asTerm, asTerms}
 use Rattle.wire.specs.Reply.{Kinded}
 use Rattle.wire.specs.Matching.{Inputs, HoldsInputs, size, Span, spanFrom, spanAll, orNoSpan}
-use Rattle.wire.specs.MatchComputed.{spansOf, spanTable}
+use Rattle.wire.specs.MatchComputed.{spanNumbers, spanTable}
 use Rattle.wire.proofs.TermsInverse.{deepest-length}
 use Rattle.wire.proofs.WholeTerms.{writes-whole}
 use Rattle.matcher.specs.Walking.{found, Walked}
@@ -66,7 +66,7 @@ mutual
       ap (λ o. orElse o (spanAll W (asTerms gs) gs n (at + size W g))) (no-span W g n at) ∙ no-spans W gs n (at + size W g)
 
 -- The table is that of a pattern without names.
-blank-spans : (W : Vocabulary) (g : Ground) (ns : List ℕ) → spansOf W (asTerm g) g ns ≡ spansOf W any g ns
+blank-spans : (W : Vocabulary) (g : Ground) (ns : List ℕ) → spanNumbers W (asTerm g) g ns ≡ spanNumbers W any g ns
 blank-spans W g [] = refl
 blank-spans W g (n ∷ ns) =
     ap₂ {C = List ℕ} (λ (o : Option Span) (l : List ℕ). orNoSpan o .offset ∷ orNoSpan o .bytes ∷ l) (no-span W g n 1) (blank-spans W g ns)

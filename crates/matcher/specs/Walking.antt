@@ -5,8 +5,8 @@
 --   Covered                     what noting a name's part does to the spans, and its answer
 --   InputsRead p s              inputs that the bytes p and s write
 --   found o                     there is a filling
---   WalkedOver x after r        the same of given inputs
---   Walked p s after r          r tells whether there is a filling, and the spans are those of match's table
+--   WalkedOver x after r        r tells whether there is a filling of the inputs x, and the spans are those of match's table
+--   Walked p s after r          the same of whatever inputs p and s write
 --
 use mathlib.Core.Path.{_≡_}
 use mathlib.Core.Bool.{Bool, true, false}

@@ -11,7 +11,7 @@ use Rattle.wire.specs.MatchComputed.{matched, partSpan}
 use Rattle.wire.proofs.Matching.{yes-or-kept, part-keeps}
 use Rattle.wire.proofs.PartTable.{part-is-table}
 use Rattle.matcher.proofs.Calls.{Lent}
-use Rattle.pheasantry.specs.Replies.{PartReplied}
+use Rattle.pheasantry.specs.Replies.{spanSaid, PartReplied}
 
 -- The table as it is lent to match.
 abbrev pub blank : List ℕ
@@ -23,16 +23,22 @@ blank-span n low =
     (getD-replicate tableLength (2 * n + 1) 0 0 (omega arith))
 
 module _ {v p s : List ℕ} (lent : Lent v p s) (n : ℕ) where
-  replied : (x : Span) → x ≡ partSpan v p s n → PartReplied v p s n (0 ∷ x .offset ∷ x .bytes ∷ [])
-  replied x e = record {
-    form = refl;
-    promise =
-        subst (λ y. PartPromise v p s n y (cutOut s y)) (sym e)
-        (part-keeps v p s n (lent .vocabulary) (lent .pattern) (lent .situation));
-    shown = e;
-  }
+  -- What part ensures of its numbers.
+  abbrev Ensured : List ℕ → Type 0
+  Ensured numbers = PartReplied v p s n numbers × (spanSaid numbers ≡ partSpan v p s n)
 
-  pub part-above : 63 < n → PartReplied v p s n (0 ∷ 0 ∷ 0 ∷ [])
+  replied : (x : Span) → x ≡ partSpan v p s n → Ensured (0 ∷ x .offset ∷ x .bytes ∷ [])
+  replied x e = (
+    record {
+      form = refl;
+      promise =
+          subst (λ y. PartPromise v p s n y (cutOut s y)) (sym e)
+          (part-keeps v p s n (lent .vocabulary) (lent .pattern) (lent .situation));
+    },
+    e,
+  )
+
+  pub part-above : 63 < n → Ensured (0 ∷ 0 ∷ 0 ∷ [])
   part-above l = replied noSpan (sym (part-is-table v p s blank n refl .1 (inr (omega arith))))
 
   -- A table that match did not fill is still blank.
@@ -45,7 +51,7 @@ module _ {v p s : List ℕ} (lent : Lent v p s) (n : ℕ) where
       go (inr (e, kept)) = ap (λ t. spanIn t n) kept ∙ blank-span n low ∙ sym (part-is-table v p s blank n refl .1 (inl e))
 
   pub part-matched : {table : List ℕ} {o l : ℕ} → n < nameCount → table ≡ matched v p s blank .table →
-      o ≡ getD table (2 * n) 0 → l ≡ getD table (2 * n + 1) 0 → PartReplied v p s n (0 ∷ o ∷ l ∷ [])
+      o ≡ getD table (2 * n) 0 → l ≡ getD table (2 * n + 1) 0 → Ensured (0 ∷ o ∷ l ∷ [])
   part-matched {table} {o} {l} low t e h =
       replied (record { offset = o; bytes = l })
       (ap₂ {C = Span} (λ a b. record { offset = a; bytes = b }) e h ∙ ap (λ t. spanIn t n) t ∙ table-part low)

@@ -90,35 +90,33 @@ formed : (k : ℕ) {numbers : List ℕ} (r : Reply) → numbers ≡ replyNumbers
 formed k r e back = let said = ap (replyIn k) e ∙ back in (e ∙ ap replyNumbers (sym said), said)
 
 pub vocabulary-replied : {v numbers : List ℕ} (a : VocabularyAnswer) → numbers ≡ replyNumbers (vocabularyNumbers a) →
-    VocabularyPromise v (vocabularyNumbers a) × (vocabularyNumbers a ≡ vocabularyReply v) → VocabularyReplied v numbers
+    VocabularyPromise v (vocabularyNumbers a) × (vocabularyNumbers a ≡ vocabularyReply v) →
+    VocabularyReplied v numbers × (replyIn 0 numbers ≡ vocabularyReply v)
 vocabulary-replied {v} a e (promise, shown) =
     let f = formed 0 (vocabularyNumbers a) e (vocabulary-back a) in
-    record { form = f .0; promise = subst (VocabularyPromise v) (sym (f .1)) promise; shown = f .1 ∙ shown }
+    (record { form = f .0; promise = subst (VocabularyPromise v) (sym (f .1)) promise }, f .1 ∙ shown)
 
 pub term-replied : {v b numbers : List ℕ} (a : TermAnswer) → numbers ≡ replyNumbers (termNumbers a) →
-    TermPromise v b (termNumbers a) × (termNumbers a ≡ termReply v b) → TermReplied v b numbers
+    TermPromise v b (termNumbers a) × (termNumbers a ≡ termReply v b) →
+    TermReplied v b numbers × (replyIn 2 numbers ≡ termReply v b)
 term-replied {v} {b} a e (promise, shown) =
     let f = formed 2 (termNumbers a) e (term-back a) in
-    record { form = f .0; promise = subst (TermPromise v b) (sym (f .1)) promise; shown = f .1 ∙ shown }
+    (record { form = f .0; promise = subst (TermPromise v b) (sym (f .1)) promise }, f .1 ∙ shown)
 
 pub match-replied : {v p s before after numbers : List ℕ} (a : MatchAnswer) → numbers ≡ replyNumbers (matchNumbers a) →
     MatchPromise v p s before after (matchNumbers a) × MatchShown (matched v p s before) (matchNumbers a) after →
-    MatchReplied v p s before after numbers
+    MatchReplied v p s before after numbers × MatchShown (matched v p s before) (replyIn 1 numbers) after
 match-replied {v} {p} {s} {before} {after} a e (promise, shown) =
-    let f = formed 1 (matchNumbers a) e (match-back a) in
-    record {
-      form = f .0;
-      promise = subst (MatchPromise v p s before after) (sym (f .1)) promise;
-      shown = record { reply = f .1 ∙ shown .reply; table = shown .table };
-    }
+    let f = formed 1 (matchNumbers a) e (match-back a) in (
+      record { form = f .0; promise = subst (MatchPromise v p s before after) (sym (f .1)) promise },
+      record { reply = f .1 ∙ shown .reply; table = shown .table },
+    )
 
 pub list-replied : {v p before after numbers : List ℕ} (a : ListAnswer) → numbers ≡ replyNumbers (listNumbers a) →
     ListPromise v p before after (listNumbers a) × ListShown (listed v p before) (listNumbers a) after →
-    ListReplied v p before after numbers
+    ListReplied v p before after numbers × ListShown (listed v p before) (replyIn 2 numbers) after
 list-replied {v} {p} {before} {after} a e (promise, shown) =
-    let f = formed 2 (listNumbers a) e (list-back a) in
-    record {
-      form = f .0;
-      promise = subst (ListPromise v p before after) (sym (f .1)) promise;
-      shown = record { reply = f .1 ∙ shown .reply; out = shown .out };
-    }
+    let f = formed 2 (listNumbers a) e (list-back a) in (
+      record { form = f .0; promise = subst (ListPromise v p before after) (sym (f .1)) promise },
+      record { reply = f .1 ∙ shown .reply; out = shown .out },
+    )

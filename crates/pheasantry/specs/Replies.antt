@@ -9,8 +9,8 @@
 --   PartReplied            what part promises
 --   ListReplied            what list promises
 --
--- In each, `form` says that the numbers are three and are those of the reply that they say, `promise` is what the call
--- promises of that reply, and `shown` says that it is the one that is computed.
+-- In each, `form` says that the numbers are three and are those of the reply that they say, and `promise` is what the call
+-- promises of that reply.
 --
 use mathlib.Core.Path.{_≡_}
 use mathlib.Core.Bool.{cond}
@@ -22,9 +22,6 @@ use Rattle.wire.specs.Reply.{Reply, accepted, refused}
 use Rattle.wire.specs.Checking.{VocabularyPromise, TermPromise}
 use Rattle.wire.specs.Matching.{Span, cutOut, MatchPromise, PartPromise}
 use Rattle.wire.specs.Leftovers.{ListPromise}
-use Rattle.wire.specs.CheckComputed.{vocabularyReply, termReply}
-use Rattle.wire.specs.MatchComputed.{matched, MatchShown, partSpan}
-use Rattle.wire.specs.ListComputed.{listed, ListShown}
 
 -- Accepted: 0 and the values, 0 where there is none. Refused: number, input, place.
 abbrev pub replyNumbers : Reply → List ℕ
@@ -41,25 +38,20 @@ spanSaid numbers = record { offset = getD numbers 1 0; bytes = getD numbers 2 0 
 pub record VocabularyReplied (v numbers : List ℕ) : Type 0 where
   pub form : numbers ≡ replyNumbers (replyIn 0 numbers)
   pub promise : VocabularyPromise v (replyIn 0 numbers)
-  pub shown : replyIn 0 numbers ≡ vocabularyReply v
 
 pub record TermReplied (v b numbers : List ℕ) : Type 0 where
   pub form : numbers ≡ replyNumbers (replyIn 2 numbers)
   pub promise : TermPromise v b (replyIn 2 numbers)
-  pub shown : replyIn 2 numbers ≡ termReply v b
 
 pub record MatchReplied (v p s before after numbers : List ℕ) : Type 0 where
   pub form : numbers ≡ replyNumbers (replyIn 1 numbers)
   pub promise : MatchPromise v p s before after (replyIn 1 numbers)
-  pub shown : MatchShown (matched v p s before) (replyIn 1 numbers) after
 
 -- Part is never refused. The numbers cut the very part out of the lent situation.
 pub record PartReplied (v p s : List ℕ) (n : ℕ) (numbers : List ℕ) : Type 0 where
   pub form : numbers ≡ replyNumbers (accepted (spanSaid numbers .offset ∷ spanSaid numbers .bytes ∷ []))
   pub promise : PartPromise v p s n (spanSaid numbers) (cutOut s (spanSaid numbers))
-  pub shown : spanSaid numbers ≡ partSpan v p s n
 
 pub record ListReplied (v p before after numbers : List ℕ) : Type 0 where
   pub form : numbers ≡ replyNumbers (replyIn 2 numbers)
   pub promise : ListPromise v p before after (replyIn 2 numbers)
-  pub shown : ListShown (listed v p before) (replyIn 2 numbers) after

@@ -5,7 +5,10 @@ ghost use Rattle.signature.specs.Answers.{vocabularyRefused, vocabularyNumbers}
 ghost use Rattle.reader.specs.Answers.{termRefused, termNumbers, inputsRefused};
 ghost use Rattle.matcher.specs.Answers.{matchNumbers};
 ghost use Rattle.complement.specs.Answers.{listNumbers};
-ghost use Rattle.pheasantry.specs.Replies.{replyNumbers, VocabularyReplied, TermReplied, MatchReplied, PartReplied, ListReplied};
+ghost use Rattle.wire.specs.CheckComputed.{vocabularyReply, termReply};
+ghost use Rattle.wire.specs.MatchComputed.{matched, MatchShown, partSpan};
+ghost use Rattle.wire.specs.ListComputed.{listed, ListShown};
+ghost use Rattle.pheasantry.specs.Replies.{replyNumbers, replyIn, spanSaid, VocabularyReplied, TermReplied, MatchReplied, PartReplied, ListReplied};
 use complement::ListAnswer;
 use matcher::MatchAnswer;
 use reader::InputsRefusal;
@@ -110,6 +113,7 @@ fn list_numbers(answer: ListAnswer) -> [u64; 3]
 #[no_mangle]
 pub extern "C" fn pheasantry_check_vocabulary(vocabulary: &[u8], reply: &mut [u64; 3])
     ensures { λ _. ⌜ VocabularyReplied (now (vocabulary .entry)) (now (reply .exit)) ⌝ }
+    ensures { λ _. ⌜ replyIn 0 (now (reply .exit)) ≡ vocabularyReply (now (vocabulary .entry)) ⌝ }
 {
     *reply = vocabulary_numbers(signature::check_vocabulary(vocabulary));
 }
@@ -118,6 +122,7 @@ pub extern "C" fn pheasantry_check_vocabulary(vocabulary: &[u8], reply: &mut [u6
 #[no_mangle]
 pub extern "C" fn pheasantry_check_term(vocabulary: &[u8], term: &[u8], reply: &mut [u64; 3])
     ensures { λ _. ⌜ TermReplied (now (vocabulary .entry)) (now (term .entry)) (now (reply .exit)) ⌝ }
+    ensures { λ _. ⌜ replyIn 2 (now (reply .exit)) ≡ termReply (now (vocabulary .entry)) (now (term .entry)) ⌝ }
 {
     *reply = term_numbers(reader::check_term(vocabulary, term));
 }
@@ -133,6 +138,7 @@ pub extern "C" fn pheasantry_match(
     reply: &mut [u64; 3],
 )
     ensures { λ _. ⌜ MatchReplied (now (vocabulary .entry)) (now (pattern .entry)) (now (situation .entry)) (now (table .entry)) (now (table .exit)) (now (reply .exit)) ⌝ }
+    ensures { λ _. ⌜ MatchShown (matched (now (vocabulary .entry)) (now (pattern .entry)) (now (situation .entry)) (now (table .entry))) (replyIn 1 (now (reply .exit))) (now (table .exit)) ⌝ }
 {
     *reply = match_numbers(matcher::match_pattern(vocabulary, pattern, situation, table));
 }
@@ -148,6 +154,7 @@ pub extern "C" fn pheasantry_part(
     reply: &mut [u64; 3],
 )
     ensures { λ _. ⌜ PartReplied (now (vocabulary .entry)) (now (pattern .entry)) (now (situation .entry)) name (now (reply .exit)) ⌝ }
+    ensures { λ _. ⌜ spanSaid (now (reply .exit)) ≡ partSpan (now (vocabulary .entry)) (now (pattern .entry)) (now (situation .entry)) name ⌝ }
 {
     if 63 < name {
         *reply = [0, 0, 0];
@@ -172,6 +179,7 @@ pub extern "C" fn pheasantry_list(
     reply: &mut [u64; 3],
 )
     ensures { λ _. ⌜ ListReplied (now (vocabulary .entry)) (now (pattern .entry)) (now (out .entry)) (now (out .exit)) (now (reply .exit)) ⌝ }
+    ensures { λ _. ⌜ ListShown (listed (now (vocabulary .entry)) (now (pattern .entry)) (now (out .entry))) (replyIn 2 (now (reply .exit))) (now (out .exit)) ⌝ }
 {
     *reply = list_numbers(complement::list(vocabulary, pattern, out));
 }

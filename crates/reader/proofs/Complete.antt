@@ -28,7 +28,7 @@ use Rattle.wire.proofs.Words.{word-in-order}
 use Rattle.signature.specs.Tables.{Tables, vocabularyIn}
 use Rattle.reader.specs.Nodes.{tallyOf, answerOf}
 use Rattle.reader.specs.Gaps.{gapIn, situationReply}
-use Rattle.reader.specs.Complete.{dueIn, kindsFrom, RowIn, RecordRow, placesDue, rowDue, rowsDue, FullWord, Passing}
+use Rattle.reader.specs.FullWords.{dueIn, kindsFrom, RowIn, RecordRow, placesDue, rowDue, rowsDue, FullWord, Passing}
 use Rattle.reader.proofs.Gaps.{gap-full}
 use Rattle.reader.proofs.Judging.{taken, situation-whole}
 use Rattle.reader.proofs.Nodes.{node-root}

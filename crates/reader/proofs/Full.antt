@@ -20,7 +20,7 @@ use Rattle.wire.proofs.Scan.{run}
 use Rattle.signature.specs.Tables.{Tables, vocabularyIn}
 use Rattle.reader.specs.Frames.{FrameIn, FramesIn, Framed, frameDue, duesOf}
 use Rattle.reader.specs.Nodes.{tallyOf}
-use Rattle.reader.specs.Complete.{dueIn, kindsFrom, RowIn, RecordRow, placesDue, rowDue, rowsDue, PassedFull, SmallRow, SmallRows, RowFrame, RowFrames}
+use Rattle.reader.specs.FullWords.{dueIn, kindsFrom, RowIn, RecordRow, placesDue, rowDue, rowsDue, PassedFull, SmallRow, SmallRows, RowFrame, RowFrames}
 use Rattle.reader.proofs.Frames.{word-frame, word-due}
 use Rattle.reader.proofs.Rows.{some-ones, root-reaches, full-due}
 use Rattle.reader.proofs.Complete.{all-inside, all-due}

@@ -15,7 +15,7 @@ use Rattle.wire.specs.Vocabulary.{Vocabulary}
 use Rattle.wire.specs.TermLines.{Due, dueAt}
 use Rattle.wire.proofs.Scan.{run}
 use Rattle.reader.specs.Nodes.{tallyOf}
-use Rattle.reader.specs.Complete.{dueIn, kindsFrom, Rowed, RowIn, RecordRow, placesDue, rowDue, rowsDue, FullWord}
+use Rattle.reader.specs.FullWords.{dueIn, kindsFrom, Rowed, RowIn, RecordRow, placesDue, rowDue, rowsDue, FullWord}
 use Rattle.reader.proofs.Levels.{Reaches, first-reaches}
 
 -- ---- a list of rows

@@ -5,10 +5,10 @@
 --   Frames     what the private functions promise each other of the words whose places are due; no public contract cites it
 --   Nodes      the same, of what stands where a term is due
 --   Gaps       the same, of a situation's gaps and of judging it
---   Complete   the same, of words with all their places
+--   FullWords  the same, of words with all their places
 pub mod Answers
 pub mod Checked
 pub mod Frames
 pub mod Nodes
 pub mod Gaps
-pub mod Complete
+pub mod FullWords

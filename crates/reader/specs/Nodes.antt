@@ -1,5 +1,6 @@
 -- Nodes: what the functions that read a term promise each other; no public contract cites it.
 --
+--   numberIn r, placeIn r        a reply's number and place; 0 where it is accepted
 --   numberOf why, placeOf why    a refusal's number and place
 --   TablesOf W n results maps    the first n entries of the tables are W's result kinds and place maps
 --   nodeOf W at rest x           what x says that stands at the front of the bytes rest, which begin at an offset

@@ -9,7 +9,7 @@ ghost use Rattle.wire.proofs.Scan.{run, rootDue, noTally};
 ghost use Rattle.reader.specs.Answers.{termNumbers};
 ghost use Rattle.signature.specs.Tables.{Tables, vocabularyIn};
 ghost use Rattle.reader.specs.Frames.{writtenIn, placesIn, kindsIn, Framed, FrameIn, FramesIn, frameDue, duesOf};
-ghost use Rattle.reader.specs.Complete.{dueIn, RowIn, rowDue, SmallRow, SmallRows, RowFrame, RowFrames};
+ghost use Rattle.reader.specs.FullWords.{dueIn, RowIn, rowDue, SmallRow, SmallRows, RowFrame, RowFrames};
 ghost use Rattle.reader.specs.Nodes.{NodeAt, WordAt, clashing, tallyOf, answerOf};
 use crate::TermAnswer;
 use crate::TermRefusal;

@@ -7,7 +7,7 @@ ghost use lib.ListN.{length, getD};
 ghost use Rattle.wire.specs.Reply.{accepted};
 ghost use Rattle.signature.specs.Tables.{Tables, vocabularyIn};
 ghost use Rattle.reader.specs.Gaps.{situationReply};
-ghost use Rattle.reader.specs.Complete.{dueIn, kindsFrom, Rowed, RowIn, RecordRow, FullWord, PassedFull};
+ghost use Rattle.reader.specs.FullWords.{dueIn, kindsFrom, Rowed, RowIn, RecordRow, FullWord, PassedFull};
 use crate::term;
 
 // Places that are due in a row: one for each bit of a map, their kinds behind the head of the record at an offset.

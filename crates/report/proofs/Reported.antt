@@ -28,8 +28,8 @@ use Rattle.wire.proofs.Levels.{deepest-bytes}
 use Rattle.wire.proofs.Entries.{entries-are-good}
 use Rattle.wire.proofs.EntriesRead.{GoodKinded}
 use Rattle.wire.proofs.EntryCut.{cut-entries}
-use Rattle.wire.proofs.Listed.{linear-in}
-use Rattle.wire.proofs.Printed.{print-keeps}
+use Rattle.wire.proofs.Leftovers.{linear-in}
+use Rattle.wire.proofs.Printing.{print-keeps}
 use Rattle.wire.proofs.VocabulariesInverse.{vocabularies-inverse}
 use Rattle.report.specs.Prints.{Prints}
 use Rattle.report.specs.Putting.{Put, cutText, answerText, TextFits}
@@ -165,15 +165,18 @@ abbrev taken : List ℕ → List ℕ
 taken b = take mostInput b
 
 pub prints : (b : List ℕ) (n : ℕ) → ((i : ℕ) → getD b i 0 < 256) → n ≡ min (length b) mostInput → {text last : List ℕ} {next : ℕ} →
-    Put (printedFrom (vocabularyPart (take (n - 0) b)) (patternPart (take (n - 0) b))) text 0 next last → Prints b text next last
-prints b n small e {text} {last} {next} h = record {
-  promise = subst (PrintPromise (vocabularyPart (taken b)) (patternPart (taken b))) (sym shown) (print-keeps (vocabularyPart (taken b)) (patternPart (taken b)) part-bytes rest-bytes);
-  shown = shown;
-  behind = ap (drop next) (put .same) ∙ drop-at (printed b) (drop next text) next (sym count);
-  within =
-      let long : length last ≡ length (printed b ++ drop next text) = ap length (put .same) in
-      omega (arith, count, length-append (printed b) (drop next text));
-}
+    Put (printedFrom (vocabularyPart (take (n - 0) b)) (patternPart (take (n - 0) b))) text 0 next last →
+    Prints b text next last × (take next last ≡ printed b)
+prints b n small e {text} {last} {next} h = (
+  record {
+    promise = subst (PrintPromise (vocabularyPart (taken b)) (patternPart (taken b))) (sym shown) (print-keeps (vocabularyPart (taken b)) (patternPart (taken b)) part-bytes rest-bytes);
+    behind = ap (drop next) (put .same) ∙ drop-at (printed b) (drop next text) next (sym count);
+    inside =
+        let long : length last ≡ length (printed b ++ drop next text) = ap length (put .same) in
+        omega (arith, count, length-append (printed b) (drop next text));
+  },
+  shown,
+)
   where
     bytes : IsBytes (drop 2 (taken b))
     bytes = all-drop (λ b. b < 256) 2 (take mostInput b) (all-take (λ b. b < 256) mostInput b (bytes-of b small))

@@ -8,12 +8,9 @@ use mathlib.Core.List.{List}
 use Prim.Native.Nat.{ℕ, _≤_}
 use lib.ListN.{length, take, drop}
 use Rattle.wire.specs.Printing.{mostInput, vocabularyPart, patternPart, PrintPromise}
-use Rattle.wire.specs.PrintComputed.{printed}
 
 pub record Prints (input before : List ℕ) (n : ℕ) (after : List ℕ) : Type 0 where
   pub promise : PrintPromise (vocabularyPart (take mostInput input)) (patternPart (take mostInput input)) (take n after)
-  -- It is the text that is computed.
-  pub shown : take n after ≡ printed input
   -- Bytes behind the text stay as they were.
   pub behind : drop n after ≡ drop n before
-  pub within : n ≤ length after
+  pub inside : n ≤ length after

@@ -2,10 +2,10 @@
 ghost use mathlib.Core.Path.{_≡_};
 ghost use mathlib.Core.List.{_++_};
 ghost use Prim.Native.Nat.{_+_, _≤_, _<_, min};
-ghost use lib.ListN.{length};
+ghost use lib.ListN.{length, take};
 ghost use Rattle.wire.specs.Text.{decimal, hexadecimal, digit as Text·digit};
 ghost use Rattle.wire.specs.Printing.{vocabularyLength, vocabularyPart, patternPart, entryLines, refusalText, entryLine};
-ghost use Rattle.wire.specs.PrintComputed.{printedFrom};
+ghost use Rattle.wire.specs.PrintComputed.{printedFrom, printed};
 ghost use Rattle.wire.proofs.EntryCut.{cut, entrySize};
 ghost use Rattle.pheasantry.specs.Replies.{replyIn};
 ghost use Rattle.report.specs.Prints.{Prints};
@@ -202,6 +202,7 @@ fn print_taken(input: &[u8], text: &mut [u8]) -> usize
 // bytes it is. Bytes behind the text stay as they were.
 pub fn print(input: &[u8], text: &mut [u8; 524288]) -> usize
     ensures { λ r. ⌜ Prints (now (input .entry)) (now (text .entry)) r (now (text .exit)) ⌝ }
+    ensures { λ r. ⌜ take r (now (text .exit)) ≡ printed (now (input .entry)) ⌝ }
 {
     let taken = least(input.len(), 65536);
     print_taken(&input[0..taken], text)

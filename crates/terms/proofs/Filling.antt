@@ -10,8 +10,8 @@ use lib.Seq.{ext-getD}
 use Rattle.terms.specs.Lists.{occurs, distinct}
 use Rattle.terms.specs.Signature.{Signature}
 use Rattle.terms.specs.Term.{Ground, SortedG, occurrences, names, openSorts}
-use Rattle.terms.specs.Filling.{Filling, noGround, valueOf, openAt, SortedEach, IsFilling}
-use Rattle.terms.specs.Laws.{Gives, EachChoiceHasAFilling, EqualWhereTheyAgree, OneFilling}
+use Rattle.terms.specs.Filling.{Filling, noGround, valueOf, SortedEach, IsFilling}
+use Rattle.terms.specs.Laws.{openAt, Gives, EachChoiceHasAFilling, EqualWhereTheyAgree, OneFilling}
 use Rattle.terms.specs.Matcher.{matcher}
 use Rattle.terms.proofs.All.{all-implies, all-both}
 use Rattle.terms.proofs.Distinct.{occurs-distinct, none-twice-distinct}

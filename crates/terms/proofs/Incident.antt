@@ -19,7 +19,8 @@ use Rattle.terms.specs.Term.{Term, any, app, nil, cons, Ground, gapp, gn
 use Rattle.terms.specs.Filling.{Fits}
 use Rattle.terms.specs.Matcher.{noFilling}
 use Rattle.terms.specs.Inhabited.{Inhabited}
-use Rattle.terms.specs.Listing.{listing, withEntries, Needed}
+use Rattle.terms.specs.Listing.{listing, Needed}
+use Rattle.terms.specs.Laws.{withEntries}
 use Rattle.terms.proofs.Theorems.{matcher-is-exact, entries-are-linear-patterns, partition, strike-out, first-empty-is-exact}
 
 abbrev word : ℕ → List ℕ → Symbol

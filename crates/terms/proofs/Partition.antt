@@ -10,8 +10,8 @@ use borrow.Author.Tests.{eq-eqb, eqb-true}
 use Rattle.terms.specs.Lists.{range}
 use Rattle.terms.specs.Signature.{Signature, result, arguments}
 use Rattle.terms.specs.Term.{Term, any, var, app, Terms, nil, cons, Ground, gapp, Grounds, gnil, gcons, Sorted, SortedAll, SortedG, SortedGs, Linear}
-use Rattle.terms.specs.Listing.{others, bare, openEvery, listing, listingAll, withEntries}
-use Rattle.terms.specs.Laws.{Partition}
+use Rattle.terms.specs.Listing.{others, bare, openEvery, listing, listingAll}
+use Rattle.terms.specs.Laws.{withEntries, Partition}
 use Rattle.terms.proofs.Bools.{eqb-sym, and-always, and-where}
 use Rattle.terms.proofs.Count.{bit, count, count-append, count-map, count-same, count-never, count-keep, count-range, count-one}
 use Rattle.terms.proofs.All.{all-at}

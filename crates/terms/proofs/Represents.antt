@@ -9,8 +9,8 @@ use Rattle.terms.specs.Term.{Term, any, Ground, Sorted, SortedG, Linear}
 use Rattle.terms.specs.Filling.{Fits}
 use Rattle.terms.specs.Substitution.{Tm, asTm, withVariables}
 use Rattle.terms.specs.Instance.{SortedT, Instance}
-use Rattle.terms.specs.Listing.{listing, withEntries}
-use Rattle.terms.specs.Laws.{ListingRepresents}
+use Rattle.terms.specs.Listing.{listing}
+use Rattle.terms.specs.Laws.{withEntries, ListingRepresents}
 use Rattle.terms.proofs.All.{all-implies, all-at, all-map}
 use Rattle.terms.proofs.Members.{mem-map-at, at-of-mem}
 use Rattle.terms.proofs.Term.{linear-well-sorted}

@@ -22,8 +22,8 @@ use borrow.Author.Tests.{eqb-true}
 use Rattle.terms.specs.Lists.{All, occurs}
 use Rattle.terms.specs.Signature.{Signature, arguments}
 use Rattle.terms.specs.Term.{Term, any, var, app, Terms, nil, cons, Ground, gapp, Grounds, gnil, gcons, Sorted, SortedAll, SortedG, SortedGs, Occurrence, occurrences, Consistent, WellSorted, names, openSorts, openings}
-use Rattle.terms.specs.Filling.{Filling, noGround, valueOf, openAt, fillFrom, fillAll, fill, Fits}
-use Rattle.terms.specs.Laws.{Gives, SortsAddNothing, MatchingIsFitting}
+use Rattle.terms.specs.Filling.{Filling, noGround, valueOf, fillFrom, fillAll, fill, Fits}
+use Rattle.terms.specs.Laws.{openAt, Gives, SortsAddNothing, MatchingIsFitting}
 use Rattle.terms.specs.Substitution.{Var, name, place, Tm, tvar, tapp, Tms, tnil, tcons, Substitution, carry, carryAll, asTm, asTms, withVariablesFrom, withVariablesAll, withVariables}
 use Rattle.terms.specs.Instance.{sortOf, SortedT, SortedTs, KeepsSorts, Instance}
 use Rattle.terms.proofs.All.{all-implies, all-both, all-append}

@@ -3,7 +3,6 @@
 --   Binding, Filling        the ground term of each variable, and of each open place from left to right
 --   noGround                what is read off a list that has no such entry
 --   valueOf bs n            what the bindings bs give the variable n
---   openAt f i              what the filling f gives the i-th open place, counted from 0
 --   fillFrom bs t gs, fillAll bs ts gs   the bindings bs and the ground terms gs put into t, into ts
 --   fill p f                the filling f carried out on p
 --   SortedEach S gs ks      the ground terms gs have the sorts ks, one each
@@ -35,9 +34,6 @@ noGround = gapp 0 gnil
 abbrev pub valueOf : List Binding → ℕ → Ground
 valueOf [] n = noGround
 valueOf (b ∷ bs) n = cond (eqb n (b .name)) (b .value) (valueOf bs n)
-
-abbrev pub openAt : Filling → ℕ → Ground
-openAt f i = getD (f .opened) i noGround
 
 -- Document 01: "it puts that term in wherever the name stands, at the open place .. or at the root".
 -- The ground terms gs are those of the open places of the term, and of places behind it.

@@ -35,11 +35,11 @@ abbrev mutual
 abbrev pub KeepsSorts : Signature → Substitution → Type 0
 KeepsSorts S σ = (x : Var) → SortedT S (σ .value x) (sortOf x)
 
--- "τ' is called a Σ-instance of τ iff τ' = σ(τ) for some substitution σ".
+-- "τ' is called a Σ-instance of τ iff τ' = σ(τ) for some substitution σ". Where sorts are kept, both have one sort.
 abbrev pub Instance : Signature → Tm → Tm → Type 0
 Instance S t u = (σ : Substitution) × KeepsSorts S σ × (carry (σ .value) t ≡ u)
 
--- A set of terms of the sort of τ, such that every ground term of that sort "is not a Σ-instance of τ iff [it] is a
+-- A set of terms of the sort of τ, such that every ground term τ₁ of that sort "is not a Σ-instance of τ iff τ₁ is a
 -- Σ-instance of some element of B".
 pub record Represents (S : Signature) (s : ℕ) (t : Tm) (l : List Tm) : Type 0 where
   pub term : SortedT S t s

@@ -1,11 +1,13 @@
 -- Laws: what is proved of the notions of the theory. Nothing here has to be believed: proofs/ has a proof of each.
 --
+--   openAt f i                  what the filling f gives the i-th open place, counted from 0
 --   Gives S p s v w f           f gives the variables of p the values of v, and its open places those of w
 --   EachChoiceHasAFilling       any choice of ground terms of the sorts due is a filling's
 --   EqualWhereTheyAgree         two fillings are equal exactly where they give the same values
 --   OneFilling                  no two fillings turn a pattern into the same ground term
 --   SortsAddNothing             between two terms of one sort, matching is being an instance
 --   MatchingIsFitting           for a ground term of the sort, matching is the same as having a filling
+--   withEntries S p             the pattern at index 0, and its entries behind it
 --   Partition                   every ground term fits exactly one of the pattern and its entries, by one filling
 --   StrikeOut                   each entry has a ground term that fits it and nothing else
 --   EntriesAreLinearPatterns    each entry is a linear pattern of the sort
@@ -13,20 +15,23 @@
 --
 use mathlib.Core.Path.{_≡_}
 use mathlib.Core.Bool.{true}
-use mathlib.Core.List.{map}
+use mathlib.Core.List.{List, _∷_, map}
 use mathlib.Core.Logic.{_↔_}
 use Prim.Native.Nat.{ℕ, _<_}
 use lib.ListN.{length, getD}
 use Rattle.terms.specs.Lists.{All, occurs}
 use Rattle.terms.specs.Signature.{Signature, WellFormed}
 use Rattle.terms.specs.Term.{Term, Ground, SortedG, Sorted, WellSorted, occurrences, names, Linear, openSorts}
-use Rattle.terms.specs.Filling.{Filling, valueOf, openAt, fill, IsFilling, Fits}
+use Rattle.terms.specs.Filling.{Filling, noGround, valueOf, fill, IsFilling, Fits}
 use Rattle.terms.specs.Substitution.{Tm, Matches, asTm, withVariables}
 use Rattle.terms.specs.Instance.{SortedT, Instance, Represents}
 use Rattle.terms.specs.Inhabited.{Inhabited}
-use Rattle.terms.specs.Listing.{listing, withEntries, FitsExactlyOne, Needed}
+use Rattle.terms.specs.Listing.{listing, FitsExactlyOne, Needed}
 
 -- ---- fillings
+
+abbrev pub openAt : Filling → ℕ → Ground
+openAt f i = getD (f .opened) i noGround
 
 pub record Gives (S : Signature) (p : Term) (s : ℕ) (v w : ℕ → Ground) (f : Filling) : Type 0 where
   pub named : (n : ℕ) → occurs n (names p) ≡ true → valueOf (f .named) n ≡ v n
@@ -63,6 +68,9 @@ MatchingIsFitting =
     Fits S p s g ↔ Matches (withVariables S p s) (asTm g)
 
 -- ---- listings
+
+abbrev pub withEntries : Signature → Term → List Term
+withEntries S p = p ∷ listing S p
 
 abbrev pub Partition : Type 0
 Partition =

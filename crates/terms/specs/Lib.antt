@@ -8,7 +8,8 @@ pub mod Substitution
 pub mod Instance
 pub mod Inhabited
 pub mod Listing
--- What is proved of it, and ways to compute it that laws fix:
-pub mod Laws
+-- Ways to compute it, each with the law that fixes it:
 pub mod Matcher
 pub mod Emptiness
+-- What is proved of it:
+pub mod Laws

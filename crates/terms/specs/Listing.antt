@@ -5,7 +5,6 @@
 --   bare S f                    the symbol f with every place open
 --   openEvery ts                ts with every place open
 --   listing S p, listingAll S ts   the entries, in document 01's order: of a pattern, of the places of a symbol
---   withEntries S p             the pattern at index 0, and its entries behind it
 --   FitsExactlyOne S l s g      g fits exactly one entry of l, and exactly one filling turns that one into g
 --   Needed S p l s i            some ground term fits entry i of l, and neither p nor any other entry
 --
@@ -51,9 +50,6 @@ abbrev mutual
   -- ".. the listing of that place's term, each put in that place with the lower places exactly as in
   -- the pattern and the higher places open."
   listingAll S (cons t ts) = map (λ e. cons e (openEvery ts)) (listing S t) ++ map (cons t) (listingAll S ts)
-
-abbrev pub withEntries : Signature → Term → List Term
-withEntries S p = p ∷ listing S p
 
 -- Demand 3: a complete situation "fits exactly one .., and exactly one filling turns that one into it". Entries are told
 -- apart by where they stand.

@@ -15,8 +15,8 @@ use Prim.Native.Nat.{ℕ, _+_}
 use Rattle.terms.specs.Signature.{Signature, arguments}
 use Rattle.terms.specs.Term.{Term, any, var, app, Terms, nil, cons, Ground, gapp, Grounds, gnil, gcons, openings}
 
--- A name of a number, or the variable of an open place of a number. Of a variable's sort source 004 knows nothing; it
--- is there for source 000 (Instance). A well-sorted pattern's name has one sort, so it is one variable.
+-- A name with its number and sort, or the variable of an open place with its number and sort. Of sorts source 004 knows
+-- nothing; they are there for source 000 (Instance). A well-sorted pattern's name has one sort, so it is one variable.
 pub data Var : Type 0 where
   name : ℕ → ℕ → Var
   place : ℕ → ℕ → Var
@@ -33,7 +33,7 @@ mutual
 -- "a function mapping variables to terms, which is identity almost everywhere". Its values may hold variables.
 pub record Substitution : Type 0 where
   pub value : Var → Tm
-  -- Source 004, Definition II.3: a list that holds every variable that is moved.
+  -- Source 004, Definition II.3, but that a variable may be listed twice: each variable that is moved is listed.
   pub relaxedCore : List Var
   pub finite : (x : Var) → (List·Memᴰ x relaxedCore → ⊥) → value x ≡ tvar x
 

@@ -48,12 +48,13 @@ pub mod Spans
 pub mod SpanTable
 pub mod Matching
 pub mod PartTable
+pub mod Judging
 -- On listing.
 pub mod Repeats
 pub mod LinearRefusals
 pub mod EntryLevels
 pub mod EntriesRead
-pub mod Listed
+pub mod Leftovers
 pub mod EntryBytes
 pub mod EntrySizes
 pub mod EntryMaps
@@ -61,7 +62,9 @@ pub mod EntryWalk
 pub mod EntryCut
 -- On the text that the program prints.
 pub mod Text
-pub mod Printed
+pub mod Printing
+-- What a promise fixes.
+pub mod Fixed
 -- All of it.
 pub mod Starred
 pub mod Theorems

@@ -1,4 +1,4 @@
--- ListExample: document 01's bench example, derived from what list promises and nothing else.
+-- ListExample: document 01's bench example, derived from what list promises.
 --
 --   says-three        of wait(up, free) under A with 15 bytes lent the promise gives: 3 entries, 15 bytes
 --   entries-of-A      .. and demand 3 of what stands in the slice after the call
@@ -18,7 +18,7 @@ use Rattle.wire.specs.Reply.{Reply, accepted, IsBytes}
 use Rattle.wire.specs.Vocabulary.{Word, Vocabulary, signature}
 use Rattle.wire.specs.Leftovers.{HoldsPattern, Entries, ListPromise}
 use Rattle.wire.specs.Starred.{A, waitUpFree}
-use Rattle.wire.proofs.Listed.{pattern-read, pattern-is-one}
+use Rattle.wire.proofs.Leftovers.{pattern-read}
 
 abbrev word : ℕ → ℕ → List ℕ → Word
 word s m ks = record { result = s; placeMap = m; kinds = ks }
@@ -68,15 +68,7 @@ module _ (before after : List ℕ) (r : Reply) (fifteen : length before ≡ 15) 
 
   -- What stands in the slice after the call.
   pub entries-of-A : Entries W 0 pattern waitUpFree 3 15 after
-  entries-of-A = go (m .entries 3 15 says-three)
-    where
-      go : (W′ : Vocabulary) × (s : ℕ) × (t : Term) × HoldsPattern A waitUpFree W′ s t × Entries W′ s t waitUpFree 3 15 after →
-          Entries W 0 pattern waitUpFree 3 15 after
-      go (W′, s, t, h, e) =
-          let same = pattern-is-one A waitUpFree W′ W s 0 t pattern A-bytes p-bytes h written in
-          subst (λ t. Entries W 0 t waitUpFree 3 15 after) (same .2)
-          (subst (λ s. Entries W s t waitUpFree 3 15 after) (same .1)
-          (subst (λ U. Entries U s t waitUpFree 3 15 after) (same .0) e))
+  entries-of-A = m .entries 3 15 says-three W 0 pattern written
 
   -- The entries that stand in the slice.
   abbrev standing : List Term

@@ -1,4 +1,4 @@
--- MatchExample: a yes and a no of document 01, derived from what match promises and nothing else.
+-- MatchExample: a yes and a no of document 01, derived from what match promises.
 --
 --   says-yes    of pair(n0, n0) with pair(a, a) the promise gives: the reply is yes, and there is a filling
 --   covers-a    .. which gives n0 the term that stands at offset 3, two bytes long

@@ -56,6 +56,13 @@ answered-clear table (clear x) h = (x, refl, go (eqb (length table) tableLength)
     go false e (inl k) = absurd (not-accepted 19 3 0 _ k)
     go false e (inr k) = absurd (not-accepted 19 3 0 _ k)
 
+accepted-answers : (table : List ℕ) (j : Judged) (values : List ℕ) → matchedWith table j .reply ≡ accepted values →
+    (matchedWith table j .reply ≡ yes) ⊎ (matchedWith table j .reply ≡ no)
+accepted-answers table (refusal n i q) values e = absurd (not-accepted n i q _ e)
+accepted-answers table (clear x) values e =
+    choice (λ (m : Matched). m .reply ≡ accepted values → (m .reply ≡ yes) ⊎ (m .reply ≡ no)) (eqb (length table) tableLength) _ _
+    (λ c e. verdict-answers table x (matcher (x .pattern) (x .situation))) (λ c e. absurd (not-accepted 19 3 0 _ e)) e
+
 matched-clear : (v p s table : List ℕ) (x : Inputs) → judged v p s ≡ clear x → length table ≡ tableLength →
     matched v p s table ≡ verdict table x (matcher (x .pattern) (x .situation))
 matched-clear v p s table x e l = ap (matchedWith table) e ∙ cond-true (eqb (length table) tableLength) _ _ (eq-eqb (length table) tableLength l)
@@ -153,6 +160,7 @@ match-keeps v p s table bv bp bs = record {
         subst (λ m. (m .reply ≡ yes) ⊎ (m .reply ≡ no)) (sym (known (h .0) (h .1) (h .2)))
         (verdict-answers table (h .0) (matcher (h .0 .pattern) (h .0 .situation)))),
   );
+  only = accepted-answers table (judged v p s);
   fits = fits;
   agrees = λ x held l.
       let a = fits x held l in

@@ -7,8 +7,7 @@ use native.Mathlib.Omega.{arith}
 use lib.Dec.{ltb}
 use borrow.Author.Tests.{ltb-true, ltb-false, le-ltb}
 use Rattle.terms.proofs.Bools.{or-parts, or-neither}
-use Rattle.wire.specs.Reply.{outside}
-use Rattle.wire.specs.VocabularyLines.{Outside}
+use Rattle.wire.specs.Reply.{outside, Outside}
 
 pub outside-true : (low high n : ℕ) → outside low high n ≡ true → Outside low high n
 outside-true low high n e = go (ltb n low) refl

@@ -10,20 +10,20 @@ use Rattle.terms.specs.Term.{Term, Ground}
 use Rattle.wire.specs.Vocabulary.{Vocabulary}
 use Rattle.wire.specs.TermBytes.{nameCount}
 use Rattle.wire.specs.Matching.{tableLength, Span, span, spanIn}
-use Rattle.wire.specs.MatchComputed.{spansOf, spanTable}
+use Rattle.wire.specs.MatchComputed.{spanNumbers, spanTable}
 
 length-range : (from k : ℕ) → length (range from k) ≡ k
 length-range from zero = refl
 length-range from (suc k) = ap suc (length-range (suc from) k)
 
 module _ (W : Vocabulary) (t : Term) (g : Ground) where
-  length-spans : (ns : List ℕ) → length (spansOf W t g ns) ≡ 2 * length ns
+  length-spans : (ns : List ℕ) → length (spanNumbers W t g ns) ≡ 2 * length ns
   length-spans [] = refl
   length-spans (n ∷ ns) = let h = length-spans ns in omega arith
 
   spans-at : (k from i j : ℕ) → i < k → j ≡ 2 * i →
-      (getD (spansOf W t g (range from k)) j 0 ≡ span W t g (from + i) .offset)
-      × (getD (spansOf W t g (range from k)) (suc j) 0 ≡ span W t g (from + i) .bytes)
+      (getD (spanNumbers W t g (range from k)) j 0 ≡ span W t g (from + i) .offset)
+      × (getD (spanNumbers W t g (range from k)) (suc j) 0 ≡ span W t g (from + i) .bytes)
   spans-at zero from i j l e = absurd (omega arith)
   spans-at (suc k) from zero zero l e =
       let same : from ≡ from + 0 = omega arith in
@@ -45,4 +45,4 @@ module _ (W : Vocabulary) (t : Term) (g : Ground) where
       let same : 0 + n ≡ n = omega arith in
       ap₂ {C = Span} (λ o k. record { offset = o; bytes = k })
       (h .0 ∙ ap (λ (c : ℕ). span W t g c .offset) same)
-      (ap (λ (c : ℕ). getD (spansOf W t g (range 0 nameCount)) c 0) (add-one (2 * n)) ∙ h .1 ∙ ap (λ (c : ℕ). span W t g c .bytes) same)
+      (ap (λ (c : ℕ). getD (spanNumbers W t g (range 0 nameCount)) c 0) (add-one (2 * n)) ∙ h .1 ∙ ap (λ (c : ℕ). span W t g c .bytes) same)

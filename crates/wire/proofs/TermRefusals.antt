@@ -10,13 +10,12 @@ use lib.ListN.{length}
 use borrow.Author.Tests.{ltb-true, ltb-false, lt-ltb}
 use Rattle.terms.specs.Term.{Occurrence}
 use Rattle.wire.specs.Parser.{refuse, Got, got, stop, Read, line15, readTerm}
-use Rattle.wire.specs.Reply.{outside}
+use Rattle.wire.specs.Reply.{outside, Outside}
 use Rattle.wire.specs.Vocabulary.{Vocabulary, InOrder}
 use Rattle.wire.specs.TermBytes.{mostBytes, mostLevels, leastBytes}
 use Rattle.wire.specs.CheckComputed.{checkedTerm}
 use Rattle.wire.specs.Refusals.{rank, Sooner}
 use Rattle.wire.specs.Laws.{RefusesBy, TermRefusals}
-use Rattle.wire.specs.VocabularyLines.{Outside}
 use Rattle.wire.specs.TermLines.{Due, State, LeadsTo, NodeLine, TermLine, size, kind, inside, more}
 use Rattle.wire.proofs.Cond.{cond-true, cond-false}
 use Rattle.wire.proofs.Outside.{outside-true, outside-false, no-outside}

@@ -12,22 +12,25 @@
 --   term-refusals            a term is refused exactly by lines 7 to 15 of the refusal list
 --   first-gap-is-exact       firstGap gives the first gap of a good term, where there is one
 --   situation-refusals       a situation is refused exactly by lines 7 to 17 of the refusal list
---   vocabulary-keeps         the definition of the vocabulary check's reply keeps what the check promises
---   term-keeps               the definition of the term check's reply keeps what the check promises
---   match-keeps              the definitions of match's reply and table keep what match promises
---   part-keeps               the definition of part's reply keeps what part promises
+--   vocabulary-fixed, term-fixed, match-fixed, part-fixed, list-fixed, print-fixed
+--                            a promise fixes the reply and what stands in the lent slices
+--   vocabulary-keeps         what is computed of the vocabulary check's reply keeps what the check promises
+--   term-keeps               what is computed of the term check's reply keeps what the check promises
+--   match-keeps              what is computed of match's reply and table keeps what match promises
+--   part-keeps               what is computed of part's reply keeps what part promises
+--   judge-keeps              what is computed of judging the inputs of match is what match refuses by
 --   part-is-table            part's span is the one that match's table gives the name
 --   linear-refusals          a pattern to be listed is refused exactly by lines 7 to 15 and 18 of the refusal list
 --   entries-inverse          whole patterns are read off bytes exactly where the bytes are their writings
 --   pattern-is-one           the bytes of list's inputs write one vocabulary and one pattern only
---   list-keeps               the definition of list's reply and lent slice keeps what list promises
+--   list-keeps               what is computed of list's reply and lent slice keeps what list promises
 --   decimal-is-exact         a number in decimal is of digits that stand for it, with no needless zero in front
 --   print-keeps              the program's text is the refusal or the listing that list's promise speaks of
 --   accepted-is-short        an accepted vocabulary has at most 962 bytes
 --   more-alters-nothing      the program's text for the bytes that it takes is the text for all bytes of the input
 --   starred-hold             every starred case has the reply that document 01 gives
 --
-use Rattle.wire.specs.Laws.{InOrderIsWellFormed, VocabulariesInverse, TermsInverse, LimitsAreATest, CompleteIsGround, NoGapIsComplete, FullMapMeansNoOpenPlace, EntriesAreGood, VocabularyRefusals, TermRefusals, FirstGapIsExact, SituationRefusals, VocabularyKeeps, TermKeeps, MatchKeeps, PartKeeps, PartIsTable, EntriesInverse, PatternIsOne, LinearRefusals, ListKeeps, DecimalIsExact, PrintKeeps, AcceptedIsShort, MoreAltersNothing}
+use Rattle.wire.specs.Laws.{InOrderIsWellFormed, VocabulariesInverse, TermsInverse, LimitsAreATest, CompleteIsGround, NoGapIsComplete, FullMapMeansNoOpenPlace, EntriesAreGood, VocabularyRefusals, TermRefusals, FirstGapIsExact, SituationRefusals, VocabularyFixed, TermFixed, MatchFixed, PartFixed, ListFixed, PrintFixed, VocabularyKeeps, TermKeeps, MatchKeeps, PartKeeps, JudgeKeeps, PartIsTable, EntriesInverse, PatternIsOne, LinearRefusals, ListKeeps, DecimalIsExact, PrintKeeps, AcceptedIsShort, MoreAltersNothing}
 use Rattle.wire.specs.Starred.{StarredHold}
 
 pub in-order-is-well-formed : InOrderIsWellFormed
@@ -66,6 +69,24 @@ first-gap-is-exact = Rattle.wire.proofs.Gaps.first-gap-is-exact
 pub situation-refusals : SituationRefusals
 situation-refusals = Rattle.wire.proofs.SituationRefusals.situation-refusals
 
+pub vocabulary-fixed : VocabularyFixed
+vocabulary-fixed = Rattle.wire.proofs.Fixed.vocabulary-fixed
+
+pub term-fixed : TermFixed
+term-fixed = Rattle.wire.proofs.Fixed.term-fixed
+
+pub match-fixed : MatchFixed
+match-fixed = Rattle.wire.proofs.Fixed.match-fixed
+
+pub part-fixed : PartFixed
+part-fixed = Rattle.wire.proofs.Fixed.part-fixed
+
+pub list-fixed : ListFixed
+list-fixed = Rattle.wire.proofs.Fixed.list-fixed
+
+pub print-fixed : PrintFixed
+print-fixed = Rattle.wire.proofs.Fixed.print-fixed
+
 pub vocabulary-keeps : VocabularyKeeps
 vocabulary-keeps = Rattle.wire.proofs.Checking.vocabulary-keeps
 
@@ -78,6 +99,9 @@ match-keeps = Rattle.wire.proofs.Matching.match-keeps
 pub part-keeps : PartKeeps
 part-keeps = Rattle.wire.proofs.Matching.part-keeps
 
+pub judge-keeps : JudgeKeeps
+judge-keeps = Rattle.wire.proofs.Judging.judge-keeps
+
 pub part-is-table : PartIsTable
 part-is-table = Rattle.wire.proofs.PartTable.part-is-table
 
@@ -88,22 +112,22 @@ pub entries-inverse : EntriesInverse
 entries-inverse = Rattle.wire.proofs.EntriesRead.entries-inverse
 
 pub pattern-is-one : PatternIsOne
-pattern-is-one = Rattle.wire.proofs.Listed.pattern-is-one
+pattern-is-one = Rattle.wire.proofs.Leftovers.pattern-is-one
 
 pub list-keeps : ListKeeps
-list-keeps = Rattle.wire.proofs.Listed.list-keeps
+list-keeps = Rattle.wire.proofs.Leftovers.list-keeps
 
 pub decimal-is-exact : DecimalIsExact
 decimal-is-exact = Rattle.wire.proofs.Text.decimal-is-exact
 
 pub print-keeps : PrintKeeps
-print-keeps = Rattle.wire.proofs.Printed.print-keeps
+print-keeps = Rattle.wire.proofs.Printing.print-keeps
 
 pub accepted-is-short : AcceptedIsShort
 accepted-is-short = Rattle.wire.proofs.VocabularyMore.accepted-is-short
 
 pub more-alters-nothing : MoreAltersNothing
-more-alters-nothing = Rattle.wire.proofs.Printed.more-alters-nothing
+more-alters-nothing = Rattle.wire.proofs.Printing.more-alters-nothing
 
 pub starred-hold : StarredHold
 starred-hold = Rattle.wire.proofs.Starred.starred-hold

@@ -7,11 +7,12 @@ use native.Mathlib.Omega.{arith}
 use lib.Dec.{eqb, ltb}
 use lib.ListN.{length, length-append}
 use borrow.Author.Tests.{ltb-true, ltb-false}
-use Rattle.wire.specs.Parser.{Reading, refuse, Got, got, stop, andThen, offset, readKinds, readWord, readWords, lines5and6, readVocabulary}
+use Rattle.wire.specs.Parser.{Reading, accept, refuse, Got, got, stop, andThen, offset, readKinds, readWord, readWords, lines5and6, readVocabulary}
 use Rattle.wire.specs.Reply.{outside}
 use Rattle.wire.specs.Map.{mapBits, flagsIn, flags, bit, ones}
 use Rattle.wire.specs.Vocabulary.{Word, Vocabulary, mostKinds, mostWords}
 use Rattle.wire.specs.Laws.{mostVocabulary, AcceptedIsShort}
+use Rattle.wire.proofs.VocabulariesInverse.{vocabularies-inverse}
 use Rattle.wire.proofs.Outside.{outside-false}
 
 -- ---- what is read off a front does not depend on the bytes x behind it
@@ -102,12 +103,16 @@ refused-alike (k ∷ n ∷ l) x h = go (outside 1 mostKinds k) (outside 1 mostWo
         lines-alike (k ∷ n ∷ l) x k (readWords k n l) (readWords k n (l ++ x)) (words-same k n 1 l x (omega arith))
 
 pub accepted-is-short : AcceptedIsShort
-accepted-is-short v W e = go (ltb mostVocabulary (length v)) refl
+accepted-is-short v W bytes held = go (ltb mostVocabulary (length v)) refl
   where
+    e : readVocabulary v ≡ accept W
+    e = vocabularies-inverse v W bytes .1 held
+
     go : (t : Bool) → ltb mostVocabulary (length v) ≡ t → length v ≤ mostVocabulary
     go true t =
         let alike = refused-alike v [] (ltb-true mostVocabulary (length v) t) in
         let refused = alike .2 in
+        let accepted = e in
         let z : _≡_ {A = ℕ} 0 1 = cc in
         absurd (omega arith)
     go false t = ltb-false mostVocabulary (length v) t

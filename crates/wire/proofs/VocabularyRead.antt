@@ -13,10 +13,10 @@ use Rattle.terms.specs.Inhabited.{LeastEmpty}
 use Rattle.terms.specs.Emptiness.{firstEmpty, FirstEmptyExact}
 use Rattle.terms.proofs.Theorems.{first-empty-is-exact}
 use Rattle.wire.specs.Parser.{Reading, accept, refuse, Got, got, stop, offset, readWords, line6, lines5and6, readVocabulary}
-use Rattle.wire.specs.Reply.{IsBytes, outside}
+use Rattle.wire.specs.Reply.{IsBytes, outside, Outside}
 use Rattle.wire.specs.Vocabulary.{Word, Vocabulary, signature, InOrder, encodeWords, encodeVocabulary, mostKinds, mostWords, GoodVocabulary}
 use Rattle.wire.specs.Refusals.{Sooner, Decides}
-use Rattle.wire.specs.VocabularyLines.{byteAt, recordAt, wordsOf, Outside, VocabularyLine, head, count, ends, kind, more, empty}
+use Rattle.wire.specs.VocabularyLines.{byteAt, recordAt, wordsOf, VocabularyLine, head, count, ends, kind, more, empty}
 use Rattle.wire.proofs.Bytes.{drop-begins, drop-ends, offset-drop}
 use Rattle.wire.proofs.Outside.{outside-true, outside-false, no-outside}
 use Rattle.wire.proofs.Words.{in-order-well-formed}

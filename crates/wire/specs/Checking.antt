@@ -4,7 +4,8 @@
 --   CheckRefusal v b         the number, input and place that the refusal list decides on: lines 1 to 15
 --   TermPromise v b r        what checking a term promises of its reply
 --
--- Each promise says of every number, input and place, and of all values, whether they are the reply: so it fixes the reply.
+-- Each promise says of every number, input and place, and of all values, whether they are the reply. So it fixes the reply
+-- (VocabularyFixed, TermFixed in Laws, and the like for the other calls).
 --
 use mathlib.Core.Path.{_≡_}
 use mathlib.Core.List.{List, [], _∷_}

@@ -15,7 +15,10 @@
 --                             exactly where it accepts nothing
 --   VocabularyRefusals, TermRefusals, SituationRefusals, LinearRefusals    what is read is refused by these lines
 --   FirstGapIsExact           firstGap gives the first gap, where there is one
+--   VocabularyFixed, TermFixed, MatchFixed, PartFixed, ListFixed, PrintFixed    a promise fixes the reply and what is lent
 --   VocabularyKeeps, TermKeeps, MatchKeeps, PartKeeps, ListKeeps, PrintKeeps    what is computed keeps the promises
+--   InputsPromise v p s r     what judging the inputs of match is to give
+--   JudgeKeeps                what is computed of judging them does
 --   PartIsTable               part's span is the one that match's table gives the name
 --   valueFrom, value          the number that decimal digits stand for
 --   DecimalIsExact            a number in decimal is of digits that stand for it, with no needless zero in front
@@ -30,12 +33,12 @@ use mathlib.Core.Logic.{_↔_, _⊎_}
 use mathlib.Core.Option.{some, none}
 use Prim.Native.Nat.{ℕ, _+_, _*_, _-_, _<_, _≤_}
 use Prim.Native.Char.{code}
-use lib.ListN.{length, getD}
+use lib.ListN.{length, getD, replicate}
 use Rattle.terms.specs.Lists.{All}
 use Rattle.terms.specs.Signature.{WellFormed}
 use Rattle.terms.specs.Term.{Term, Terms, Ground, SortedAll, SortedG, Linear}
 use Rattle.terms.specs.Listing.{listing}
-use Rattle.wire.specs.Reply.{Kinded, kinded, IsBytes}
+use Rattle.wire.specs.Reply.{Reply, accepted, refused, Kinded, kinded, IsBytes}
 use Rattle.wire.specs.Vocabulary.{Vocabulary, signature, word, mapOf, InOrder, HoldsVocabulary}
 use Rattle.wire.specs.TermBytes.{nameCount, writtenMap, encodeTerm, GoodTerm, deepest, mostBytes, mostLevels, complete, asTerm}
 use Rattle.wire.specs.Refusals.{Decides}
@@ -44,14 +47,14 @@ use Rattle.wire.specs.TermLines.{TermLine}
 use Rattle.wire.specs.SituationLines.{FirstGap, SituationLine}
 use Rattle.wire.specs.PatternLines.{PatternLine}
 use Rattle.wire.specs.Checking.{VocabularyPromise, TermPromise}
-use Rattle.wire.specs.Matching.{tableLength, noSpan, spanIn, yes, MatchPromise, PartPromise}
+use Rattle.wire.specs.Matching.{Inputs, HoldsInputs, tableLength, Span, noSpan, spanIn, yes, MatchRefusal, MatchPromise, PartPromise}
 use Rattle.wire.specs.Leftovers.{HoldsPattern, entriesBytes, ListPromise}
 use Rattle.wire.specs.Text.{decimal}
 use Rattle.wire.specs.Printing.{vocabularyPart, patternPart, PrintPromise}
 use Rattle.wire.specs.Parser.{Reading, accept, refuse, got, readVocabulary, readAny}
 use Rattle.wire.specs.CheckComputed.{checkedTerm, vocabularyReply, termReply}
 use Rattle.wire.specs.SituationComputed.{someOpen, firstGap, checkedSituation}
-use Rattle.wire.specs.MatchComputed.{matched, partSpan, partOf}
+use Rattle.wire.specs.MatchComputed.{judged, clearReply, matched, partSpan, partOf}
 use Rattle.wire.specs.ListComputed.{checkedLinear, listed, readEntries}
 use Rattle.wire.specs.PrintComputed.{printedFrom, printed}
 
@@ -136,6 +139,30 @@ LinearRefusals =
 
 -- ---- promises
 
+abbrev pub VocabularyFixed : Type 0
+VocabularyFixed = (v : List ℕ) (r r′ : Reply) → VocabularyPromise v r → VocabularyPromise v r′ → r ≡ r′
+
+abbrev pub TermFixed : Type 0
+TermFixed = (v b : List ℕ) (r r′ : Reply) → TermPromise v b r → TermPromise v b r′ → r ≡ r′
+
+abbrev pub MatchFixed : Type 0
+MatchFixed =
+    (v p s before after after′ : List ℕ) (r r′ : Reply) → MatchPromise v p s before after r → MatchPromise v p s before after′ r′ →
+    (r ≡ r′) × (after ≡ after′)
+
+abbrev pub PartFixed : Type 0
+PartFixed =
+    (v p s : List ℕ) (n : ℕ) (at at′ : Span) (r r′ : List ℕ) → PartPromise v p s n at r → PartPromise v p s n at′ r′ →
+    (at ≡ at′) × (r ≡ r′)
+
+abbrev pub ListFixed : Type 0
+ListFixed =
+    (v p before after after′ : List ℕ) (r r′ : Reply) → ListPromise v p before after r → ListPromise v p before after′ r′ →
+    (r ≡ r′) × (after ≡ after′)
+
+abbrev pub PrintFixed : Type 0
+PrintFixed = (v p text text′ : List ℕ) → PrintPromise v p text → PrintPromise v p text′ → text ≡ text′
+
 abbrev pub VocabularyKeeps : Type 0
 VocabularyKeeps = (v : List ℕ) → IsBytes v → VocabularyPromise v (vocabularyReply v)
 
@@ -150,6 +177,14 @@ MatchKeeps =
 abbrev pub PartKeeps : Type 0
 PartKeeps =
     (v p s : List ℕ) (n : ℕ) → IsBytes v → IsBytes p → IsBytes s → PartPromise v p s n (partSpan v p s n) (partOf v p s n)
+
+-- A table of the right length is lent, so that line 19 does not fit.
+pub record InputsPromise (v p s : List ℕ) (r : Reply) : Type 0 where
+  pub refuses : (n i q : ℕ) → (r ≡ refused n i q) ↔ MatchRefusal v p s (replicate tableLength 0) n i q
+  pub accepts : (values : List ℕ) → (r ≡ accepted values) ↔ ((x : Inputs) × HoldsInputs v p s x × (values ≡ []))
+
+abbrev pub JudgeKeeps : Type 0
+JudgeKeeps = (v p s : List ℕ) → IsBytes v → IsBytes p → IsBytes s → InputsPromise v p s (clearReply (judged v p s))
 
 -- "the same pattern and situation and a name": what part answers stands in match's table.
 abbrev pub PartIsTable : Type 0
@@ -186,7 +221,7 @@ abbrev pub mostVocabulary : ℕ
 mostVocabulary = 962
 
 abbrev pub AcceptedIsShort : Type 0
-AcceptedIsShort = (v : List ℕ) (W : Vocabulary) → readVocabulary v ≡ accept W → length v ≤ mostVocabulary
+AcceptedIsShort = (v : List ℕ) (W : Vocabulary) → IsBytes v → HoldsVocabulary v W → length v ≤ mostVocabulary
 
 -- "so more can't alter the result"
 abbrev pub MoreAltersNothing : Type 0

@@ -50,14 +50,14 @@ pub record Entries (W : Vocabulary) (s : ℕ) (t : Term) (p : List ℕ) (n m : �
   pub written : take m after ≡ entriesBytes W (map (kinded s) entries)
   pub one : (l : List Kinded) → length l ≡ n → All (λ k. GoodTerm W (k .kind) (k .term)) l →
       take m after ≡ entriesBytes W l → l ≡ map (kinded s) entries
-  -- "are document 01's listing in its order".
+  -- Demand 3: "are document 01's listing in its order".
   pub order : entries ≡ listing (signature W) t
   -- Each is a pattern that the term check accepts, without repeated names; "An entry is never longer than the pattern."
   pub each : All (λ e. HoldsTerm W (encodeTerm W s e) s e × Linear e × (length (encodeTerm W s e) ≤ length p)) entries
-  -- "Every complete situation of the pattern's kind, however large, fits exactly one of the pattern and
+  -- Demand 3: "Every complete situation of the pattern's kind, however large, fits exactly one of the pattern and
   -- these entries, and exactly one filling turns that one into it."
   pub once : (g : Ground) → SortedG (signature W) g s → FitsExactlyOne (signature W) (t ∷ entries) s g
-  -- "For every entry there is a complete situation .. that fits this entry and neither the pattern nor any other entry".
+  -- Demand 3: "For every entry there is a complete situation .. that fits this entry and neither the pattern nor any other entry".
   pub needed : (i : ℕ) → i < length entries → Needed (signature W) t entries s i
   -- Demand 2: "The listing represents the non-instances of a pattern in Gerlach's sense".
   pub represents : Represents (signature W) s (withVariables (signature W) t s) (map (λ e. withVariables (signature W) e s) entries)
@@ -83,7 +83,7 @@ pub record ListPromise (v p before after : List ℕ) (r : Reply) : Type 0 where
       (values ≡ length (listing (signature W) t) ∷ length (listingBytes W s t) ∷ []))
   -- Demand 3, about the bytes that stand in the lent slice after the call, wherever the reply is no refusal.
   pub entries : (n m : ℕ) → r ≡ accepted (n ∷ m ∷ []) →
-      (W : Vocabulary) × (s : ℕ) × (t : Term) × HoldsPattern v p W s t × Entries W s t p n m after
+      (W : Vocabulary) (s : ℕ) (t : Term) → HoldsPattern v p W s t → Entries W s t p n m after
   -- "Bytes behind the last entry stay unchanged."
   pub behindLast : (n m : ℕ) → r ≡ accepted (n ∷ m ∷ []) → drop m after ≡ drop m before
   -- Demand 1: "a refusal changes nothing lent to the call".

@@ -7,7 +7,7 @@
 --   judgedSituation, judgedPattern, judgedVocabulary    the parts of the next
 --   judged v p s             the inputs of match, in the order in which they are judged
 --   clearReply j             the reply that says whether the inputs are in order, with no values
---   spansOf, spanTable W t g    the table of a yes
+--   spanNumbers, spanTable W t g    the table of a yes
 --   Matched                  a reply, and the table after the call
 --   verdict, matchedWith     the parts of the next
 --   matched v p s table      the reply and the table of match
@@ -60,12 +60,12 @@ clearReply (clear x) = accepted []
 clearReply (refusal n i q) = refused n i q
 
 -- "at 2n the offset .., at 2n + 1 its length", for each n of ns.
-abbrev pub spansOf : Vocabulary → Term → Ground → List ℕ → List ℕ
-spansOf W t g [] = []
-spansOf W t g (n ∷ ns) = span W t g n .offset ∷ span W t g n .bytes ∷ spansOf W t g ns
+abbrev pub spanNumbers : Vocabulary → Term → Ground → List ℕ → List ℕ
+spanNumbers W t g [] = []
+spanNumbers W t g (n ∷ ns) = span W t g n .offset ∷ span W t g n .bytes ∷ spanNumbers W t g ns
 
 abbrev pub spanTable : Vocabulary → Term → Ground → List ℕ
-spanTable W t g = spansOf W t g (range 0 nameCount)
+spanTable W t g = spanNumbers W t g (range 0 nameCount)
 
 pub record Matched : Type 0 where
   pub reply : Reply

@@ -109,6 +109,7 @@ pub record TurnsInputs (x : Inputs) (f : Filling) : Type 0 where
   pub turns : fill (x .pattern) f ≡ x .situation
 
 -- Each name of the pattern has the part that the filling f gives it, at its first occurrence; other names have 0 and 0.
+-- `long` and `first` fix the table; `named` and `absent` say what that means.
 pub record SpansOf (x : Inputs) (s : List ℕ) (f : Filling) (table : List ℕ) : Type 0 where
   pub long : length table ≡ tableLength
   pub first : (n : ℕ) → n < nameCount → spanIn table n ≡ span (x .vocabulary) (x .pattern) (x .situation) n
@@ -132,6 +133,8 @@ pub record MatchPromise (v p s before after : List ℕ) (r : Reply) : Type 0 whe
   pub refuses : (n i q : ℕ) → (r ≡ refused n i q) ↔ MatchRefusal v p s before n i q
   -- Yes or no is answered exactly where the inputs are in order and the table has 128 numbers.
   pub answered : ((r ≡ yes) ⊎ (r ≡ no)) ↔ ((x : Inputs) × HoldsInputs v p s x × (length before ≡ tableLength))
+  -- There is no other answer.
+  pub only : (values : List ℕ) → r ≡ accepted values → (r ≡ yes) ⊎ (r ≡ no)
   -- Demand 2: yes "when some filling turns the pattern into the situation, and no when there is none".
   pub fits : (x : Inputs) → HoldsInputs v p s x → length before ≡ tableLength → (r ≡ yes) ↔ FitsInputs x
   -- Demand 2: "A match agrees with Kulaš's definition of term matching". A no says that no substitution at all turns the

@@ -3,10 +3,12 @@
 --   Reply                accepted with its values, or refused with number, input and place
 --   Kinded, kinded s t   a term with its kind
 --   IsBytes l            each number of l is a byte
---   outside low high n   the number n lies outside low to high
+--   Outside low high n   the number n lies outside low to high
+--   outside low high n   the test of it
 --
 use mathlib.Core.Bool.{Bool, _||_}
 use mathlib.Core.List.{List}
+use mathlib.Core.Logic.{_⊎_}
 use Prim.Native.Nat.{ℕ, _<_}
 use lib.Dec.{ltb}
 use Rattle.terms.specs.Lists.{All}
@@ -26,6 +28,9 @@ kinded s t = record { kind = s; term = t }
 
 abbrev pub IsBytes : List ℕ → Type 0
 IsBytes l = All (λ b. b < 256) l
+
+abbrev pub Outside : ℕ → ℕ → ℕ → Type 0
+Outside low high n = (n < low) ⊎ (high < n)
 
 abbrev pub outside : ℕ → ℕ → ℕ → Bool
 outside low high n = ltb n low || ltb high n

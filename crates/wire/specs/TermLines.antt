@@ -21,7 +21,7 @@ use Rattle.terms.specs.Term.{Occurrence}
 use Rattle.wire.specs.Map.{mapBytes, mapGot, mapMissing, readMap, flags, within, Slot, slots}
 use Rattle.wire.specs.Vocabulary.{Vocabulary, word, mapOf}
 use Rattle.wire.specs.TermBytes.{nameCount, nameByte, wholeByte, leastBytes, mostBytes, mostLevels}
-use Rattle.wire.specs.VocabularyLines.{Outside}
+use Rattle.wire.specs.Reply.{Outside}
 
 pub record Due : Type 0 where
   pub sort : ℕ

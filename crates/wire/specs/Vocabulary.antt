@@ -69,7 +69,7 @@ pub record InOrder (W : Vocabulary) : Type 0 where
   pub fewWords : length (W .words) ≤ mostWords
   pub words : All (WordInOrder (W .kinds)) (W .words)
 
--- "one byte result kind, one byte place map, then one kind byte for each standing bit of the map".
+-- "one byte result kind, one byte place map, then one kind byte for each standing bit of the map, lowest bit first."
 abbrev pub encodeWord : Word → List ℕ
 encodeWord w = w .result ∷ (writeMap (w .placeMap) ++ w .kinds)
 

@@ -6,7 +6,6 @@
 --   recordAt b w              the offset of word w's record
 --   wordsOf b                 the word count
 --   KindByte b q              a record's kind byte is due at offset q
---   Outside low high n        the number n lies outside low to high
 --   VocabularyLine b n q      line n fits the bytes b at the place q
 --   VocabularyFirst v Under   a refusal of the vocabulary v, or one of those that a call gives under the vocabulary that
 --                             v writes
@@ -17,6 +16,7 @@ use mathlib.Core.Logic.{_⊎_}
 use Prim.Native.Nat.{ℕ, zero, suc, _+_, _<_, _≤_}
 use lib.ListN.{length, getD, drop}
 use Rattle.terms.specs.Inhabited.{LeastEmpty}
+use Rattle.wire.specs.Reply.{Outside}
 use Rattle.wire.specs.Map.{mapBytes, MapRead, mapGot, mapMissing, readMap, flags, ones}
 use Rattle.wire.specs.Vocabulary.{Vocabulary, signature, mostKinds, mostWords, InOrder, encodeVocabulary, HoldsVocabulary}
 use Rattle.wire.specs.Refusals.{Decides}
@@ -44,9 +44,6 @@ wordsOf b = byteAt b 1
 pub data KindByte (b : List ℕ) : ℕ → Type 0 where
   ofResult : (w : ℕ) → w < wordsOf b → KindByte b (recordAt b w)
   ofPlace : (w j : ℕ) → w < wordsOf b → j < placesOf b (recordAt b w) → KindByte b (recordAt b w + 1 + mapBytes + j)
-
-abbrev pub Outside : ℕ → ℕ → ℕ → Type 0
-Outside low high n = (n < low) ⊎ (high < n)
 
 pub data VocabularyLine (b : List ℕ) : ℕ → ℕ → Type 0 where
   -- 1. "The vocabulary has fewer than 2 bytes or a kind count outside 1 to 16 (place 0)."

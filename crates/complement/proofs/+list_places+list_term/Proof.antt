@@ -7,7 +7,7 @@ use mathlib.Core.List.{List}
 use native.Mathlib.Omega.{arith}
 use denote.Ref.{now}
 use lib.ListN.{length, set}
-use Rattle.complement.specs.Listing.{TermAt, PlacesAt}
+use Rattle.complement.specs.Entering.{TermAt, PlacesAt}
 use Rattle.complement.proofs.Places.{Reached, reached-none, copied-length, map-inside, out-length, done-inside, reached-all, is-bit, reached-clear, place-term, reached-term, both-inside}
 use Rattle.complement.proofs.Tallying.{kinds-few}
 use Rattle.complement.proofs.Terms.{Word, term-begun, term-word, name-listed, own-room, own-length, own-inside, word-places, word-listed, word-bare}

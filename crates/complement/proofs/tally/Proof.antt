@@ -4,7 +4,7 @@ use mathlib.Core.Path.{subst}
 use Prim.Native.Nat.{_-_, _<_, _≤_}
 use denote.Ref.{now}
 use native.Mathlib.Omega.{arith}
-use Rattle.complement.specs.Listing.{Tallied}
+use Rattle.complement.specs.Entering.{Tallied}
 use Rattle.complement.proofs.Tallying.{kind-low, tallied-none, tallied-few, tallied-turn}
 use Rattle.complement.proofs.tally.Statement.{statement}
 use Rattle.complement.proofs.tally.Tie as tie

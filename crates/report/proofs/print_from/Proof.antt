@@ -21,7 +21,7 @@ put-reply-requires c κs =
     let at-shared-slice-known2 = at-list .before .before .before .before in
     let at-shared-slice-known = at-shared-slice-known2 .before in
     let start = at-shared-slice-known .before in
-    (search needs, (search needs, (three-numbers (at-list .pheasantry-list .ensures), answer-room (now (start .args .vocabulary)) (now (start .args .pattern)) (λ i. at-shared-slice-known .shared-slice-known .given i .fits) (λ i. at-shared-slice-known2 .shared-slice-known2 .given i .fits) (at-list .pheasantry-list .ensures .shown) _ (start .pre))))
+    (search needs, (search needs, (three-numbers (at-list .pheasantry-list .ensures .0), answer-room (now (start .args .vocabulary)) (now (start .args .pattern)) (λ i. at-shared-slice-known .shared-slice-known .given i .fits) (λ i. at-shared-slice-known2 .shared-slice-known2 .given i .fits) (at-list .pheasantry-list .ensures .1) _ (start .pre))))
 
 same-length : tie.Need-same-length
 same-length c = search needs
@@ -32,7 +32,7 @@ returns c =
     let at-shared-slice-known2 = at-list .before .before .before .before in
     let at-shared-slice-known = at-shared-slice-known2 .before in
     let start = at-shared-slice-known .before in
-    answer-put (now (start .args .vocabulary)) (now (start .args .pattern)) (λ i. at-shared-slice-known .shared-slice-known .given i .fits) (λ i. at-shared-slice-known2 .shared-slice-known2 .given i .fits) (at-list .pheasantry-list .ensures .shown) (c .before .before .put-reply .ensures)
+    answer-put (now (start .args .vocabulary)) (now (start .args .pattern)) (λ i. at-shared-slice-known .shared-slice-known .given i .fits) (λ i. at-shared-slice-known2 .shared-slice-known2 .given i .fits) (at-list .pheasantry-list .ensures .1) (c .before .before .put-reply .ensures)
 
 pub print-from-spec : {M : Type 1} → statement M
 print-from-spec =

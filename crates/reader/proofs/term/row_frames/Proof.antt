@@ -4,7 +4,7 @@ use native.Mathlib.Omega.{arith}
 use lib.Dec.{lit<}
 use denote.Ref.{now}
 use borrow.Author.Needs.{scaled-fits}
-use Rattle.reader.specs.Complete.{RowFrames}
+use Rattle.reader.specs.FullWords.{RowFrames}
 use Rattle.reader.proofs.Full.{frames-none, frames-more, frames-all}
 use Rattle.reader.proofs.term.row_frames.Statement.{statement}
 use Rattle.reader.proofs.term.row_frames.Tie as tie

@@ -9,7 +9,7 @@ use lib.ListN.{length, getD}
 use borrow.Author.Needs.{scaled-fits}
 use borrow.Author.Tests.{not-false}
 use Rattle.signature.specs.Tables.{vocabularyIn}
-use Rattle.reader.specs.Complete.{kindsFrom, PassedFull}
+use Rattle.reader.specs.FullWords.{kindsFrom, PassedFull}
 use Rattle.reader.proofs.Tables.{few-words}
 use Rattle.reader.proofs.Complete.{FullAt, full-at, Filling, filling, passing-begins, top-slot, top-sound, turn-leave, turn-leaf, turn-branch}
 use Rattle.reader.proofs.whole.full_words.Statement.{statement}

@@ -1,4 +1,4 @@
--- Listing: what the functions that list promise each other; no public contract cites it.
+-- Entering: what the functions that list promise each other; no public contract cites it.
 --
 --   Byte b n                   n is the byte b
 --   KindsFew n results         the first n words have result kinds below 16, by the table

@@ -1,4 +1,4 @@
--- Complete: what the functions that read full words promise each other; no public contract cites it.
+-- FullWords: what the functions that read full words promise each other; no public contract cites it.
 --
 --   dueIn x, kindsFrom x     places that are due in a row, packed into a number: how many, and the offset in the
 --                            vocabulary of the first one's kind

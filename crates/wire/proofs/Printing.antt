@@ -1,4 +1,4 @@
--- Printed: what the program prints is the refusal or the listing that list's promise speaks of, and bytes beyond those taken would not change it.
+-- Printing: what the program prints is the refusal or the listing that list's promise speaks of, and bytes beyond those taken would not change it.
 use mathlib.Core.Path.{_≡_, refl, sym, ap, ap₂, _∙_, subst}
 use mathlib.Core.Bool.{Bool, true, false}
 use mathlib.Core.List.{List, [], _∷_, _++_, map, map-map}
@@ -23,7 +23,7 @@ use Rattle.wire.specs.PrintComputed.{entriesUnder, entriesWith, entriesL
 use Rattle.wire.specs.Laws.{PrintKeeps, mostVocabulary, MoreAltersNothing}
 use Rattle.wire.proofs.Cond.{cond-true}
 use Rattle.wire.proofs.VocabularyMore.{refused-alike}
-use Rattle.wire.proofs.Listed.{read-pattern, Decided, decided, list-keeps}
+use Rattle.wire.proofs.Leftovers.{read-pattern, Decided, decided, list-keeps}
 
 -- The entries that are printed are those of the pattern.
 entries-printed : (v p : List ℕ) (W : Vocabulary) (s : ℕ) (t : Term) → IsBytes v → IsBytes p → HoldsPattern v p W s t →

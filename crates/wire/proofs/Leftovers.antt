@@ -1,4 +1,4 @@
--- Listed: what is computed of list's reply and lent slice keeps what list promises.
+-- Leftovers: what is computed of list's reply and lent slice keeps what list promises.
 use mathlib.Core.Path.{_≡_, refl, sym, ap, _∙_, subst}
 use mathlib.Core.Bool.{Bool, true, false, cond}
 use mathlib.Core.List.{List, [], _∷_, _++_}
@@ -246,22 +246,13 @@ module _ (v p out : List ℕ) (bv : IsBytes v) (bp : IsBytes p) where
       ∙ ap accepted (sym e)
 
   -- Where the reply is accepted, the entries stand in front of what stood there before.
-  abbrev Written : ℕ → ℕ → Type 0
-  Written n m = (W : Vocabulary) × (s : ℕ) × (t : Term) × HoldsPattern v p W s t ×
+  written-by : (n m : ℕ) → listed v p out .reply ≡ accepted (n ∷ m ∷ []) →
+      (W : Vocabulary) (s : ℕ) (t : Term) → HoldsPattern v p W s t →
       Answer out (length (entriesOf W s t)) (listingBytes W s t) n m (listed v p out .out)
-
-  written-by : (n m : ℕ) → listed v p out .reply ≡ accepted (n ∷ m ∷ []) → Written n m
-  written-by n m e =
-      let x : Listable (n ∷ m ∷ []) = subst Decided e decided in
-      let known = pattern-listed v p out (x .0) (x .1) (x .2) bv bp (x .3) in
-      let b : List ℕ = listingBytes (x .0) (x .1) (x .2) in
-      let a = answer-of out (length (entriesOf (x .0) (x .1) (x .2))) b n m (sym (ap (λ (r : Listed). r .reply) known) ∙ e) in (
-        x .0,
-        x .1,
-        x .2,
-        x .3,
-        record { count = a .count; size = a .size; written = ap (λ (r : Listed). r .out) known ∙ a .written },
-      )
+  written-by n m e W s t h =
+      let known = pattern-listed v p out W s t bv bp h in
+      let a = answer-of out (length (entriesOf W s t)) (listingBytes W s t) n m (sym (ap (λ (r : Listed). r .reply) known) ∙ e) in
+      record { count = a .count; size = a .size; written = ap (λ (r : Listed). r .out) known ∙ a .written }
 
 -- A refusal leaves the lent slice as it was.
 refused-kept : (v p out : List ℕ) (n i q : ℕ) → listed v p out .reply ≡ refused n i q → listed v p out .out ≡ out
@@ -281,20 +272,16 @@ pub list-keeps : ListKeeps
 list-keeps v p out bv bp = record {
   refuses = λ n i q. ((λ e. subst (Decided v p out bv bp) e (decided v p out bv bp)), refused-by v p out bv bp);
   answered = λ values. ((λ e. subst (Decided v p out bv bp) e (decided v p out bv bp)), answered-by v p out bv bp values);
-  entries = λ n m e.
-      let (W, s, t, h, a) = written-by v p out bv bp n m e in
-      let b : List ℕ = listingBytes W s t in (
-        W,
-        s,
-        t,
-        h,
-        entries-kept v p W s t h n m (listed v p out .out) (a .count)
-            (let long = ap length (a .written) ∙ length-append b (drop (length b) out) in let size = a .size in omega arith)
-            (ap (take m) (a .written) ∙ take-at b (drop (length b) out) m (a .size)),
-      );
-  behindLast = λ n m e.
-      let (W, s, t, h, a) = written-by v p out bv bp n m e in
+  entries = λ n m e W s t h.
+      let a = written-by v p out bv bp n m e W s t h in
       let b : List ℕ = listingBytes W s t in
+      entries-kept v p W s t h n m (listed v p out .out) (a .count)
+      (let long = ap length (a .written) ∙ length-append b (drop (length b) out) in let size = a .size in omega arith)
+      (ap (take m) (a .written) ∙ take-at b (drop (length b) out) m (a .size));
+  behindLast = λ n m e.
+      let x : Listable v p out bv bp (n ∷ m ∷ []) = subst (Decided v p out bv bp) e (decided v p out bv bp) in
+      let a = written-by v p out bv bp n m e (x .0) (x .1) (x .2) (x .3) in
+      let b : List ℕ = listingBytes (x .0) (x .1) (x .2) in
       ap (drop m) (a .written) ∙ drop-at b (drop (length b) out) m (a .size) ∙ ap (λ k. drop k out) (a .size);
   kept = refused-kept v p out;
 }
