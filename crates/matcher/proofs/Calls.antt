@@ -6,6 +6,7 @@ use mathlib.Core.Option.{Option, some, none}
 use Prim.Native.Nat.{ℕ, _+_, _-_, _*_, _<_, _≤_}
 use native.Mathlib.Omega.{arith}
 use lib.Dec.{eqb, ltb}
+use lib.Seq.{length-take-le}
 use lib.ListN.{length, getD, take, drop, length-drop, length-append}
 use borrow.Author.Tests.{ne-eqb, eq-eqb, le-ltb, lt-ltb}
 use Rattle.terms.specs.Lists.{occurs}
@@ -25,6 +26,7 @@ use Rattle.reader.specs.Answers.{inputsRefused}
 use Rattle.reader.specs.declared.InputsRefusal.{InputsRefusal}
 use Rattle.reader.specs.declared.InputsAnswer.the-variants.{Clear, Refused}
 use Rattle.reader.proofs.Answers.{inputs-answers-differ}
+use Rattle.matcher.specs.Places.{partAt}
 use Rattle.matcher.specs.Walking.{InputsRead, found, Walked}
 
 -- ---- what the inputs are judged to be
@@ -130,18 +132,21 @@ module _ {v p s : List ℕ} (lent : Lent v p s) where
   -- ---- part
 
   module _ (n : ℕ) where
-    -- The part has these bytes, and stands at this offset of the situation.
+    -- The part has these bytes and stands at this offset of the situation, wherever that is lent.
     abbrev Stands : ℕ → List ℕ → Type 0
-    Stands from r = PartPromise v p s n (partSpan v p s n) r × (from ≡ partSpan v p s n .offset)
+    Stands from r = (base : ℕ) →
+        PartPromise v p s n (partAt base (from + base) r) r × (partAt base (from + base) r ≡ partSpan v p s n)
 
-    stands : (y : Span) → partSpan v p s n ≡ y → Stands (y .offset) (cutOut s y)
-    stands y e = (
-      subst (PartPromise v p s n (partSpan v p s n)) (ap (cutOut s) e) (part-keeps v p s n (lent .vocabulary) (lent .pattern) (lent .situation)),
-      ap (λ (z : Span). z .offset) (sym e),
-    )
+    stands : (y : Span) → partSpan v p s n ≡ y → length (cutOut s y) ≡ y .bytes → Stands (y .offset) (cutOut s y)
+    stands y e long base =
+        let same : partAt base (y .offset + base) (cutOut s y) ≡ y =
+        ap₂ {C = Span} (λ o b. record { offset = o; bytes = b }) (let z : y .offset + base - base ≡ y .offset = omega arith in z) long in (
+          subst₂ (PartPromise v p s n) (e ∙ sym same) (ap (cutOut s) e) (part-keeps v p s n (lent .vocabulary) (lent .pattern) (lent .situation)),
+          same ∙ sym e,
+        )
 
     pub part-refused : (why : InputsRefusal) → inputsRefused why ≡ clearReply (judged v p s) → Stands 0 []
-    part-refused why e = stands noSpan (reply (judged v p s) e)
+    part-refused why e = stands noSpan (reply (judged v p s) e) refl
       where
         reply : (j : Judged) → inputsRefused why ≡ clearReply j → spanWith n j ≡ noSpan
         reply (clear x) e = absurd (not-clear why e)
@@ -153,7 +158,7 @@ module _ {v p s : List ℕ} (lent : Lent v p s) where
       found-here = ap (spanWith n) (judged-clear (judged v p s) clears .1)
 
       pub part-above : 63 < n → Stands 0 []
-      part-above l = stands noSpan (found-here ∙ reply (matcher (inputs-read clears .inputs .pattern) (inputs-read clears .inputs .situation)))
+      part-above l = stands noSpan (found-here ∙ reply (matcher (inputs-read clears .inputs .pattern) (inputs-read clears .inputs .situation))) refl
         where
           reply : (o : Option Filling) → spanFound (inputs-read clears .inputs) n o ≡ noSpan
           reply none = refl
@@ -163,7 +168,7 @@ module _ {v p s : List ℕ} (lent : Lent v p s) where
               (le-ltb n nameCount (omega arith))
 
       pub part-none : {spans : List ℕ} → Walked p s spans false → Stands 0 []
-      part-none walked = stands noSpan (found-here ∙ reply (matcher (inputs-read clears .inputs .pattern) (inputs-read clears .inputs .situation)) (walked (inputs-read clears) .answer))
+      part-none walked = stands noSpan (found-here ∙ reply (matcher (inputs-read clears .inputs .pattern) (inputs-read clears .inputs .situation)) (walked (inputs-read clears) .answer)) refl
         where
           reply : (o : Option Filling) → false ≡ found o → spanFound (inputs-read clears .inputs) n o ≡ noSpan
           reply (some f) e = absurd (false≢true e)
@@ -196,8 +201,11 @@ module _ {v p s : List ℕ} (lent : Lent v p s) where
         pub part-found : (from long : ℕ) → from ≡ getD spans (2 * n) 0 → long ≡ getD spans (2 * n + 1) 0 →
             Stands from (take (from + long - from) (drop from s))
         part-found from long e l =
-            let h = stands (spanIn spans n) (found-here ∙ reply (matcher (inputs-read clears .inputs .pattern) (inputs-read clears .inputs .situation)) (walked (inputs-read clears) .answer) ∙ sym span-here) in
-            (subst (PartPromise v p s n (partSpan v p s n)) (sym (part-cut s spans n from long e l)) (h .0), e ∙ h .1)
+            let at : Span = spanIn spans n in
+            let inside = part-inside in
+            let size : length (cutOut s at) ≡ at .bytes = length-take-le (at .bytes) (drop (at .offset) s) (omega (arith, length-drop (at .offset) s)) in
+            let found = found-here ∙ reply (matcher (inputs-read clears .inputs .pattern) (inputs-read clears .inputs .situation)) (walked (inputs-read clears) .answer) ∙ sym span-here in
+            subst₂ Stands (sym e) (sym (part-cut s spans n from long e l)) (stands at found size)
           where
             go : (b : Bool) → occurs n (names (inputs-read clears .inputs .pattern)) ≡ b →
                 cond b (span (inputs-read clears .inputs .vocabulary) (inputs-read clears .inputs .pattern) (inputs-read clears .inputs .situation) n) noSpan

@@ -1,6 +1,8 @@
 -- What the contracts of match and part cite.
 --
 --   Answers    document 01's number and values for each case of match's answer
+--   Places     where in the lent situation the answer of part stands
 --   Walking    what the private functions promise each other; no public contract cites it
 pub mod Answers
+pub mod Places
 pub mod Walking

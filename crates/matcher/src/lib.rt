@@ -8,6 +8,7 @@ ghost use Rattle.matcher.specs.Walking.{Standing, ends, Covered, InputsR
 ghost use Rattle.wire.specs.Matching.{MatchPromise, PartPromise};
 ghost use Rattle.wire.specs.MatchComputed.{matched, MatchShown, partSpan};
 ghost use Rattle.matcher.specs.Answers.{matchNumbers};
+ghost use Rattle.matcher.specs.Places.{partAt};
 use reader::InputsAnswer;
 use reader::InputsRefusal;
 
@@ -226,9 +227,10 @@ pub fn match_pattern(
 // The part of the situation that a name of the pattern covers, as a part of the lent situation. It is
 // empty where match would not say yes or the name does not stand in the pattern.
 pub fn part<'a>(vocabulary: &[u8], pattern: &[u8], situation: &'a [u8], name: usize) -> &'a [u8]
-    ensures { λ r. ⌜ PartPromise (now (vocabulary .entry)) (now (pattern .entry)) (now (situation .entry)) name (partSpan (now (vocabulary .entry)) (now (pattern .entry)) (now (situation .entry)) name) (now r) ⌝ }
+    ensures { λ r. ⌜ PartPromise (now (vocabulary .entry)) (now (pattern .entry)) (now (situation .entry)) name (partAt (situation .entry .ptr .1) (r .ptr .1) (now r)) (now r) ⌝ }
     ensures { λ r. ⌜ r .ptr .0 ≡ situation .entry .ptr .0 ⌝ }
-    ensures { λ r. ⌜ r .ptr .1 ≡ situation .entry .ptr .1 + partSpan (now (vocabulary .entry)) (now (pattern .entry)) (now (situation .entry)) name .offset ⌝ }
+    ensures { λ r. ⌜ situation .entry .ptr .1 ≤ r .ptr .1 ⌝ }
+    ensures { λ r. ⌜ partAt (situation .entry .ptr .1) (r .ptr .1) (now r) ≡ partSpan (now (vocabulary .entry)) (now (pattern .entry)) (now (situation .entry)) name ⌝ }
 {
     match reader::judge(vocabulary, pattern, situation) {
         InputsAnswer::Refused(_) => {

@@ -46,8 +46,8 @@ part-result-end c = zero≤
 returns : tie.Need-returns
 returns c =
     let h = part-refused (lent (c .before .before .before)) _ (c .before .enum-told .given .0 .0) (sym (ap inputsNumbers (c .before .enum-told .given .1)) ∙ c .before .before .before .judge .ensures) in
-    let place = h .1 in
-    (h .0, (refl, omega arith))
+    let at = h (c .before .before .before .before .before .before .before .args .situation .ptr .1) in
+    (at .0, (refl, (omega arith, at .1)))
 
 enum-told-2 : tie.Need-enum-told-2
 enum-told-2 c = c .match .keys2
@@ -64,8 +64,8 @@ part-result-end-2 c = zero≤
 returns-2 : tie.Need-returns-2
 returns-2 c =
     let h = part-above (lent (c .before .before .before .before)) _ (clears (c .before .before .before .before) (c .before .before .enum-told2 .given .1)) (c .before .if1 .taken) in
-    let place = h .1 in
-    (h .0, (refl, omega arith))
+    let at = h (c .before .before .before .before .before .before .before .before .args .situation .ptr .1) in
+    (at .0, (refl, (omega arith, at .1)))
 
 walk-requires : tie.Need-walk-requires
 walk-requires c κs = (inputs-read (lent (c .before .before .before .before)) (clears (c .before .before .before .before) (c .before .before .enum-told2 .given .1)), refl)
@@ -120,8 +120,8 @@ returns-3 : tie.Need-returns-3
 returns-3 c =
     let h = part-found (lent (c .before .before .before .before .before .before .before .before .before)) (c .before .before .before .before .before .before .before .before .before .before .before .before .before .args .name) (clears (c .before .before .before .before .before .before .before .before .before) (c .before .before .before .before .before .before .before .enum-told2 .given .1)) (name-low (c .before .before .before .before .before .before .if1 .left)) (walked-as true (c .before .before .before .if2 .taken) (c .before .before .before .before .walk .ensures))
     (c .before .before .wide16 .result) (c .before .wide162 .result) (c .before .before .wide16 .ensures .0) (c .before .wide162 .ensures .0) in
-    let place = h .1 in
-    (h .0, (refl, omega arith))
+    let at = h (c .before .before .before .before .before .before .before .before .before .before .before .before .before .args .situation .ptr .1) in
+    (at .0, (refl, (omega arith, at .1)))
 
 sub-result-4 : tie.Need-sub-result-4
 sub-result-4 c = zero≤
@@ -135,8 +135,8 @@ part-result-end-4 c = zero≤
 returns-4 : tie.Need-returns-4
 returns-4 c =
     let h = part-none (lent (c .before .before .before .before .before .before .before)) _ (clears (c .before .before .before .before .before .before .before) (c .before .before .before .before .before .enum-told2 .given .1)) (walked-as false (c .before .if2 .left) (c .before .before .walk .ensures)) in
-    let place = h .1 in
-    (h .0, (refl, omega arith))
+    let at = h (c .before .before .before .before .before .before .before .before .before .before .before .args .situation .ptr .1) in
+    (at .0, (refl, (omega arith, at .1)))
 
 pub part-spec : {M : Type 1} → statement M
 part-spec =
