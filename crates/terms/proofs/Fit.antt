@@ -82,18 +82,16 @@ mutual
 pub fit-fits : (S : Signature) (p : Term) (s : ℕ) (g : Ground) → Linear p → SortedG S g s → fit p g ≡ true → Fits S p s g
 fit-fits S p s g u k e =
     let r = fit-match p g noFilling u e in
-    let q = matcher-sound S p s g (r .0) k (r .1) in
-    (r .0, q .0, q .1)
+    (r .0, matcher-sound S p s g (r .0) k (r .1))
 
 pub fit-once : (S : Signature) (p : Term) (s : ℕ) (g : Ground) → Sorted S p s → Linear p → SortedG S g s → fit p g ≡ true → FitsOnce S p s g
 fit-once S p s g h u k e =
     let r = fit-fits S p s g u k e in
     record {
       filling = r .0;
-      fills = r .1;
-      turns = r .2;
-      only = λ f i d. one-filling S p s f (r .0) h i (r .1) (d ∙ sym (r .2));
+      turns = r .1;
+      only = λ f (i, d). one-filling S p s f (r .0) h i (r .1 .0) (d ∙ sym (r .1 .1));
     }
 
 pub fits-fit : (S : Signature) (p : Term) (s : ℕ) (g : Ground) → Fits S p s g → fit p g ≡ true
-fits-fit S p s g (f, h, e) = ap (fit p) (sym e) ∙ fit-fill p (f .named) (f .opened)
+fits-fit S p s g (f, (h, e)) = ap (fit p) (sym e) ∙ fit-fill p (f .named) (f .opened)

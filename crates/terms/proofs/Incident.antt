@@ -59,8 +59,7 @@ incident-sorted = omega arith
 incident-third : Fits A (getD (withEntries A p) 3 any) 0 incident
 incident-third =
     let entry = entries-are-linear-patterns A p 0 p-sorted p-linear .1 .1 .0 in
-    let r = matcher-is-exact A (getD (withEntries A p) 3 any) 0 incident noFilling (entry .0) incident-sorted .0 refl in
-    (noFilling, r .0, r .1)
+    (noFilling, matcher-is-exact A (getD (withEntries A p) 3 any) 0 incident noFilling (entry .0) incident-sorted .0 refl)
 
 incident-only-third : (j : ℕ) → j < 4 → Fits A (getD (withEntries A p) j any) 0 incident → j ≡ 3
 incident-only-third j b h =

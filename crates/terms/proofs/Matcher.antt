@@ -13,7 +13,7 @@ use Rattle.terms.specs.Lists.{occurs, distinct}
 use Rattle.terms.specs.Signature.{Signature}
 use Rattle.terms.specs.Term.{Term, any, var, app, Terms, nil, cons, Ground, gapp, Grounds, gnil, gcons, SortedG, Sorted, names, namesAll, openSorts, openings, openingsAll}
 use Rattle.terms.specs.Matcher.{same, withOpen, withName, matchName, matchFrom, matchAll, matcher, noFilling, MatcherIsExact}
-use Rattle.terms.specs.Filling.{Binding, Filling, valueOf, fillFrom, fillAll, fill, SortedEach, IsFilling}
+use Rattle.terms.specs.Filling.{Binding, Filling, valueOf, fillFrom, fillAll, fill, SortedEach, IsFilling, TurnsInto}
 use Rattle.terms.proofs.Bools.{eqb-refl}
 use Rattle.terms.proofs.Distinct.{addName, addNames, add-names-append, add-names-none, none-twice-distinct}
 use Rattle.terms.proofs.Term.{same-true, same-refl, length-open-sorts}
@@ -229,7 +229,7 @@ mutual
       (λ h a. on-some-map _ _ (matchAll ts gs h) (λ k b. found-cons t ts g gs f h k a b) (found-all ts gs h))
 
 pub matcher-sound :
-    (S : Signature) (p : Term) (s : ℕ) (g : Ground) (f : Filling) → SortedG S g s → matcher p g ≡ some f → IsFilling S p s f × (fill p f ≡ g)
+    (S : Signature) (p : Term) (s : ℕ) (g : Ground) (f : Filling) → SortedG S g s → matcher p g ≡ some f → TurnsInto S p s f g
 matcher-sound S p s g f sorted e = (record { keys = a .keys ∙ add-names-none (names p); bound = bound; placed = placed }, filled)
   where
     a : FoundTerm p g noFilling f

@@ -32,7 +32,7 @@ module _ (S : Signature) (p : Term) (s : ℕ) (sorted : Sorted S p s) (linear : 
   -- What is no instance of the pattern is one of the entry that Partition finds.
   some-entry : (g : Ground) → SortedG S g s → (Instance S (withVariables S p s) (asTm g) → ⊥) →
       (b : Tm) × List·Memᴰ b (map (λ e. withVariables S e s) (listing S p)) × Instance S b (asTm g)
-  some-entry g k not-instance = let r = partition S p s sorted linear g k in go (r .index) (r .below) (r .once .filling, r .once .fills, r .once .turns)
+  some-entry g k not-instance = let r = partition S p s sorted linear g k in go (r .index) (r .below) (r .once .filling, r .once .turns)
     where
       go : (i : ℕ) → i < length (withEntries S p) → Fits S (getD (withEntries S p) i any) s g →
           (b : Tm) × List·Memᴰ b (map (λ e. withVariables S e s) (listing S p)) × Instance S b (asTm g)

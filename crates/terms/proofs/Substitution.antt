@@ -108,7 +108,7 @@ mutual
       (carry-fill-all S f ts ks (i + openings t) (h .1) ∙ ap (λ gs. asTms (fillAll (f .named) ts gs)) (sym (drop-drop (openings t) i (f .opened))))
 
 fits-instance : (S : Signature) (p : Term) (s : ℕ) (g : Ground) → WellSorted S p s → Fits S p s g → Instance S (withVariables S p s) (asTm g)
-fits-instance S p s g w (f, h, e) =
+fits-instance S p s g w (f, (h, e)) =
     instance-by S (withVariables S p s) (asTm g) (valueBy f)
     (all-vars (λ x. SortedT S (valueBy f x) (sortOf x)) S p s 0 (w .sorted) bound placed)
     (carry-fill S f p s 0 (w .sorted) ∙ ap asTm e)
@@ -220,7 +220,7 @@ module _ (S : Signature) (p : Term) (s : ℕ) (g : Ground) (w : WellSorted S p s
       agree = all-vars (λ x. valueBy f x ≡ σ .value x) S p s 0 (w .sorted) named placed
 
   instance-fits : Fits S p s g
-  instance-fits = let r = each-choice-has-a-filling S p s (w .sorted) chosenName chosenPlace bound placed in (r .0, r .1, gives-fills (r .0) (r .2))
+  instance-fits = let r = each-choice-has-a-filling S p s (w .sorted) chosenName chosenPlace bound placed in (r .0, (r .1, gives-fills (r .0) (r .2)))
     where
       bound : All (λ o. SortedG S (chosenName (o .name)) (o .sort)) (occurrences S p s)
       bound = all-implies (λ o. asTm (chosenName (o .name)) ≡ σ .value (name (o .name) (o .sort))) (λ o. SortedG S (chosenName (o .name)) (o .sort))

@@ -7,6 +7,7 @@
 --   fill p f                the filling f carried out on p
 --   SortedEach S gs ks      the ground terms gs have the sorts ks, one each
 --   IsFilling S p s f       f is a filling of the pattern p of sort s
+--   TurnsInto S p s f g     f is a filling of p, and turns it into g
 --   Fits S p s g            some filling turns p into g (document 01: g fits p)
 --   FitsOnce S p s g        exactly one filling turns p into g
 --
@@ -63,13 +64,16 @@ pub record IsFilling (S : Signature) (p : Term) (s : ℕ) (f : Filling) : Type 0
   pub bound : All (λ o. SortedG S (valueOf (f .named) (o .name)) (o .sort)) (occurrences S p s)
   pub placed : SortedEach S (f .opened) (openSorts S p s)
 
+-- The filling f of p, carried out, gives g.
+abbrev pub TurnsInto : Signature → Term → ℕ → Filling → Ground → Type 0
+TurnsInto S p s f g = IsFilling S p s f × (fill p f ≡ g)
+
 -- Document 01: "A complete situation fits a pattern .. when some filling turns it into that situation."
 abbrev pub Fits : Signature → Term → ℕ → Ground → Type 0
-Fits S p s g = (f : Filling) × IsFilling S p s f × (fill p f ≡ g)
+Fits S p s g = (f : Filling) × TurnsInto S p s f g
 
 -- A filling that turns p into g, and every filling that does is that one.
 pub record FitsOnce (S : Signature) (p : Term) (s : ℕ) (g : Ground) : Type 0 where
   pub filling : Filling
-  pub fills : IsFilling S p s filling
-  pub turns : fill p filling ≡ g
-  pub only : (f : Filling) → IsFilling S p s f → fill p f ≡ g → f ≡ filling
+  pub turns : TurnsInto S p s filling g
+  pub only : (f : Filling) → TurnsInto S p s f g → f ≡ filling

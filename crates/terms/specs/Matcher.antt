@@ -21,7 +21,7 @@ use lib.Dec.{eqb}
 use Rattle.terms.specs.Lists.{occurs}
 use Rattle.terms.specs.Signature.{Signature}
 use Rattle.terms.specs.Term.{Term, any, var, app, Terms, nil, cons, Ground, gapp, Grounds, gnil, gcons, SortedG, Sorted}
-use Rattle.terms.specs.Filling.{Filling, valueOf, fill, IsFilling}
+use Rattle.terms.specs.Filling.{Filling, valueOf, TurnsInto}
 
 abbrev mutual
   pub same : Ground → Ground → Bool
@@ -68,4 +68,4 @@ matcher p g = matchFrom p g noFilling
 abbrev pub MatcherIsExact : Type 0
 MatcherIsExact =
     (S : Signature) (p : Term) (s : ℕ) (g : Ground) (f : Filling) → Sorted S p s → SortedG S g s →
-    (matcher p g ≡ some f) ↔ (IsFilling S p s f × (fill p f ≡ g))
+    (matcher p g ≡ some f) ↔ TurnsInto S p s f g

@@ -12,7 +12,7 @@ use Rattle.terms.specs.Listing.{listing}
 use Rattle.wire.specs.Reply.{Reply, accepted, refused, kinded}
 use Rattle.wire.specs.Vocabulary.{Vocabulary, signature}
 use Rattle.wire.specs.TermBytes.{nameCount, encodeAt, asTerm}
-use Rattle.wire.specs.Matching.{tableLength, Span, noSpan, spanIn, cutOut, yes, TurnsInputs, MatchPromise, PartPromise}
+use Rattle.wire.specs.Matching.{tableLength, Span, noSpan, spanIn, cutOut, yes, MatchPromise, PartPromise}
 use Rattle.wire.specs.Leftovers.{entriesBytes, listingBytes, ListPromise}
 use Rattle.wire.specs.Laws.{VocabularyFixed, TermFixed, MatchFixed, PartFixed, ListFixed, PrintFixed}
 use Rattle.wire.proofs.Matching.{not-accepted, no-not-yes}
@@ -60,8 +60,7 @@ module _ (v p s before after after′ : List ℕ) where
   match-yes : (r : Reply) → MatchPromise v p s before after r → MatchPromise v p s before after′ r → r ≡ yes → after ≡ after′
   match-yes r m m′ e =
       let (x, h, l) = m .answered .0 (inl e) in
-      let (f, i, t) = m .fits x h l .0 e in
-      let turns : TurnsInputs x f = record { filling = i; turns = t } in
+      let (f, turns) = m .fits x h l .0 e in
       let u = m .parts x h e f turns in
       let u′ = m′ .parts x h e f turns in
       table-same after after′ (u .long) (u′ .long) (λ n k. u .first n k ∙ sym (u′ .first n k))
@@ -87,7 +86,7 @@ not-nil W (gapp f gs) e = cons-ne-nil f _ e
 part-empty : (v p s : List ℕ) (n : ℕ) (at : Span) → PartPromise v p s n at [] → at ≡ noSpan
 part-empty v p s n at m =
     m .empty
-    (inl (λ x h o (f, i, e). not-nil (x .vocabulary) (valueOf (f .named) n) (sym (m .value x h o f (record { filling = i; turns = e })))))
+    (inl (λ x h o (f, turns). not-nil (x .vocabulary) (valueOf (f .named) n) (sym (m .value x h o f turns))))
 
 part-place : (v p s : List ℕ) (n : ℕ) (at at′ : Span) (r r′ : List ℕ) → PartPromise v p s n at r → PartPromise v p s n at′ r′ → at ≡ at′
 part-place v p s n at at′ r r′ m m′ = elim (m .emptyOrCovered) [

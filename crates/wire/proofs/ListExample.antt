@@ -58,8 +58,7 @@ up-full-sorted = omega arith
 
 up-full-fits : Fits (signature W) upFull 0 incident
 up-full-fits =
-    let r = matcher-is-exact (signature W) upFull 0 incident noFilling up-full-sorted incident-sorted .0 refl in
-    (noFilling, r .0, r .1)
+    (noFilling, matcher-is-exact (signature W) upFull 0 incident noFilling up-full-sorted incident-sorted .0 refl)
 
 -- The promise at 15 lent bytes, whatever they are.
 module _ (before after : List ℕ) (r : Reply) (fifteen : length before ≡ 15) (m : ListPromise A waitUpFree before after r) where

@@ -64,12 +64,11 @@ held-b = clear-is-held C p (s 1) (inputs 1) C-bytes p-bytes (s-bytes 1 (omega ar
 -- The matcher finds a filling for pair(a, a), and none for pair(a, b).
 fits-a : Fits (signature W) pattern 0 (pairWith 0)
 fits-a = let f : Filling = record { named = record { name = 0; value = gapp 0 gnil } ∷ []; opened = [] } in
-    let h = matcher-is-exact (signature W) pattern 0 (pairWith 0) f (held-a .pattern .good .sorted .sorted) (omega arith) .0 refl in
-    (f, h .0, h .1)
+    (f, matcher-is-exact (signature W) pattern 0 (pairWith 0) f (held-a .pattern .good .sorted .sorted) (omega arith) .0 refl)
 
 fits-b : Fits (signature W) pattern 0 (pairWith 1) → ⊥
-fits-b (f, i, e) =
-    let found = matcher-is-exact (signature W) pattern 0 (pairWith 1) f (held-b .pattern .good .sorted .sorted) (omega arith) .1 (i, e) in
+fits-b (f, turns) =
+    let found = matcher-is-exact (signature W) pattern 0 (pairWith 1) f (held-b .pattern .good .sorted .sorted) (omega arith) .1 turns in
     Option·none-ne-some f found
 
 module _ (after : List ℕ) (r : Reply) where

@@ -91,25 +91,19 @@ module _ (v p s : List ℕ) (x : Inputs) (held : HoldsInputs v p s x) where
   situation-sorted : SortedG (signature (x .vocabulary)) (x .situation) (x .kind)
   situation-sorted = sorted-ground (signature (x .vocabulary)) (x .situation) (x .kind) (held .situation .good .sorted .sorted)
 
-  found-fills : (f : Filling) → matcher (x .pattern) (x .situation) ≡ some f → TurnsInputs x f
-  found-fills f e =
-      let r = matcher-is-exact (signature (x .vocabulary)) (x .pattern) (x .kind) (x .situation) f (held .pattern .good .sorted .sorted) situation-sorted .0 e in
-      record { filling = r .0; turns = r .1 }
-
-  fills-found : (f : Filling) → TurnsInputs x f → matcher (x .pattern) (x .situation) ≡ some f
-  fills-found f h =
-      matcher-is-exact (signature (x .vocabulary)) (x .pattern) (x .kind) (x .situation) f (held .pattern .good .sorted .sorted) situation-sorted .1
-      (h .filling, h .turns)
+  found-turns : (f : Filling) → (matcher (x .pattern) (x .situation) ≡ some f) ↔ TurnsInputs x f
+  found-turns f =
+      matcher-is-exact (signature (x .vocabulary)) (x .pattern) (x .kind) (x .situation) f (held .pattern .good .sorted .sorted) situation-sorted
 
   -- Yes exactly where there is a filling.
   verdict-fits : (table : List ℕ) → (verdict table x (matcher (x .pattern) (x .situation)) .reply ≡ yes) ↔ FitsInputs x
   verdict-fits table = go (matcher (x .pattern) (x .situation)) refl
     where
       go : (o : Option Filling) → matcher (x .pattern) (x .situation) ≡ o → (verdict table x o .reply ≡ yes) ↔ FitsInputs x
-      go (some f) e = let h = found-fills f e in ((λ q. (f, h .filling, h .turns)), (λ q. refl))
+      go (some f) e = ((λ q. (f, found-turns f .0 e)), (λ q. refl))
       go none e = (
         (λ q. absurd (no-not-yes q)),
-        (λ h. absurd (Option·none-ne-some (h .0) (sym e ∙ fills-found (h .0) (record { filling = h .1; turns = h .2 })))),
+        (λ (f, turns). absurd (Option·none-ne-some f (sym e ∙ found-turns f .1 turns))),
       )
 
   -- The situation's term begins behind its kind byte.
@@ -127,8 +121,8 @@ module _ (v p s : List ℕ) (x : Inputs) (held : HoldsInputs v p s x) where
         cutOut s (span (x .vocabulary) (x .pattern) (x .situation) n) ≡ encodeAt (x .vocabulary) (asTerm (valueOf (f .named) n))
     part-bytes n o =
         let covered = span-value (x .vocabulary) (x .pattern) (f .named) (f .opened) n 1 s [] o
-        (situation-stands ∙ ap (λ g. encodeAt (x .vocabulary) (asTerm g) ++ []) (sym (h .turns))) in
-        ap (λ g. cutOut s (span (x .vocabulary) (x .pattern) g n)) (sym (h .turns))
+        (situation-stands ∙ ap (λ g. encodeAt (x .vocabulary) (asTerm g) ++ []) (sym (h .1))) in
+        ap (λ g. cutOut s (span (x .vocabulary) (x .pattern) g n)) (sym (h .1))
         ∙ ap (λ y. cutOut s (orNoSpan y)) (covered .1)
         ∙ covers-cut (x .vocabulary) s (covered .0) (valueOf (f .named) n) (covered .2)
 
@@ -145,7 +139,7 @@ module _ (v p s : List ℕ) (x : Inputs) (held : HoldsInputs v p s x) where
     part-covered : (n : ℕ) → occurs n (names (x .pattern)) ≡ true →
         spanFound x n (matcher (x .pattern) (x .situation)) ≡ span (x .vocabulary) (x .pattern) (x .situation) n
     part-covered n o =
-        ap (spanFound x n) (fills-found f h)
+        ap (spanFound x n) (found-turns f .1 h)
         ∙ cond-true (ltb n nameCount && occurs n (names (x .pattern))) _ _
         (and-both (ltb n nameCount) (occurs n (names (x .pattern))) (lt-ltb n nameCount (name-low n o)) o)
 
@@ -170,7 +164,7 @@ match-keeps v p s table bv bp bs = record {
       let l = answered-clear table (judged v p s) (inl e) .2 in
       subst (SpansOf x s f)
       (sym (ap (λ m. m .table) (known x held l)
-      ∙ ap (λ o. verdict table x o .table) (fills-found v p s x held f h)))
+      ∙ ap (λ o. verdict table x o .table) (found-turns v p s x held f .1 h)))
       (table-parts v p s x held f h);
   kept = λ not. go not (yes-or-kept v p s table);
 }
@@ -213,11 +207,11 @@ module _ (v p s : List ℕ) (n : ℕ) (bv : IsBytes v) (bp : IsBytes p) (bs : Is
       go false q = inl refl
       go true q =
           let o = and-parts (ltb n nameCount) (occurs n (names (x .pattern))) q .1 in
-          let h = found-fills v p s x held f e in
-          let part = part-bytes v p s x held f h n o in
+          let turns = found-turns v p s x held f .0 e in
+          let part = part-bytes v p s x held f turns n o in
           inr (
             rw part (size-least (x .vocabulary) (valueOf (f .named) n)),
-            (x, held, o, (f, h .filling, h .turns)),
+            (x, held, o, (f, turns)),
           )
 
   found-empty : Uncovered → (x : Inputs) → HoldsInputs v p s x → (o : Option Filling) → matcher (x .pattern) (x .situation) ≡ o → spanFound x n o ≡ noSpan
@@ -228,17 +222,14 @@ module _ (v p s : List ℕ) (n : ℕ) (bv : IsBytes v) (bp : IsBytes p) (bs : Is
           cond c (span (x .vocabulary) (x .pattern) (x .situation) n) noSpan ≡ noSpan
       go false q h = refl
       go true q (inl none-fits) =
-          let h = found-fills v p s x held f e in
-          absurd (none-fits x held (and-parts (ltb n nameCount) (occurs n (names (x .pattern))) q .1) (f, h .filling, h .turns))
+          absurd (none-fits x held (and-parts (ltb n nameCount) (occurs n (names (x .pattern))) q .1) (f, found-turns v p s x held f .0 e))
       go true q (inr high) =
           absurd (omega (arith, high, ltb-true n nameCount (and-parts (ltb n nameCount) (occurs n (names (x .pattern))) q .0)))
 
 pub part-keeps : PartKeeps
 part-keeps v p s n bv bp bs = record {
   cut = refl;
-  covered = λ x held o fits.
-      part-at v p s n bv bp bs x held
-      ∙ part-covered v p s x held (fits .0) (record { filling = fits .1; turns = fits .2 }) n o;
+  covered = λ x held o (f, turns). part-at v p s n bv bp bs x held ∙ part-covered v p s x held f turns n o;
   value = λ x held o f h.
       ap (cutOut s) (part-at v p s n bv bp bs x held ∙ part-covered v p s x held f h n o) ∙ part-bytes v p s x held f h n o;
   empty = λ u. empty u (judged v p s) refl;

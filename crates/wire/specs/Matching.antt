@@ -28,7 +28,7 @@ use lib.Dec.{eqb}
 use lib.ListN.{length, getD, take, drop}
 use Rattle.terms.specs.Lists.{occurs, orElse}
 use Rattle.terms.specs.Term.{Term, any, var, app, Terms, nil, cons, Ground, gapp, Grounds, gnil, gcons, names}
-use Rattle.terms.specs.Filling.{Filling, valueOf, fill, IsFilling, Fits}
+use Rattle.terms.specs.Filling.{Filling, valueOf, TurnsInto, Fits}
 use Rattle.terms.specs.Substitution.{Matches, asTm, withVariables}
 use Rattle.wire.specs.Reply.{Reply, accepted, refused}
 use Rattle.wire.specs.Map.{mapBytes}
@@ -104,9 +104,8 @@ no = accepted (0 ∷ [])
 abbrev pub FitsInputs : Inputs → Type 0
 FitsInputs x = Fits (signature (x .vocabulary)) (x .pattern) (x .kind) (x .situation)
 
-pub record TurnsInputs (x : Inputs) (f : Filling) : Type 0 where
-  pub filling : IsFilling (signature (x .vocabulary)) (x .pattern) (x .kind) f
-  pub turns : fill (x .pattern) f ≡ x .situation
+abbrev pub TurnsInputs : Inputs → Filling → Type 0
+TurnsInputs x f = TurnsInto (signature (x .vocabulary)) (x .pattern) (x .kind) f (x .situation)
 
 -- Each name of the pattern has the part that the filling f gives it, at its first occurrence; other names have 0 and 0.
 -- `long` and `first` fix the table; `named` and `absent` say what that means.
