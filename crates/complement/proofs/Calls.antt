@@ -5,11 +5,12 @@ use Prim.Native.Nat.{ℕ, _<_, _≤_}
 use native.Mathlib.Omega.{arith}
 use lib.ListN.{length, getD, drop, length-map, List·getD-append, List·getD-map}
 use Rattle.wire.specs.Reply.{Reply, accepted, refused, IsBytes, Kinded, kinded}
+use Rattle.wire.specs.Effect.{Effect, HasEffect}
 use Rattle.wire.specs.Parser.{Reading, accept, refuse, readVocabulary}
 use Rattle.wire.specs.CheckComputed.{replyOf, checkedTerm, termValues, termReplyUnder, termReply}
 use Rattle.wire.specs.Vocabulary.{Word, Vocabulary, word, noWord, HoldsVocabulary}
 use Rattle.wire.specs.VocabularyLines.{byteAt}
-use Rattle.wire.specs.ListComputed.{Listed, repeatedIn, linearOf, linearIn, listedInto, listedPattern, listedVocabulary, listed, ListShown}
+use Rattle.wire.specs.ListComputed.{repeatedIn, linearOf, linearIn, listedInto, listedPattern, listedVocabulary, listed}
 use Rattle.wire.specs.PatternLines.{sightings}
 use Rattle.wire.specs.Leftovers.{entriesOf, listingBytes, ListPromise}
 use Rattle.wire.proofs.Bytes.{bytes-of}
@@ -45,19 +46,19 @@ module _ {p : List ℕ} {words : ℕ} {results : List ℕ} (h : Patterned p word
   judged r e = ap (λ o. listedPattern (h .vocabulary) before (linearOf (kinded (h .kind) (h .term)) o)) (sym (repeats r e))
 
   pub pattern-repeated : (r : Repeat) → repeatOf r ≡ repeatedIn [] (sightingsIn words 1 p 0) → (q : ℕ) → r ≡ At q →
-      ListShown (listedPattern (h .vocabulary) before (linearIn (h .vocabulary) (accept (kinded (h .kind) (h .term))))) (refused 18 1 q) before
+      HasEffect (listedPattern (h .vocabulary) before (linearIn (h .vocabulary) (accept (kinded (h .kind) (h .term))))) (refused 18 1 q) before
   pattern-repeated r e q f =
       let g = judged r e ∙ ap (λ r. listedPattern (h .vocabulary) before (linearOf (kinded (h .kind) (h .term)) (repeatOf r))) f in
-      record { reply = sym (ap (λ (l : Listed). l .reply) g); out = sym (ap (λ (l : Listed). l .out) g) }
+      record { reply = sym (ap (λ (l : Effect). l .reply) g); after = sym (ap (λ (l : Effect). l .after) g) }
 
   pub pattern-linear : (r : Repeat) → repeatOf r ≡ repeatedIn [] (sightingsIn words 1 p 0) → r ≡ Nothing → {reply : Reply} {after : List ℕ} →
-      ListShown
+      HasEffect
       (listedInto before (length (entriesOf (h .vocabulary) (h .kind) (h .term)))
       (listingBytes (h .vocabulary) (h .kind) (h .term))) reply after →
-      ListShown (listedPattern (h .vocabulary) before (linearIn (h .vocabulary) (accept (kinded (h .kind) (h .term))))) reply after
+      HasEffect (listedPattern (h .vocabulary) before (linearIn (h .vocabulary) (accept (kinded (h .kind) (h .term))))) reply after
   pattern-linear r e f {reply} {after} s =
       let g = judged r e ∙ ap (λ r. listedPattern (h .vocabulary) before (linearOf (kinded (h .kind) (h .term)) (repeatOf r))) f in
-      subst (λ l. ListShown l reply after) (sym g) s
+      subst (λ l. HasEffect l reply after) (sym g) s
 
 -- ---- refusals of the vocabulary and of the pattern
 
@@ -85,15 +86,15 @@ term-refuses (T.StrayBit q) = tt
 term-refuses (T.Continues q) = tt
 
 -- Where the check of the term refuses, so does list, in the same way.
-refused-listed : (v p before : List ℕ) (r : Reply) → Refuses r → r ≡ termReply v p → ListShown (listed v p before) r before
+refused-listed : (v p before : List ℕ) (r : Reply) → Refuses r → r ≡ termReply v p → HasEffect (listed v p before) r before
 refused-listed v p before r k e = vocabulary (readVocabulary v) e
   where
-    pattern : (W : Vocabulary) (x : Reading Kinded) → r ≡ replyOf 1 termValues x → ListShown (listedPattern W before (linearIn W x)) r before
-    pattern W (refuse n q) e = record { reply = e; out = refl }
+    pattern : (W : Vocabulary) (x : Reading Kinded) → r ≡ replyOf 1 termValues x → HasEffect (listedPattern W before (linearIn W x)) r before
+    pattern W (refuse n q) e = record { reply = e; after = refl }
     pattern W (accept x) e = absurd (subst Refuses e k)
 
-    vocabulary : (x : Reading Vocabulary) → r ≡ termReplyUnder p x → ListShown (listedVocabulary p before x) r before
-    vocabulary (refuse n q) e = record { reply = e; out = refl }
+    vocabulary : (x : Reading Vocabulary) → r ≡ termReplyUnder p x → HasEffect (listedVocabulary p before x) r before
+    vocabulary (refuse n q) e = record { reply = e; after = refl }
     vocabulary (accept W) e = pattern W (checkedTerm W p) e
 
 -- ---- the whole call
@@ -107,12 +108,12 @@ module _ (v p before : List ℕ) (vocabularyBytes : (i : ℕ) → getD v i 0 < 2
 
   -- What list ensures of a reply and the lent slice.
   abbrev Ensured : Reply → List ℕ → Type 0
-  Ensured r after = ListPromise v p before after r × ListShown (listed v p before) r after
+  Ensured r after = ListPromise v p before after r × HasEffect (listed v p before) r after
 
-  promised : {r : Reply} {after : List ℕ} → ListShown (listed v p before) r after → Ensured r after
+  promised : {r : Reply} {after : List ℕ} → HasEffect (listed v p before) r after → Ensured r after
   promised {r} {after} s = (
     subst (λ r. ListPromise v p before after r) (sym (s .reply))
-        (subst (λ a. ListPromise v p before a (listed v p before .reply)) (sym (s .out)) (list-keeps v p before bv bp)),
+        (subst (λ a. ListPromise v p before a (listed v p before .reply)) (sym (s .after)) (list-keeps v p before bv bp)),
     s,
   )
 
@@ -182,5 +183,5 @@ module _ (v p before : List ℕ) (vocabularyBytes : (i : ℕ) → getD v i 0 < 2
       unfolding patterned
       list-pattern {r} {after} s =
           promised
-          (subst (λ l. ListShown l r after)
+          (subst (λ l. HasEffect l r after)
           (sym (ap (listedVocabulary p before) read ∙ ap (λ x. listedPattern W before (linearIn W x)) (found .1))) (s patterned))

@@ -14,7 +14,8 @@ use Rattle.wire.specs.Reply.{accepted, refused}
 use Rattle.wire.specs.Map.{isOpen}
 use Rattle.wire.specs.Vocabulary.{Vocabulary}
 use Rattle.wire.specs.TermBytes.{encodeAt, encodeRoot, levels, mostBytes}
-use Rattle.wire.specs.ListComputed.{Listed, listedInto, ListShown}
+use Rattle.wire.specs.Effect.{Effect, HasEffect}
+use Rattle.wire.specs.ListComputed.{listedInto}
 use Rattle.wire.specs.Leftovers.{entriesBytes, entriesOf}
 use Rattle.wire.proofs.Cond.{cond-true, cond-false}
 use Rattle.wire.proofs.EntryBytes.{entries-bytes}
@@ -26,23 +27,23 @@ use Rattle.complement.proofs.Tallying.{kinds-few}
 -- ---- what listedInto shows
 
 module _ (before : List ℕ) (n : ℕ) (b : List ℕ) (entries bytes : ℕ) (counts : entries ≡ n) (sizes : bytes ≡ length b) where
-  pub shows-no-room : length before < bytes → ListShown (listedInto before n b) (refused 20 3 bytes) before
+  pub shows-no-room : length before < bytes → HasEffect (listedInto before n b) (refused 20 3 bytes) before
   shows-no-room h =
-      let e : listedInto before n b ≡ record { reply = refused 20 3 (length b); out = before } =
+      let e : listedInto before n b ≡ record { reply = refused 20 3 (length b); after = before } =
       cond-false (leb (length b) (length before)) _ _ (lt-leb (length b) (length before) (omega arith)) in
       record {
-        reply = ap (refused 20 3) sizes ∙ sym (ap (λ (l : Listed). l .reply) e);
-        out = sym (ap (λ (l : Listed). l .out) e);
+        reply = ap (refused 20 3) sizes ∙ sym (ap (λ (l : Effect). l .reply) e);
+        after = sym (ap (λ (l : Effect). l .after) e);
       }
 
   pub shows-written : bytes ≤ length before → {after : List ℕ} → after ≡ b ++ drop (length b) before →
-      ListShown (listedInto before n b) (accepted (entries ∷ bytes ∷ [])) after
+      HasEffect (listedInto before n b) (accepted (entries ∷ bytes ∷ [])) after
   shows-written h {after} a =
-      let e : listedInto before n b ≡ record { reply = accepted (n ∷ length b ∷ []); out = b ++ drop (length b) before } =
+      let e : listedInto before n b ≡ record { reply = accepted (n ∷ length b ∷ []); after = b ++ drop (length b) before } =
       cond-true (leb (length b) (length before)) _ _ (le-leb (length b) (length before) (omega arith)) in
       record {
-        reply = ap₂ (λ x y. accepted (x ∷ y ∷ [])) counts sizes ∙ sym (ap (λ (l : Listed). l .reply) e);
-        out = a ∙ sym (ap (λ (l : Listed). l .out) e);
+        reply = ap₂ (λ x y. accepted (x ∷ y ∷ [])) counts sizes ∙ sym (ap (λ (l : Effect). l .reply) e);
+        after = a ∙ sym (ap (λ (l : Effect). l .after) e);
       }
 
 nothing : (b : List ℕ) → length b ≡ 0 → b ≡ []
@@ -132,10 +133,10 @@ module _ {p : List ℕ} {words : ℕ} {results : List ℕ} (h : Patterned p word
 
   -- The three answers.
   module _ {entries bytes : ℕ} (m : Measures p words results entries bytes) (before : List ℕ) where
-    pub linear-no-room : length before < bytes → ListShown (listedInto before entryCount entryBytes) (refused 20 3 bytes) before
+    pub linear-no-room : length before < bytes → HasEffect (listedInto before entryCount entryBytes) (refused 20 3 bytes) before
     linear-no-room = shows-no-room before entryCount entryBytes entries bytes (count-is m) (size-is m)
 
-    pub linear-none : bytes ≤ length before → bytes ≡ 0 → ListShown (listedInto before entryCount entryBytes) (accepted (entries ∷ bytes ∷ [])) before
+    pub linear-none : bytes ≤ length before → bytes ≡ 0 → HasEffect (listedInto before entryCount entryBytes) (accepted (entries ∷ bytes ∷ [])) before
     linear-none k e =
         shows-written before entryCount entryBytes entries bytes (count-is m) (size-is m) k
         (sym (ap (λ b. b ++ drop (length b) before) (nothing entryBytes (sym (size-is m) ∙ e))))
@@ -144,5 +145,5 @@ module _ {p : List ℕ} {words : ℕ} {results : List ℕ} (h : Patterned p word
     linear-room k e = (omega (arith, size-is m), omega (arith, size-is m))
 
     pub linear-written : bytes ≤ length before → {after : List ℕ} → after ≡ entryBytes ++ drop (length entryBytes) before →
-        ListShown (listedInto before entryCount entryBytes) (accepted (entries ∷ bytes ∷ [])) after
+        HasEffect (listedInto before entryCount entryBytes) (accepted (entries ∷ bytes ∷ [])) after
     linear-written k = shows-written before entryCount entryBytes entries bytes (count-is m) (size-is m) k

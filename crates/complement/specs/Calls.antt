@@ -13,10 +13,11 @@ use Prim.Native.Nat.{ℕ, _<_, _≤_}
 use lib.ListN.{length, drop}
 use Rattle.terms.specs.Term.{Term}
 use Rattle.wire.specs.Reply.{Reply, kinded}
+use Rattle.wire.specs.Effect.{HasEffect}
 use Rattle.wire.specs.Parser.{accept}
 use Rattle.wire.specs.Vocabulary.{Vocabulary, InOrder}
 use Rattle.wire.specs.TermBytes.{HoldsTerm}
-use Rattle.wire.specs.ListComputed.{linearIn, listedInto, listedPattern, ListShown}
+use Rattle.wire.specs.ListComputed.{linearIn, listedInto, listedPattern}
 use Rattle.wire.specs.Leftovers.{entriesOf, listingBytes}
 use Rattle.signature.specs.Tables.{Tabled}
 
@@ -40,9 +41,9 @@ WritesEntries p words results before after = (h : Patterned p words results) →
 abbrev pub ListsLinear : List ℕ → ℕ → List ℕ → List ℕ → List ℕ → Reply → Type 0
 ListsLinear p words results before after r =
     (h : Patterned p words results) →
-    ListShown (listedInto before (length (entriesOf (h .vocabulary) (h .kind) (h .term))) (bytesOf h)) r after
+    HasEffect (listedInto before (length (entriesOf (h .vocabulary) (h .kind) (h .term))) (bytesOf h)) r after
 
 abbrev pub ListsPattern : List ℕ → ℕ → List ℕ → List ℕ → List ℕ → Reply → Type 0
 ListsPattern p words results before after r =
     (h : Patterned p words results) →
-    ListShown (listedPattern (h .vocabulary) before (linearIn (h .vocabulary) (accept (kinded (h .kind) (h .term))))) r after
+    HasEffect (listedPattern (h .vocabulary) before (linearIn (h .vocabulary) (accept (kinded (h .kind) (h .term))))) r after

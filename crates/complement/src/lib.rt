@@ -6,7 +6,8 @@ ghost use lib.ListN.{length, take, drop, replicate};
 ghost use lib.Seq.{paste};
 ghost use Rattle.wire.specs.Map.{writeMap};
 ghost use Rattle.wire.specs.Leftovers.{ListPromise};
-ghost use Rattle.wire.specs.ListComputed.{repeatedIn, listed, ListShown};
+ghost use Rattle.wire.specs.Effect.{HasEffect};
+ghost use Rattle.wire.specs.ListComputed.{repeatedIn, listed};
 ghost use Rattle.wire.proofs.EntryBytes.{othersBytes};
 ghost use Rattle.complement.specs.Answers.{listNumbers};
 ghost use Rattle.complement.specs.Calls.{Patterned, HasRoom, WritesEntries, ListsLinear, ListsPattern};
@@ -431,7 +432,7 @@ fn list_pattern(pattern: &[u8], words: usize, results: &[u8; 96], out: &mut [u8]
 // they are. A refusal leaves the slice as it was.
 pub fn list(vocabulary: &[u8], pattern: &[u8], out: &mut [u8]) -> ListAnswer
     ensures { λ r. ⌜ ListPromise (now (vocabulary .entry)) (now (pattern .entry)) (now (out .entry)) (now (out .exit)) (listNumbers r) ⌝ }
-    ensures { λ r. ⌜ ListShown (listed (now (vocabulary .entry)) (now (pattern .entry)) (now (out .entry))) (listNumbers r) (now (out .exit)) ⌝ }
+    ensures { λ r. ⌜ HasEffect (listed (now (vocabulary .entry)) (now (pattern .entry)) (now (out .entry))) (listNumbers r) (now (out .exit)) ⌝ }
 {
     let mut results = [0u8; 96];
     match reader::load_term(vocabulary, pattern, &mut results) {

@@ -4,7 +4,6 @@ use mathlib.Core.List.{List}
 use Prim.Native.Nat.{ℕ, _≤_}
 use native.Mathlib.Omega.{arith}
 use Rattle.wire.specs.Reply.{Reply, accepted, refused}
-use Rattle.wire.specs.Matching.{no}
 use Rattle.signature.specs.Answers.{vocabularyRefused}
 use Rattle.signature.specs.declared.VocabularyRefusal.{VocabularyRefusal}
 use Rattle.signature.specs.declared.VocabularyRefusal.the-variants as Voc

@@ -1,6 +1,6 @@
 -- Begin: what holds before the first turn of the walk, and what follows behind the last.
 use mathlib.Core.Path.{_≡_, refl, sym, ap, ap₂, _∙_, subst, subst₂}
-use mathlib.Core.Bool.{Bool, true, false, not, cond, false≢true}
+use mathlib.Core.Bool.{Bool, true, false, cond, false≢true}
 use mathlib.Core.List.{List, [], _∷_, _++_, append-nil}
 use mathlib.Core.Option.{Option, some, none}
 use Prim.Native.Nat.{ℕ, zero, suc, _+_, _*_, _/_, _%_, _<_, _≤_}
@@ -15,7 +15,7 @@ use Rattle.terms.specs.Filling.{Filling}
 use Rattle.terms.specs.Matcher.{matchAll, matcher, noFilling}
 use Rattle.wire.specs.Vocabulary.{Vocabulary, signature, InOrder}
 use Rattle.wire.specs.TermBytes.{nameCount, wholeByte, encodeAt, encodeAll, encodeRoot, asTerm, levels}
-use Rattle.wire.specs.Matching.{Inputs, HoldsInputs, Span, orNoSpan, span, spanFrom, spanIn}
+use Rattle.wire.specs.Matching.{Inputs, HoldsInputs, Span, orNoSpan, spanFrom, spanIn}
 use Rattle.wire.specs.MatchComputed.{spanTable}
 use Rattle.wire.proofs.Words.{length-symbols}
 use Rattle.wire.proofs.Complete.{sorted-ground}
@@ -23,7 +23,7 @@ use Rattle.wire.proofs.GroundBytes.{root-ground}
 use Rattle.wire.proofs.SpanTable.{length-table, table-span}
 use Rattle.reader.specs.Frames.{Framed}
 use Rattle.matcher.specs.Walking.{found, WalkedOver}
-use Rattle.matcher.proofs.Marks.{Mark, Marked, marks, marks-one}
+use Rattle.matcher.proofs.Marks.{Marked, marks, marks-one}
 use Rattle.matcher.proofs.Joined.{onward, match-first}
 use Rattle.matcher.proofs.Side.{spanAt, Told, Side}
 use Rattle.matcher.proofs.Names.{span-new}

@@ -5,7 +5,6 @@ use mathlib.Core.List.{List, [], append-nil}
 use mathlib.Core.Option.{Option, some, none}
 use Prim.Native.Nat.{ℕ, _+_, _-_, _*_, _<_, _≤_}
 use native.Mathlib.Omega.{arith}
-use lib.Dec.{eqb, ltb}
 use lib.Seq.{length-take-le}
 use lib.ListN.{length, getD, take, drop, length-drop, length-append}
 use borrow.Author.Tests.{ne-eqb, eq-eqb, le-ltb, lt-ltb}
@@ -16,7 +15,8 @@ use Rattle.terms.specs.Matcher.{matcher}
 use Rattle.wire.specs.Reply.{Reply, accepted, refused, IsBytes}
 use Rattle.wire.specs.TermBytes.{nameCount, encodeAt, asTerm}
 use Rattle.wire.specs.Matching.{Inputs, tableLength, Span, orNoSpan, noSpan, span, spanFrom, spanIn, yes, no, cutOut, MatchPromise, PartPromise}
-use Rattle.wire.specs.MatchComputed.{Judged, clear, refusal, judged, clearReply, spanTable, verdict, matchedWith, matched, MatchShown, spanFound, spanWith, partSpan}
+use Rattle.wire.specs.Effect.{HasEffect}
+use Rattle.wire.specs.MatchComputed.{Judged, clear, refusal, judged, clearReply, spanTable, verdict, matchedWith, matched, spanFound, spanWith, partSpan}
 use Rattle.wire.proofs.Inputs.{clear-is-held}
 use Rattle.wire.proofs.Matching.{match-keeps, part-keeps}
 use Rattle.wire.proofs.GroundBytes.{size-least, root-ground}
@@ -62,12 +62,12 @@ module _ {v p s : List ℕ} (lent : Lent v p s) where
   module _ (before after : List ℕ) where
     -- What match ensures of a reply.
     abbrev Ensured : Reply → Type 0
-    Ensured r = MatchPromise v p s before after r × MatchShown (matched v p s before) r after
+    Ensured r = MatchPromise v p s before after r × HasEffect (matched v p s before) r after
 
-    promised : (r : Reply) → r ≡ matched v p s before .reply → after ≡ matched v p s before .table → Ensured r
+    promised : (r : Reply) → r ≡ matched v p s before .reply → after ≡ matched v p s before .after → Ensured r
     promised r e t = (
       subst₂ (λ a r. MatchPromise v p s before a r) (sym t) (sym e) (match-keeps v p s before (lent .vocabulary) (lent .pattern) (lent .situation)),
-      record { reply = e; table = t },
+      record { reply = e; after = t },
     )
 
     pub match-refused : (why : InputsRefusal) → inputsRefused why ≡ clearReply (judged v p s) → after ≡ before →
@@ -78,7 +78,7 @@ module _ {v p s : List ℕ} (lent : Lent v p s) where
         reply (clear x) e = absurd (not-clear why e)
         reply (refusal n i q) e = e
 
-        table : (j : Judged) → inputsRefused why ≡ clearReply j → before ≡ matchedWith before j .table
+        table : (j : Judged) → inputsRefused why ≡ clearReply j → before ≡ matchedWith before j .after
         table (clear x) e = absurd (not-clear why e)
         table (refusal n i q) e = refl
 
@@ -93,39 +93,39 @@ module _ {v p s : List ℕ} (lent : Lent v p s) where
       pub match-length : (length before ≡ tableLength → ⊥) → after ≡ before → Ensured (refused 19 3 0)
       match-length d t =
           let e = matched-here ∙ ap (λ b. cond b (verdict before (here .inputs) (matcher (here .inputs .pattern) (here .inputs .situation)))
-          (record { reply = refused 19 3 0; table = before })) (ne-eqb (length before) tableLength d) in
-          promised (refused 19 3 0) (sym (ap (λ m. m .reply) e)) (t ∙ sym (ap (λ m. m .table) e))
+          (record { reply = refused 19 3 0; after = before })) (ne-eqb (length before) tableLength d) in
+          promised (refused 19 3 0) (sym (ap (λ m. m .reply) e)) (t ∙ sym (ap (λ m. m .after) e))
 
       module _ (long : length before ≡ tableLength) where
         judged-here : matched v p s before ≡ verdict before (here .inputs) (matcher (here .inputs .pattern) (here .inputs .situation))
         judged-here =
             matched-here ∙ ap (λ b. cond b (verdict before (here .inputs) (matcher (here .inputs .pattern) (here .inputs .situation)))
-            (record { reply = refused 19 3 0; table = before })) (eq-eqb (length before) tableLength long)
+            (record { reply = refused 19 3 0; after = before })) (eq-eqb (length before) tableLength long)
 
         pub match-yes : {spans : List ℕ} → Walked p s spans true → after ≡ spans → Ensured yes
         match-yes {spans} walked t =
             promised yes (sym (ap (λ m. m .reply) judged-here ∙ reply (matcher (here .inputs .pattern) (here .inputs .situation)) (walked here .answer)))
-            (t ∙ walked here .table refl ∙ sym (ap (λ m. m .table) judged-here ∙ table (matcher (here .inputs .pattern) (here .inputs .situation)) (walked here .answer)))
+            (t ∙ walked here .table refl ∙ sym (ap (λ m. m .after) judged-here ∙ table (matcher (here .inputs .pattern) (here .inputs .situation)) (walked here .answer)))
           where
             reply : (o : Option Filling) → true ≡ found o → verdict before (here .inputs) o .reply ≡ yes
             reply (some f) e = refl
             reply none e = absurd (true≢false e)
 
             table : (o : Option Filling) → true ≡ found o →
-                verdict before (here .inputs) o .table ≡ spanTable (here .inputs .vocabulary) (here .inputs .pattern) (here .inputs .situation)
+                verdict before (here .inputs) o .after ≡ spanTable (here .inputs .vocabulary) (here .inputs .pattern) (here .inputs .situation)
             table (some f) e = refl
             table none e = absurd (true≢false e)
 
         pub match-no : {spans : List ℕ} → Walked p s spans false → after ≡ before → Ensured no
         match-no walked t =
             promised no (sym (ap (λ m. m .reply) judged-here ∙ reply (matcher (here .inputs .pattern) (here .inputs .situation)) (walked here .answer)))
-            (t ∙ sym (ap (λ m. m .table) judged-here ∙ table (matcher (here .inputs .pattern) (here .inputs .situation)) (walked here .answer)))
+            (t ∙ sym (ap (λ m. m .after) judged-here ∙ table (matcher (here .inputs .pattern) (here .inputs .situation)) (walked here .answer)))
           where
             reply : (o : Option Filling) → false ≡ found o → verdict before (here .inputs) o .reply ≡ no
             reply (some f) e = absurd (false≢true e)
             reply none e = refl
 
-            table : (o : Option Filling) → false ≡ found o → verdict before (here .inputs) o .table ≡ before
+            table : (o : Option Filling) → false ≡ found o → verdict before (here .inputs) o .after ≡ before
             table (some f) e = absurd (false≢true e)
             table none e = refl
 

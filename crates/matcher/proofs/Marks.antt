@@ -18,7 +18,7 @@ use lib.ListN.{length, getD, set}
 use lib.Seq.{getD-set-same, getD-set-other}
 use borrow.Author.Tests.{eq-eqb, ne-eqb}
 use Rattle.terms.specs.Signature.{Signature}
-use Rattle.terms.specs.Term.{Term, Terms, nil, cons, SortedAll}
+use Rattle.terms.specs.Term.{Terms, nil, cons, SortedAll}
 use Rattle.wire.specs.Map.{flagsIn, flags, bit, number, ones, isOpen, writtenFlags}
 use Rattle.wire.specs.TermBytes.{levels, levelsAll}
 use Rattle.reader.specs.Frames.{writtenIn, placesIn, Framed}

@@ -1,11 +1,10 @@
 -- Words: the turn at a word: it stands in the situation too, and its places are due, or there is no filling.
-use mathlib.Core.Path.{_≡_, refl, sym, ap, ap₂, _∙_, subst}
+use mathlib.Core.Path.{_≡_, sym, ap, ap₂, _∙_, subst}
 use mathlib.Core.Bool.{true, false}
 use mathlib.Core.List.{List, _∷_, _++_}
 use mathlib.Core.Option.{Option, none}
 use Prim.Native.Nat.{ℕ, suc, _+_, _<_, _≤_}
 use native.Mathlib.Omega.{arith}
-use lib.Dec.{eqb}
 use lib.ListN.{length, getD, drop, length-drop}
 use lib.Seq.{drop-drop, getD-drop}
 use borrow.Author.Tests.{ne-eqb}
@@ -17,7 +16,7 @@ use Rattle.terms.specs.Matcher.{matchAll, matcher}
 use Rattle.terms.proofs.Bools.{eqb-refl}
 use Rattle.terms.proofs.Matcher.{match-app}
 use Rattle.wire.specs.Vocabulary.{Vocabulary, signature, mapOf, InOrder}
-use Rattle.wire.specs.TermBytes.{nameCount, writtenMap, encodeAll, asTerm, asTerms}
+use Rattle.wire.specs.TermBytes.{nameCount, writtenMap, encodeAll, asTerms}
 use Rattle.wire.specs.Matching.{size, spanAll}
 use Rattle.wire.proofs.GroundBytes.{node-bytes, known-word, count-arguments, joined, joined-sorted, joined-bytes}
 use Rattle.reader.specs.Frames.{Framed}

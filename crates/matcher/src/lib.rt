@@ -6,7 +6,8 @@ ghost use lib.ListN.{length, getD, replicate};
 ghost use Rattle.reader.specs.Frames.{placesIn, writtenIn, Framed};
 ghost use Rattle.matcher.specs.Walking.{Standing, ends, Covered, InputsRead, Walked};
 ghost use Rattle.wire.specs.Matching.{MatchPromise, PartPromise};
-ghost use Rattle.wire.specs.MatchComputed.{matched, MatchShown, partSpan};
+ghost use Rattle.wire.specs.Effect.{HasEffect};
+ghost use Rattle.wire.specs.MatchComputed.{matched, partSpan};
 ghost use Rattle.matcher.specs.Answers.{matchNumbers};
 ghost use Rattle.matcher.specs.Places.{partAt};
 use reader::InputsAnswer;
@@ -205,7 +206,7 @@ pub fn match_pattern(
     table: &mut [u16],
 ) -> MatchAnswer
     ensures { λ r. ⌜ MatchPromise (now (vocabulary .entry)) (now (pattern .entry)) (now (situation .entry)) (now (table .entry)) (now (table .exit)) (matchNumbers r) ⌝ }
-    ensures { λ r. ⌜ MatchShown (matched (now (vocabulary .entry)) (now (pattern .entry)) (now (situation .entry)) (now (table .entry))) (matchNumbers r) (now (table .exit)) ⌝ }
+    ensures { λ r. ⌜ HasEffect (matched (now (vocabulary .entry)) (now (pattern .entry)) (now (situation .entry)) (now (table .entry))) (matchNumbers r) (now (table .exit)) ⌝ }
 {
     match reader::judge(vocabulary, pattern, situation) {
         InputsAnswer::Refused(why) => {

@@ -42,15 +42,15 @@ module _ {v p s : List ℕ} (lent : Lent v p s) (n : ℕ) where
   part-above l = replied noSpan (sym (part-is-table v p s blank n refl .1 (inr (omega arith))))
 
   -- A table that match did not fill is still blank.
-  table-part : n < nameCount → spanIn (matched v p s blank .table) n ≡ partSpan v p s n
+  table-part : n < nameCount → spanIn (matched v p s blank .after) n ≡ partSpan v p s n
   table-part low = go (yes-or-kept v p s blank)
     where
-      go : (matched v p s blank .reply ≡ yes) ⊎ ((matched v p s blank .reply ≡ yes → ⊥) × (matched v p s blank .table ≡ blank)) →
-          spanIn (matched v p s blank .table) n ≡ partSpan v p s n
+      go : (matched v p s blank .reply ≡ yes) ⊎ ((matched v p s blank .reply ≡ yes → ⊥) × (matched v p s blank .after ≡ blank)) →
+          spanIn (matched v p s blank .after) n ≡ partSpan v p s n
       go (inl e) = sym (part-is-table v p s blank n refl .0 e low)
       go (inr (e, kept)) = ap (λ t. spanIn t n) kept ∙ blank-span n low ∙ sym (part-is-table v p s blank n refl .1 (inl e))
 
-  pub part-matched : {table : List ℕ} {o l : ℕ} → n < nameCount → table ≡ matched v p s blank .table →
+  pub part-matched : {table : List ℕ} {o l : ℕ} → n < nameCount → table ≡ matched v p s blank .after →
       o ≡ getD table (2 * n) 0 → l ≡ getD table (2 * n + 1) 0 → Ensured (0 ∷ o ∷ l ∷ [])
   part-matched {table} {o} {l} low t e h =
       replied (record { offset = o; bytes = l })

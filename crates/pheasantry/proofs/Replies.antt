@@ -6,9 +6,10 @@ use Rattle.wire.specs.Reply.{Reply}
 use Rattle.wire.specs.Checking.{VocabularyPromise, TermPromise}
 use Rattle.wire.specs.Matching.{MatchPromise}
 use Rattle.wire.specs.Leftovers.{ListPromise}
+use Rattle.wire.specs.Effect.{HasEffect}
 use Rattle.wire.specs.CheckComputed.{vocabularyReply, termReply}
-use Rattle.wire.specs.MatchComputed.{matched, MatchShown}
-use Rattle.wire.specs.ListComputed.{listed, ListShown}
+use Rattle.wire.specs.MatchComputed.{matched}
+use Rattle.wire.specs.ListComputed.{listed}
 use Rattle.signature.specs.Answers.{vocabularyRefused, vocabularyNumbers}
 use Rattle.signature.specs.declared.VocabularyRefusal.{VocabularyRefusal}
 use Rattle.signature.specs.declared.VocabularyRefusal.the-variants as W
@@ -104,19 +105,19 @@ term-replied {v} {b} a e (promise, shown) =
     (record { form = f .0; promise = subst (TermPromise v b) (sym (f .1)) promise }, f .1 ∙ shown)
 
 pub match-replied : {v p s before after numbers : List ℕ} (a : MatchAnswer) → numbers ≡ replyNumbers (matchNumbers a) →
-    MatchPromise v p s before after (matchNumbers a) × MatchShown (matched v p s before) (matchNumbers a) after →
-    MatchReplied v p s before after numbers × MatchShown (matched v p s before) (replyIn 1 numbers) after
+    MatchPromise v p s before after (matchNumbers a) × HasEffect (matched v p s before) (matchNumbers a) after →
+    MatchReplied v p s before after numbers × HasEffect (matched v p s before) (replyIn 1 numbers) after
 match-replied {v} {p} {s} {before} {after} a e (promise, shown) =
     let f = formed 1 (matchNumbers a) e (match-back a) in (
       record { form = f .0; promise = subst (MatchPromise v p s before after) (sym (f .1)) promise },
-      record { reply = f .1 ∙ shown .reply; table = shown .table },
+      record { reply = f .1 ∙ shown .reply; after = shown .after },
     )
 
 pub list-replied : {v p before after numbers : List ℕ} (a : ListAnswer) → numbers ≡ replyNumbers (listNumbers a) →
-    ListPromise v p before after (listNumbers a) × ListShown (listed v p before) (listNumbers a) after →
-    ListReplied v p before after numbers × ListShown (listed v p before) (replyIn 2 numbers) after
+    ListPromise v p before after (listNumbers a) × HasEffect (listed v p before) (listNumbers a) after →
+    ListReplied v p before after numbers × HasEffect (listed v p before) (replyIn 2 numbers) after
 list-replied {v} {p} {before} {after} a e (promise, shown) =
     let f = formed 2 (listNumbers a) e (list-back a) in (
       record { form = f .0; promise = subst (ListPromise v p before after) (sym (f .1)) promise },
-      record { reply = f .1 ∙ shown .reply; out = shown .out },
+      record { reply = f .1 ∙ shown .reply; after = shown .after },
     )

@@ -5,9 +5,10 @@ ghost use Rattle.signature.specs.Answers.{vocabularyRefused, vocabularyNumbers}
 ghost use Rattle.reader.specs.Answers.{termRefused, termNumbers, inputsRefused};
 ghost use Rattle.matcher.specs.Answers.{matchNumbers};
 ghost use Rattle.complement.specs.Answers.{listNumbers};
+ghost use Rattle.wire.specs.Effect.{HasEffect};
 ghost use Rattle.wire.specs.CheckComputed.{vocabularyReply, termReply};
-ghost use Rattle.wire.specs.MatchComputed.{matched, MatchShown, partSpan};
-ghost use Rattle.wire.specs.ListComputed.{listed, ListShown};
+ghost use Rattle.wire.specs.MatchComputed.{matched, partSpan};
+ghost use Rattle.wire.specs.ListComputed.{listed};
 ghost use Rattle.pheasantry.specs.Replies.{replyNumbers, replyIn, spanSaid, VocabularyReplied, TermReplied, MatchReplied, PartReplied, ListReplied};
 use complement::ListAnswer;
 use matcher::MatchAnswer;
@@ -138,7 +139,7 @@ pub extern "C" fn pheasantry_match(
     reply: &mut [u64; 3],
 )
     ensures { λ _. ⌜ MatchReplied (now (vocabulary .entry)) (now (pattern .entry)) (now (situation .entry)) (now (table .entry)) (now (table .exit)) (now (reply .exit)) ⌝ }
-    ensures { λ _. ⌜ MatchShown (matched (now (vocabulary .entry)) (now (pattern .entry)) (now (situation .entry)) (now (table .entry))) (replyIn 1 (now (reply .exit))) (now (table .exit)) ⌝ }
+    ensures { λ _. ⌜ HasEffect (matched (now (vocabulary .entry)) (now (pattern .entry)) (now (situation .entry)) (now (table .entry))) (replyIn 1 (now (reply .exit))) (now (table .exit)) ⌝ }
 {
     *reply = match_numbers(matcher::match_pattern(vocabulary, pattern, situation, table));
 }
@@ -179,7 +180,7 @@ pub extern "C" fn pheasantry_list(
     reply: &mut [u64; 3],
 )
     ensures { λ _. ⌜ ListReplied (now (vocabulary .entry)) (now (pattern .entry)) (now (out .entry)) (now (out .exit)) (now (reply .exit)) ⌝ }
-    ensures { λ _. ⌜ ListShown (listed (now (vocabulary .entry)) (now (pattern .entry)) (now (out .entry))) (replyIn 2 (now (reply .exit))) (now (out .exit)) ⌝ }
+    ensures { λ _. ⌜ HasEffect (listed (now (vocabulary .entry)) (now (pattern .entry)) (now (out .entry))) (replyIn 2 (now (reply .exit))) (now (out .exit)) ⌝ }
 {
     *reply = list_numbers(complement::list(vocabulary, pattern, out));
 }

@@ -14,10 +14,11 @@ use Rattle.terms.specs.Term.{Term}
 use Rattle.terms.specs.Listing.{listing}
 use Rattle.terms.proofs.All.{all-implies, all-map, all-take, all-drop}
 use Rattle.wire.specs.Reply.{Reply, accepted, refused, IsBytes, Kinded, kinded}
+use Rattle.wire.specs.Effect.{Effect, HasEffect}
 use Rattle.wire.specs.Parser.{Reading, accept, refuse, readVocabulary}
 use Rattle.wire.specs.Vocabulary.{Vocabulary, InOrder, signature}
 use Rattle.wire.specs.TermBytes.{encodeTerm, GoodTerm}
-use Rattle.wire.specs.ListComputed.{Listed, checkedLinear, listedInto, listedPattern, listedVocabulary, listed, ListShown}
+use Rattle.wire.specs.ListComputed.{checkedLinear, listedInto, listedPattern, listedVocabulary, listed}
 use Rattle.wire.specs.Leftovers.{entriesBytes, entriesOf}
 use Rattle.wire.specs.Text.{ascii, newline, decimal, hexadecimal}
 use Rattle.wire.specs.Printing.{mostInput, listingSpace, vocabularyLength, vocabularyPart, patternPart, entryLine, entryLines, listingText, PrintPromise}
@@ -79,20 +80,20 @@ record Shown (r : Reply) (out text : List ℕ) : Type 0 where
 
 module _ (before : List ℕ) (long : length before ≡ 65536) where
   listing-shown : (W : Vocabulary) → InOrder W → (l : List Kinded) → All (GoodKinded W) l →
-      Shown (listedInto before (length l) (entriesBytes W l) .reply) (listedInto before (length l) (entriesBytes W l) .out)
+      Shown (listedInto before (length l) (entriesBytes W l) .reply) (listedInto before (length l) (entriesBytes W l) .after)
       (reported (listedInto before (length l) (entriesBytes W l) .reply) (map (written W) l))
   listing-shown W inOrder l good = go (leb (length b) (length before)) refl
     where
       b : List ℕ
       b = entriesBytes W l
 
-      into : Bool → Listed
+      into : Bool → Effect
       into t =
           cond t
-          (record { reply = accepted (length l ∷ length b ∷ []); out = b ++ drop (length b) before })
-          (record { reply = refused 20 3 (length b); out = before })
+          (record { reply = accepted (length l ∷ length b ∷ []); after = b ++ drop (length b) before })
+          (record { reply = refused 20 3 (length b); after = before })
 
-      go : (t : Bool) → leb (length b) (length before) ≡ t → Shown (into t .reply) (into t .out) (reported (into t .reply) (map (written W) l))
+      go : (t : Bool) → leb (length b) (length before) ≡ t → Shown (into t .reply) (into t .after) (reported (into t .reply) (map (written W) l))
       go false e = record { same = refl; room = tt }
       go true e = record { same = same; room = subst (λ (t : List ℕ). length t ≤ 524288) (sym same) fits }
         where
@@ -114,7 +115,7 @@ module _ (before : List ℕ) (long : length before ≡ 65536) where
 
   module _ (p : List ℕ) (bp : IsBytes p) where
     pattern-shown : (W : Vocabulary) → InOrder W → (r : Reading Kinded) → checkedLinear W p ≡ r →
-        Shown (listedPattern W before r .reply) (listedPattern W before r .out) (reported (listedPattern W before r .reply) (entriesUnder W r))
+        Shown (listedPattern W before r .reply) (listedPattern W before r .after) (reported (listedPattern W before r .reply) (entriesUnder W r))
     pattern-shown W inOrder (refuse n q) e = record { same = refl; room = tt }
     pattern-shown W inOrder (accept k) e =
         let h = linear-in W p k inOrder bp e in
@@ -125,18 +126,18 @@ module _ (before : List ℕ) (long : length before ≡ 65536) where
         (all-implies _ (λ e. GoodTerm W s e) (λ e g. g .0) entries (entries-are-good W s (k .term) (h .term .good) (h .linear))))
 
     vocabulary-shown : (v : List ℕ) → IsBytes v → (r : Reading Vocabulary) → readVocabulary v ≡ r →
-        Shown (listedVocabulary p before r .reply) (listedVocabulary p before r .out)
+        Shown (listedVocabulary p before r .reply) (listedVocabulary p before r .after)
         (reported (listedVocabulary p before r .reply) (entriesWith p r))
     vocabulary-shown v bv (refuse n q) e = record { same = refl; room = tt }
     vocabulary-shown v bv (accept W) e =
         pattern-shown W (vocabularies-inverse v W bv .0 e .good .inOrder) (checkedLinear W p) refl
 
 module _ (v p : List ℕ) (vocabularyBytes : (i : ℕ) → getD v i 0 < 256) (patternBytes : (i : ℕ) → getD p i 0 < 256)
-    {after : List ℕ} {r : Reply} (by : ListShown (listed v p (replicate listingSpace 0)) r after) where
+    {after : List ℕ} {r : Reply} (by : HasEffect (listed v p (replicate listingSpace 0)) r after) where
   shown : Shown r after (printedFrom v p)
   shown =
       subst (λ (r : Reply). Shown r after (printedFrom v p)) (sym (by .reply))
-      (subst (λ (l : List ℕ). Shown (listed v p (replicate listingSpace 0) .reply) l (printedFrom v p)) (sym (by .out))
+      (subst (λ (l : List ℕ). Shown (listed v p (replicate listingSpace 0) .reply) l (printedFrom v p)) (sym (by .after))
       (vocabulary-shown (replicate listingSpace 0) (length-replicate {A = ℕ} listingSpace 0) p (bytes-of p patternBytes) v
       (bytes-of v vocabularyBytes) (readVocabulary v) refl))
 

@@ -26,7 +26,7 @@ use Rattle.terms.specs.Lists.{All, occurs, range}
 use Rattle.terms.specs.Signature.{Symbol, Signature, noSymbol, symbol, result, arguments, WellFormed}
 use Rattle.terms.specs.Term.{Ground, gapp, Grounds, gnil, gcons, SortedG, SortedGs}
 use Rattle.terms.specs.Inhabited.{Inhabited, Empty, LeastEmpty}
-use Rattle.terms.specs.Emptiness.{covered, joined, grow, reached, first, FirstEmptyIsExact}
+use Rattle.terms.specs.Emptiness.{covered, joined, grow, reached, FirstEmptyIsExact}
 use Rattle.terms.proofs.Signature.{symbol-sorts}
 use Rattle.terms.proofs.Bools.{and-parts, and-both, false-of-not}
 use Rattle.terms.proofs.All.{all-implies, all-at, at-all}

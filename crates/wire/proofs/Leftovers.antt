@@ -20,9 +20,10 @@ use Rattle.wire.specs.Vocabulary.{Vocabulary, signature, InOrder, HoldsV
 use Rattle.wire.specs.TermBytes.{encodeTerm, GoodTerm, deepest, leastBytes, HoldsTerm}
 use Rattle.wire.specs.CheckComputed.{checkedTerm}
 use Rattle.wire.specs.PatternLines.{sightings}
-use Rattle.wire.specs.ListComputed.{repeatedIn, linearOf, linearIn, checkedLinear, Listed, listedInto, listedPattern, listedVocabulary, listed}
+use Rattle.wire.specs.ListComputed.{repeatedIn, linearOf, linearIn, checkedLinear, listedInto, listedPattern, listedVocabulary, listed}
 use Rattle.wire.specs.Leftovers.{HoldsPattern, entriesBytes, entriesOf, listingBytes, Entries, ListUnder, ofPattern, noRoom, ListRefusal}
 use Rattle.wire.specs.VocabularyLines.{ofVocabulary, under}
+use Rattle.wire.specs.Effect.{Effect}
 use Rattle.wire.specs.Laws.{PatternIsOne, ListKeeps}
 use Rattle.wire.proofs.Cond.{cond-true, cond-false, choice}
 use Rattle.wire.proofs.Levels.{deepest-bytes}
@@ -116,18 +117,18 @@ record Answer (out : List ℕ) (n : ℕ) (b : List ℕ) (n′ m : ℕ) (after : 
   written : after ≡ b ++ drop (length b) out
 
 -- The lent slice and the reply by the test for room.
-abbrev intoIf : Bool → List ℕ → ℕ → List ℕ → Listed
+abbrev intoIf : Bool → List ℕ → ℕ → List ℕ → Effect
 intoIf c out n b =
     cond c
-    (record { reply = accepted (n ∷ length b ∷ []); out = b ++ drop (length b) out })
-    (record { reply = refused 20 3 (length b); out = out })
+    (record { reply = accepted (n ∷ length b ∷ []); after = b ++ drop (length b) out })
+    (record { reply = refused 20 3 (length b); after = out })
 
 answer-of : (out : List ℕ) (n : ℕ) (b : List ℕ) (n′ m : ℕ) → listedInto out n b .reply ≡ accepted (n′ ∷ m ∷ []) →
-    Answer out n b n′ m (listedInto out n b .out)
+    Answer out n b n′ m (listedInto out n b .after)
 answer-of out n b n′ m e = go (leb (length b) (length out)) refl e
   where
     go : (c : Bool) → leb (length b) (length out) ≡ c → intoIf c out n b .reply ≡ accepted (n′ ∷ m ∷ []) →
-        Answer out n b n′ m (intoIf c out n b .out)
+        Answer out n b n′ m (intoIf c out n b .after)
     go true h e = record { count = cc; size = cc; written = refl }
     go false h e = absurd (not-accepted 20 3 (length b) (n′ ∷ m ∷ []) e)
 
@@ -230,8 +231,8 @@ module _ (v p out : List ℕ) (bv : IsBytes v) (bp : IsBytes p) where
       ∙ ap (λ r. listedPattern W out r .reply) (linear-refusals W p (held .good .inOrder) bp .given n q .1 d)
   refused-under W held (noRoom s t h linear short) =
       let b : List ℕ = listingBytes W s t in
-      ap (λ (r : Listed). r .reply) (pattern-listed v p out W s t bv bp (record { vocabulary = held; pattern = h; linear = linear }))
-      ∙ ap (λ (r : Listed). r .reply) (cond-false (leb (length b) (length out)) _ _ (lt-leb (length b) (length out) short))
+      ap (λ (r : Effect). r .reply) (pattern-listed v p out W s t bv bp (record { vocabulary = held; pattern = h; linear = linear }))
+      ∙ ap (λ (r : Effect). r .reply) (cond-false (leb (length b) (length out)) _ _ (lt-leb (length b) (length out) short))
 
   refused-by : {n i q : ℕ} → ListRefusal v p out n i q → listed v p out .reply ≡ refused n i q
   refused-by (ofVocabulary n q d) = ap (λ r. listedVocabulary p out r .reply) (vocabulary-refusals v bv .given n q .1 d)
@@ -240,31 +241,31 @@ module _ (v p out : List ℕ) (bv : IsBytes v) (bp : IsBytes p) where
   answered-by : (values : List ℕ) → Listable values → listed v p out .reply ≡ accepted values
   answered-by values (W, s, t, h, fits, e) =
       let b : List ℕ = listingBytes W s t in
-      ap (λ (r : Listed). r .reply) (pattern-listed v p out W s t bv bp h)
-      ∙ ap (λ (r : Listed). r .reply) (cond-true (leb (length b) (length out)) _ _ (le-leb (length b) (length out) fits))
+      ap (λ (r : Effect). r .reply) (pattern-listed v p out W s t bv bp h)
+      ∙ ap (λ (r : Effect). r .reply) (cond-true (leb (length b) (length out)) _ _ (le-leb (length b) (length out) fits))
       ∙ ap (λ n. accepted (n ∷ length b ∷ [])) (length-map (listing (signature W) t) (kinded s))
       ∙ ap accepted (sym e)
 
   -- Where the reply is accepted, the entries stand in front of what stood there before.
   written-by : (n m : ℕ) → listed v p out .reply ≡ accepted (n ∷ m ∷ []) →
       (W : Vocabulary) (s : ℕ) (t : Term) → HoldsPattern v p W s t →
-      Answer out (length (entriesOf W s t)) (listingBytes W s t) n m (listed v p out .out)
+      Answer out (length (entriesOf W s t)) (listingBytes W s t) n m (listed v p out .after)
   written-by n m e W s t h =
       let known = pattern-listed v p out W s t bv bp h in
-      let a = answer-of out (length (entriesOf W s t)) (listingBytes W s t) n m (sym (ap (λ (r : Listed). r .reply) known) ∙ e) in
-      record { count = a .count; size = a .size; written = ap (λ (r : Listed). r .out) known ∙ a .written }
+      let a = answer-of out (length (entriesOf W s t)) (listingBytes W s t) n m (sym (ap (λ (r : Effect). r .reply) known) ∙ e) in
+      record { count = a .count; size = a .size; written = ap (λ (r : Effect). r .after) known ∙ a .written }
 
 -- A refusal leaves the lent slice as it was.
-refused-kept : (v p out : List ℕ) (n i q : ℕ) → listed v p out .reply ≡ refused n i q → listed v p out .out ≡ out
+refused-kept : (v p out : List ℕ) (n i q : ℕ) → listed v p out .reply ≡ refused n i q → listed v p out .after ≡ out
 refused-kept v p out n i q e = vocabulary (readVocabulary v) e
   where
-    pattern : (W : Vocabulary) (r : Reading Kinded) → listedPattern W out r .reply ≡ refused n i q → listedPattern W out r .out ≡ out
+    pattern : (W : Vocabulary) (r : Reading Kinded) → listedPattern W out r .reply ≡ refused n i q → listedPattern W out r .after ≡ out
     pattern W (refuse m r) e = refl
     pattern W (accept x) e =
-        choice (λ (l : Listed). l .reply ≡ refused n i q → l .out ≡ out) (leb (length (listingBytes W (x .kind) (x .term))) (length out)) _ _
+        choice (λ (l : Effect). l .reply ≡ refused n i q → l .after ≡ out) (leb (length (listingBytes W (x .kind) (x .term))) (length out)) _ _
         (λ c e. absurd (not-accepted n i q _ (sym e))) (λ c e. refl) e
 
-    vocabulary : (r : Reading Vocabulary) → listedVocabulary p out r .reply ≡ refused n i q → listedVocabulary p out r .out ≡ out
+    vocabulary : (r : Reading Vocabulary) → listedVocabulary p out r .reply ≡ refused n i q → listedVocabulary p out r .after ≡ out
     vocabulary (refuse m r) e = refl
     vocabulary (accept W) e = pattern W (checkedLinear W p) e
 
@@ -275,7 +276,7 @@ list-keeps v p out bv bp = record {
   entries = λ n m e W s t h.
       let a = written-by v p out bv bp n m e W s t h in
       let b : List ℕ = listingBytes W s t in
-      entries-kept v p W s t h n m (listed v p out .out) (a .count)
+      entries-kept v p W s t h n m (listed v p out .after) (a .count)
       (let long = ap length (a .written) ∙ length-append b (drop (length b) out) in let size = a .size in omega arith)
       (ap (take m) (a .written) ∙ take-at b (drop (length b) out) m (a .size));
   behindLast = λ n m e.

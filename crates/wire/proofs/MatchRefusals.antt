@@ -17,8 +17,9 @@ use Rattle.wire.specs.TermBytes.{HoldsTerm}
 use Rattle.wire.specs.CheckComputed.{checkedTerm}
 use Rattle.wire.specs.SituationComputed.{checkedSituation}
 use Rattle.wire.specs.Matching.{Inputs, tableLength, HoldsInputs, MatchUnder, MatchRefusal, ofPattern, ofSituation, ofTable}
-use Rattle.wire.specs.MatchComputed.{Judged, clear, refusal, judgedSituation, judgedPattern, judgedVocabulary, judged, Matched, verdict, matchedWith, matched}
+use Rattle.wire.specs.MatchComputed.{Judged, clear, refusal, judgedSituation, judgedPattern, judgedVocabulary, judged, verdict, matchedWith, matched}
 use Rattle.wire.specs.VocabularyLines.{ofVocabulary, under}
+use Rattle.wire.specs.Effect.{Effect}
 use Rattle.wire.proofs.Cond.{cond-false}
 use Rattle.wire.proofs.VocabulariesInverse.{vocabularies-inverse}
 use Rattle.wire.proofs.VocabularyRefusals.{vocabulary-refusals}
@@ -64,7 +65,7 @@ module _ (v p s table : List ℕ) (bv : IsBytes v) (bp : IsBytes p) (bs : IsByte
       answer x none = tt
 
       room : (x : Inputs) → HoldsInputs v p s x → (c : Bool) → eqb (length table) tableLength ≡ c →
-          Decided (cond {A = Matched} c (verdict table x (matcher (x .pattern) (x .situation))) (record { reply = refused 19 3 0; table = table }) .reply)
+          Decided (cond {A = Effect} c (verdict table x (matcher (x .pattern) (x .situation))) (record { reply = refused 19 3 0; after = table }) .reply)
       room x held true e = answer x (matcher (x .pattern) (x .situation))
       room x held false e =
           under (x .vocabulary) 19 3 0 (held .vocabulary)
@@ -89,7 +90,7 @@ module _ (v p s table : List ℕ) (bv : IsBytes v) (bp : IsBytes p) (bs : IsByte
       let x : Inputs = record { vocabulary = W; kind = k; pattern = t; situation = g } in
       ap (λ j. matchedWith table j .reply)
       (clear-is-held v p s x bv bp bs .1 (record { vocabulary = held; pattern = h; situation = h′ }))
-      ∙ ap (λ (m : Matched). m .reply) (cond-false (eqb (length table) tableLength) _ _ (ne-eqb (length table) tableLength long))
+      ∙ ap (λ (m : Effect). m .reply) (cond-false (eqb (length table) tableLength) _ _ (ne-eqb (length table) tableLength long))
 
   pub match-refused : {n i q : ℕ} → MatchRefusal v p s table n i q → matched v p s table .reply ≡ refused n i q
   match-refused (ofVocabulary n q d) =

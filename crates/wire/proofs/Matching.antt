@@ -20,7 +20,8 @@ use Rattle.wire.specs.Reply.{accepted, refused, IsBytes}
 use Rattle.wire.specs.Vocabulary.{signature}
 use Rattle.wire.specs.TermBytes.{nameCount, encodeAt, asTerm}
 use Rattle.wire.specs.Matching.{Inputs, tableLength, orNoSpan, span, yes, no, cutOut, noSpan, HoldsInputs, FitsInputs, TurnsInputs, SpansOf}
-use Rattle.wire.specs.MatchComputed.{Judged, clear, refusal, judged, spanTable, Matched, verdict, matchedWith, matched, spanFound, spanWith, partSpan}
+use Rattle.wire.specs.Effect.{Effect}
+use Rattle.wire.specs.MatchComputed.{Judged, clear, refusal, judged, spanTable, verdict, matchedWith, matched, spanFound, spanWith, partSpan}
 use Rattle.wire.specs.Laws.{MatchKeeps, PartKeeps}
 use Rattle.wire.proofs.Cond.{cond-true, choice}
 use Rattle.wire.proofs.MatchRefusals.{match-refuses, match-refused}
@@ -48,8 +49,8 @@ answered-clear table (refusal n i q) (inl e) = absurd (not-accepted n i q _ e)
 answered-clear table (refusal n i q) (inr e) = absurd (not-accepted n i q _ e)
 answered-clear table (clear x) h = (x, refl, go (eqb (length table) tableLength) refl h)
   where
-    answer : Bool → Matched
-    answer c = cond {A = Matched} c (verdict table x (matcher (x .pattern) (x .situation))) (record { reply = refused 19 3 0; table = table })
+    answer : Bool → Effect
+    answer c = cond {A = Effect} c (verdict table x (matcher (x .pattern) (x .situation))) (record { reply = refused 19 3 0; after = table })
 
     go : (c : Bool) → eqb (length table) tableLength ≡ c → (answer c .reply ≡ yes) ⊎ (answer c .reply ≡ no) → length table ≡ tableLength
     go true e h = eqb-true (length table) tableLength e
@@ -60,7 +61,7 @@ accepted-answers : (table : List ℕ) (j : Judged) (values : List ℕ) → match
     (matchedWith table j .reply ≡ yes) ⊎ (matchedWith table j .reply ≡ no)
 accepted-answers table (refusal n i q) values e = absurd (not-accepted n i q _ e)
 accepted-answers table (clear x) values e =
-    choice (λ (m : Matched). m .reply ≡ accepted values → (m .reply ≡ yes) ⊎ (m .reply ≡ no)) (eqb (length table) tableLength) _ _
+    choice (λ (m : Effect). m .reply ≡ accepted values → (m .reply ≡ yes) ⊎ (m .reply ≡ no)) (eqb (length table) tableLength) _ _
     (λ c e. verdict-answers table x (matcher (x .pattern) (x .situation))) (λ c e. absurd (not-accepted 19 3 0 _ e)) e
 
 matched-clear : (v p s table : List ℕ) (x : Inputs) → judged v p s ≡ clear x → length table ≡ tableLength →
@@ -69,11 +70,11 @@ matched-clear v p s table x e l = ap (matchedWith table) e ∙ cond-true (eqb (l
 
 -- Where match does not say yes, the table is as it was.
 pub yes-or-kept : (v p s table : List ℕ) →
-    (matched v p s table .reply ≡ yes) ⊎ ((matched v p s table .reply ≡ yes → ⊥) × (matched v p s table .table ≡ table))
+    (matched v p s table .reply ≡ yes) ⊎ ((matched v p s table .reply ≡ yes → ⊥) × (matched v p s table .after ≡ table))
 yes-or-kept v p s table = go (judged v p s)
   where
-    Kept : Matched → Type 0
-    Kept m = (m .reply ≡ yes) ⊎ ((m .reply ≡ yes → ⊥) × (m .table ≡ table))
+    Kept : Effect → Type 0
+    Kept m = (m .reply ≡ yes) ⊎ ((m .reply ≡ yes → ⊥) × (m .after ≡ table))
 
     answer : (x : Inputs) (o : Option Filling) → Kept (verdict table x o)
     answer x (some f) = inl refl
@@ -163,8 +164,8 @@ match-keeps v p s table bv bp bs = record {
   parts = λ x held e f h.
       let l = answered-clear table (judged v p s) (inl e) .2 in
       subst (SpansOf x s f)
-      (sym (ap (λ m. m .table) (known x held l)
-      ∙ ap (λ o. verdict table x o .table) (found-turns v p s x held f .1 h)))
+      (sym (ap (λ m. m .after) (known x held l)
+      ∙ ap (λ o. verdict table x o .after) (found-turns v p s x held f .1 h)))
       (table-parts v p s x held f h);
   kept = λ not. go not (yes-or-kept v p s table);
 }
@@ -179,8 +180,8 @@ match-keeps v p s table bv bp bs = record {
         (verdict-fits v p s x held table)
 
     go : (matched v p s table .reply ≡ yes → ⊥) →
-        (matched v p s table .reply ≡ yes) ⊎ ((matched v p s table .reply ≡ yes → ⊥) × (matched v p s table .table ≡ table)) →
-        matched v p s table .table ≡ table
+        (matched v p s table .reply ≡ yes) ⊎ ((matched v p s table .reply ≡ yes → ⊥) × (matched v p s table .after ≡ table)) →
+        matched v p s table .after ≡ table
     go not (inl e) = absurd (not e)
     go not (inr h) = h .1
 

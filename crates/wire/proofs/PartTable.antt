@@ -14,7 +14,8 @@ use Rattle.terms.specs.Filling.{Filling}
 use Rattle.terms.specs.Matcher.{matcher}
 use Rattle.wire.specs.TermBytes.{nameCount}
 use Rattle.wire.specs.Matching.{Inputs, tableLength, Span, orNoSpan, noSpan, span, spanIn, yes}
-use Rattle.wire.specs.MatchComputed.{Judged, clear, refusal, judged, Matched, verdict, matchedWith, matched, spanFound, spanWith}
+use Rattle.wire.specs.Effect.{Effect}
+use Rattle.wire.specs.MatchComputed.{Judged, clear, refusal, judged, verdict, matchedWith, spanFound, spanWith}
 use Rattle.wire.specs.Laws.{PartIsTable}
 use Rattle.wire.proofs.Cond.{cond-true}
 use Rattle.wire.proofs.Matching.{not-accepted, no-not-yes}
@@ -22,8 +23,8 @@ use Rattle.wire.proofs.Spans.{span-absent}
 use Rattle.wire.proofs.SpanTable.{table-span}
 
 -- What a match that says yes, and one that does not, have to do with the span x of a name n.
-abbrev Tied : ℕ → Matched → Span → Type 0
-Tied n m x = (m .reply ≡ yes → n < nameCount → x ≡ spanIn (m .table) n) × ((m .reply ≡ yes → ⊥) ⊎ (nameCount ≤ n) → x ≡ noSpan)
+abbrev Tied : ℕ → Effect → Span → Type 0
+Tied n m x = (m .reply ≡ yes → n < nameCount → x ≡ spanIn (m .after) n) × ((m .reply ≡ yes → ⊥) ⊎ (nameCount ≤ n) → x ≡ noSpan)
 
 module _ (x : Inputs) (n : ℕ) where
   abbrev here : Span

@@ -48,7 +48,7 @@ print-keeps v p bv bp = record {
   lists = lists;
 }
   where
-    promise : ListPromise v p space (listed v p space .out) (listed v p space .reply)
+    promise : ListPromise v p space (listed v p space .after) (listed v p space .reply)
     promise = list-keeps v p space bv bp
 
     one : (r : Reply) → Decided v p space bv bp r →

@@ -172,7 +172,7 @@ TermKeeps = (v b : List ℕ) → IsBytes v → IsBytes b → TermPromise v b (te
 abbrev pub MatchKeeps : Type 0
 MatchKeeps =
     (v p s table : List ℕ) → IsBytes v → IsBytes p → IsBytes s →
-    MatchPromise v p s table (matched v p s table .table) (matched v p s table .reply)
+    MatchPromise v p s table (matched v p s table .after) (matched v p s table .reply)
 
 abbrev pub PartKeeps : Type 0
 PartKeeps =
@@ -190,12 +190,12 @@ JudgeKeeps = (v p s : List ℕ) → IsBytes v → IsBytes p → IsBytes s → In
 abbrev pub PartIsTable : Type 0
 PartIsTable =
     (v p s table : List ℕ) (n : ℕ) → length table ≡ tableLength →
-    (matched v p s table .reply ≡ yes → n < nameCount → partSpan v p s n ≡ spanIn (matched v p s table .table) n) ×
+    (matched v p s table .reply ≡ yes → n < nameCount → partSpan v p s n ≡ spanIn (matched v p s table .after) n) ×
     ((matched v p s table .reply ≡ yes → ⊥) ⊎ (nameCount ≤ n) → partSpan v p s n ≡ noSpan)
 
 abbrev pub ListKeeps : Type 0
 ListKeeps =
-    (v p out : List ℕ) → IsBytes v → IsBytes p → ListPromise v p out (listed v p out .out) (listed v p out .reply)
+    (v p out : List ℕ) → IsBytes v → IsBytes p → ListPromise v p out (listed v p out .after) (listed v p out .reply)
 
 -- ---- the program's text
 

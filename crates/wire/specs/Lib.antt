@@ -18,6 +18,7 @@ pub mod Leftovers
 pub mod Text
 pub mod Printing
 -- Ways to compute the replies, which laws fix:
+pub mod Effect
 pub mod Parser
 pub mod CheckComputed
 pub mod SituationComputed

@@ -6,13 +6,10 @@
 --   repeatedIn seen l        the earliest byte at which a name stands again, found from left to right
 --   linearOf, linearIn       line 18, once the term is read
 --   checkedLinear W b        reading a pattern to be listed
---   Listed                   a reply, and the lent slice after the call
 --   listedVocabulary, listedPattern, listedInto    the parts of the next, in the order in which they are judged
 --   listed v p out           the reply of list, and the lent slice after it
---   ListShown l r after      r and after are the reply and the lent slice of l
 --   readEntry, readEntries   whole patterns read off the front of some bytes
 --
-use mathlib.Core.Path.{_≡_}
 use mathlib.Core.Bool.{true, cond}
 use mathlib.Core.List.{List, [], _∷_, _++_}
 use mathlib.Core.Option.{Option, some, none}
@@ -20,10 +17,11 @@ use Prim.Native.Nat.{ℕ, zero, suc}
 use lib.Dec.{leb, ltb}
 use lib.ListN.{length, drop}
 use Rattle.terms.specs.Lists.{occurs}
-use Rattle.wire.specs.Reply.{Reply, accepted, refused, Kinded, kinded}
+use Rattle.wire.specs.Reply.{accepted, refused, Kinded, kinded}
 use Rattle.wire.specs.Vocabulary.{Vocabulary}
 use Rattle.wire.specs.PatternLines.{Sighting, sightings}
 use Rattle.wire.specs.Leftovers.{entriesBytes, entriesOf}
+use Rattle.wire.specs.Effect.{Effect}
 use Rattle.wire.specs.Parser.{Reading, accept, refuse, Got, got, stop, andThen, readTerm, readVocabulary}
 use Rattle.wire.specs.CheckComputed.{checkedTerm}
 
@@ -42,33 +40,25 @@ linearIn W (accept k) = linearOf k (repeatedIn [] (sightings W (k .term)))
 abbrev pub checkedLinear : Vocabulary → List ℕ → Reading Kinded
 checkedLinear W b = linearIn W (checkedTerm W b)
 
-pub record Listed : Type 0 where
-  pub reply : Reply
-  pub out : List ℕ
-
 -- "the answer is the number of entries and of bytes"; "Bytes behind the last entry stay unchanged."
-abbrev pub listedInto : List ℕ → ℕ → List ℕ → Listed
+abbrev pub listedInto : List ℕ → ℕ → List ℕ → Effect
 listedInto out n b =
     cond (leb (length b) (length out))
-    (record { reply = accepted (n ∷ length b ∷ []); out = b ++ drop (length b) out })
-    (record { reply = refused 20 3 (length b); out = out })
+    (record { reply = accepted (n ∷ length b ∷ []); after = b ++ drop (length b) out })
+    (record { reply = refused 20 3 (length b); after = out })
 
-abbrev pub listedPattern : Vocabulary → List ℕ → Reading Kinded → Listed
-listedPattern W out (refuse n q) = record { reply = refused n 1 q; out = out }
+abbrev pub listedPattern : Vocabulary → List ℕ → Reading Kinded → Effect
+listedPattern W out (refuse n q) = record { reply = refused n 1 q; after = out }
 listedPattern W out (accept k) =
     let entries : List Kinded = entriesOf W (k .kind) (k .term) in
     listedInto out (length entries) (entriesBytes W entries)
 
-abbrev pub listedVocabulary : List ℕ → List ℕ → Reading Vocabulary → Listed
-listedVocabulary p out (refuse n q) = record { reply = refused n 0 q; out = out }
+abbrev pub listedVocabulary : List ℕ → List ℕ → Reading Vocabulary → Effect
+listedVocabulary p out (refuse n q) = record { reply = refused n 0 q; after = out }
 listedVocabulary p out (accept W) = listedPattern W out (checkedLinear W p)
 
-abbrev pub listed : List ℕ → List ℕ → List ℕ → Listed
+abbrev pub listed : List ℕ → List ℕ → List ℕ → Effect
 listed v p out = listedVocabulary p out (readVocabulary v)
-
-pub record ListShown (l : Listed) (r : Reply) (after : List ℕ) : Type 0 where
-  pub reply : r ≡ l .reply
-  pub out : after ≡ l .out
 
 -- One whole pattern off the front of some bytes; a term has no more levels than bytes.
 abbrev pub readEntry : Vocabulary → List ℕ → Got Kinded

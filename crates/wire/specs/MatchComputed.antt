@@ -8,15 +8,12 @@
 --   judged v p s             the inputs of match, in the order in which they are judged
 --   clearReply j             the reply that says whether the inputs are in order, with no values
 --   spanNumbers, spanTable W t g    the table of a yes
---   Matched                  a reply, and the table after the call
 --   verdict, matchedWith     the parts of the next
 --   matched v p s table      the reply and the table of match
---   MatchShown m r after     r and after are the reply and the table m
 --   spanFound, spanWith      the parts of the next
 --   partSpan v p s n         where the part of the name n stands in the situation; 0 and 0 where there is none
 --   partOf v p s n           the bytes of that part
 --
-use mathlib.Core.Path.{_≡_}
 use mathlib.Core.Bool.{cond, _&&_}
 use mathlib.Core.List.{List, [], _∷_}
 use mathlib.Core.Option.{Option, some, none}
@@ -31,6 +28,7 @@ use Rattle.wire.specs.Reply.{Reply, accepted, refused, Kinded}
 use Rattle.wire.specs.Vocabulary.{Vocabulary}
 use Rattle.wire.specs.TermBytes.{nameCount}
 use Rattle.wire.specs.Matching.{Inputs, tableLength, Span, noSpan, span, cutOut, yes, no}
+use Rattle.wire.specs.Effect.{Effect}
 use Rattle.wire.specs.Parser.{Reading, accept, refuse, readVocabulary}
 use Rattle.wire.specs.CheckComputed.{checkedTerm}
 use Rattle.wire.specs.SituationComputed.{checkedSituation}
@@ -67,28 +65,20 @@ spanNumbers W t g (n ∷ ns) = span W t g n .offset ∷ span W t g n .bytes ∷ 
 abbrev pub spanTable : Vocabulary → Term → Ground → List ℕ
 spanTable W t g = spanNumbers W t g (range 0 nameCount)
 
-pub record Matched : Type 0 where
-  pub reply : Reply
-  pub table : List ℕ
-
 -- "Yes fills a lent table .. No leaves the table unchanged."
-abbrev pub verdict : List ℕ → Inputs → Option Filling → Matched
-verdict table x (some f) = record { reply = yes; table = spanTable (x .vocabulary) (x .pattern) (x .situation) }
-verdict table x none = record { reply = no; table = table }
+abbrev pub verdict : List ℕ → Inputs → Option Filling → Effect
+verdict table x (some f) = record { reply = yes; after = spanTable (x .vocabulary) (x .pattern) (x .situation) }
+verdict table x none = record { reply = no; after = table }
 
 -- A refusal changes nothing.
-abbrev pub matchedWith : List ℕ → Judged → Matched
-matchedWith table (refusal n i q) = record { reply = refused n i q; table = table }
+abbrev pub matchedWith : List ℕ → Judged → Effect
+matchedWith table (refusal n i q) = record { reply = refused n i q; after = table }
 matchedWith table (clear x) =
     cond (eqb (length table) tableLength) (verdict table x (matcher (x .pattern) (x .situation)))
-    (record { reply = refused 19 3 0; table = table })
+    (record { reply = refused 19 3 0; after = table })
 
-abbrev pub matched : List ℕ → List ℕ → List ℕ → List ℕ → Matched
+abbrev pub matched : List ℕ → List ℕ → List ℕ → List ℕ → Effect
 matched v p s table = matchedWith table (judged v p s)
-
-pub record MatchShown (m : Matched) (r : Reply) (after : List ℕ) : Type 0 where
-  pub reply : r ≡ m .reply
-  pub table : after ≡ m .table
 
 abbrev pub spanFound : Inputs → ℕ → Option Filling → Span
 spanFound x n none = noSpan

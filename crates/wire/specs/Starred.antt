@@ -37,8 +37,8 @@ pub data Outcome : Type 0 where
 
 abbrev pub outcome : Call → Outcome
 outcome (checkVocabulary v) = answers (vocabularyReply v) []
-outcome (matchPattern v p s table) = answers (matched v p s table .reply) (matched v p s table .table)
-outcome (list v p out) = answers (listed v p out .reply) (listed v p out .out)
+outcome (matchPattern v p s table) = answers (matched v p s table .reply) (matched v p s table .after)
+outcome (list v p out) = answers (listed v p out .reply) (listed v p out .after)
 outcome (leftovers b) = prints (printed b)
 
 pub record Row : Type 0 where

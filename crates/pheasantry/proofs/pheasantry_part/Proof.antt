@@ -54,7 +54,7 @@ wide-requires-2 c κs = search needs
 returns-2 : tie.Need-returns-2
 returns-2 c =
     part-matched (lent (c .before .before .before .before .before .before .before)) (c .before .before .before .before .before .before .before .before .before .before .args .name) (let low = c .before .before .before .before .before .before .if1 .left in omega arith)
-    (c .before .before .before .before .match-pattern .ensures .1 .table) (c .before .before .wide .ensures) (c .before .wide2 .ensures)
+    (c .before .before .before .before .match-pattern .ensures .1 .after) (c .before .before .wide .ensures) (c .before .wide2 .ensures)
 
 pub pheasantry-part-spec : {M : Type 1} → statement M
 pheasantry-part-spec =
