@@ -1,9 +1,19 @@
--- The laws of frames: what is due of a frame without its lowest place, of one with no place left, and of the frame of a word.
+-- Frames: what is due of a frame without its first place, of one with no place left, and of a list of frames.
+--
+--   frame-parts, framed       a frame is made of its four numbers, and they are read back
+--   passed-framed, advanced-framed    the frames that `passed` and `advanced` make
+--   Behind, Advanced          y is the frame x without the first place of its run, or with its lowest place taken off its maps
+--   due-behind, due-advanced, due-done    what is due of them
+--   frame-behind, frame-advanced      they are frames of the same vocabulary
+--   due-bare                  where nothing is written, nothing is due
+--   saved-before, saved-last  a list of frames in which one is set
+--   all-last                  what holds of each of the first frames and of the next
+--
 use mathlib.Core.Path.{_≡_, refl, sym, ap, ap₂, _∙_}
 use mathlib.Core.Bool.{Bool, true, false, true≢false, false≢true}
 use mathlib.Core.List.{List, [], _∷_, _++_}
 use mathlib.Core.Logic.{_≢_}
-use Prim.Native.Nat.{ℕ, zero, suc, _+_, _*_, _/_, _%_, _^_, _<_, _≤_}
+use Prim.Native.Nat.{ℕ, zero, suc, _+_, _-_, _*_, _/_, _%_, _^_, _<_, _≤_}
 use native.Mathlib.Nat.{add-zero, pow-suc}
 use native.Mathlib.Decide.{ℕ-discrete}
 use native.Mathlib.Numerals.{add-one}
@@ -11,25 +21,49 @@ use native.Mathlib.Omega.{arith}
 use lib.Bits.{bitAnd, and-step}
 use lib.Count
 use lib.Dec.{eqb}
-use lib.ListN.{length, getD, take, drop, set, take-append-drop}
+use lib.ListN.{length, getD, drop, set}
 use lib.Seq.{drop-cons, getD-set-same, getD-set-other}
 use borrow.Author.Tests.{eqb-true, eq-eqb, ne-eqb}
-use Rattle.wire.specs.Map.{flagsIn, flags, bit, ones, firstFlag, restFlags, Slot, slots}
-use Rattle.wire.specs.Vocabulary.{Vocabulary, word, mapOf}
+use Rattle.wire.specs.Map.{flagsIn, flags, bit, firstFlag, restFlags, Slot, slots}
 use Rattle.wire.specs.TermLines.{Due, dueAt}
-use Rattle.wire.proofs.Map.{bit-odd, ones-count}
-use Rattle.reader.specs.Frames.{writtenIn, placesIn, kindsIn, Framed, FrameIn, frameDue, duesOf}
+use Rattle.wire.proofs.Map.{bit-odd}
+use Rattle.reader.specs.Frames.{runIn, kindsIn, writtenIn, placesIn, Framed, FrameIn, placesDue, frameDue, savedDue}
 
--- A frame's three numbers are read back.
-pub framed : (w p k : ℕ) → w < 256 → p < 256 → Framed (w + 256 * p + 65536 * k) w p k
-framed w p k h g =
-    let low : (w + 256 * p + 65536 * k) % 256 ≡ w = omega arith in
-    let above : (w + 256 * p + 65536 * k) / 256 ≡ p + 256 * k = omega arith in
+-- ---- the four numbers
+
+pub frame-parts : (x : ℕ) → x ≡ runIn x + 16 * (kindsIn x + 1048576 * (writtenIn x + 256 * placesIn x))
+frame-parts x = omega arith
+
+pub framed : (n k w p : ℕ) → n < 16 → k < 1048576 → w < 256 → Framed (n + 16 * (k + 1048576 * (w + 256 * p))) n k w p
+framed n k w p hn hk hw =
+    let x : ℕ = n + 16 * (k + 1048576 * (w + 256 * p)) in
+    let upper : x / 16 ≡ k + 1048576 * (w + 256 * p) = omega arith in
+    let maps : x / 16 / 1048576 ≡ w + 256 * p = ap (λ y. y / 1048576) upper ∙ omega arith in
     record {
-      written = low;
-      places = ap (λ n. n % 256) above ∙ omega arith;
-      kinds = omega arith;
+      run = omega arith;
+      kinds = ap (λ y. y % 1048576) upper ∙ omega arith;
+      written = ap (λ y. y % 256) maps ∙ omega arith;
+      places = ap (λ y. y / 256) maps ∙ omega arith;
     }
+
+-- The frame x without the first place of its run.
+abbrev pub Behind : ℕ → ℕ → Type 0
+Behind x y = Framed y (runIn x - 1) (kindsIn x + 1) (writtenIn x) (placesIn x)
+
+-- The frame x with its lowest place taken off its maps.
+abbrev pub Advanced : ℕ → ℕ → Type 0
+Advanced x y = Framed y (writtenIn x % 2) (kindsIn x + placesIn x % 2 - writtenIn x % 2) (writtenIn x / 2) (placesIn x / 2)
+
+pub passed-framed : (x : ℕ) → 0 < runIn x → kindsIn x < 131072 → Behind x (x + 15)
+passed-framed x some near =
+    let parts = frame-parts x in
+    let e : x + 15 ≡ (runIn x - 1) + 16 * ((kindsIn x + 1) + 1048576 * (writtenIn x + 256 * placesIn x)) = omega arith in
+    rw e (framed (runIn x - 1) (kindsIn x + 1) (writtenIn x) (placesIn x) (omega arith) (omega arith) (omega arith))
+
+pub advanced-framed : (x : ℕ) → kindsIn x < 131072 →
+    Advanced x (writtenIn x % 2 + 16 * ((kindsIn x + placesIn x % 2 - writtenIn x % 2) + 1048576 * (writtenIn x / 2 + 256 * (placesIn x / 2))))
+advanced-framed x near =
+    framed (writtenIn x % 2) (kindsIn x + placesIn x % 2 - writtenIn x % 2) (writtenIn x / 2) (placesIn x / 2) (omega arith) (omega arith) (omega arith)
 
 -- ---- bits past the last one that stands
 
@@ -72,7 +106,7 @@ slots-halves : (p w : ℕ) (l : List ℕ) → p < 256 → w < 256 →
     slots (flagsIn 7 (p / 2)) (flagsIn 7 (w / 2)) l ≡ slots (flags (p / 2)) (flags (w / 2)) l
 slots-halves p w l hp hw = wider-places 7 (p / 2) (flagsIn 7 (w / 2)) l (omega arith) ∙ wider-written 7 (w / 2) (flags (p / 2)) l (omega arith)
 
--- ---- the lowest place
+-- ---- the lowest place of the maps
 
 module _ (level : ℕ) (ps ws : List Bool) (v : List ℕ) (k : ℕ) where
   due-open : (b c : Bool) → c ≡ false → (b ≡ true → k < length v) →
@@ -92,50 +126,42 @@ module _ (level : ℕ) (ps ws : List Bool) (v : List ℕ) (k : ℕ) where
       ap (λ l. dueAt level (slots (true ∷ ps) (true ∷ ws) l)) (drop-cons v k 0 h)
       ∙ ap (λ n. record { sort = getD v k 0; level = level; root = false } ∷ dueAt level (slots ps ws (drop n v))) (sym (add-one k))
 
--- ---- a frame without its lowest place
+-- What is due of the maps p and w, their kinds from the offset k on.
+abbrev pub mapsDue : List ℕ → ℕ → ℕ → ℕ → ℕ → List Due
+mapsDue v level k p w = dueAt level (slots (flags p) (flags w) (drop k v))
 
-abbrev pub Shifted : ℕ → ℕ → Type 0
-Shifted x y = Framed y (writtenIn x / 2) (placesIn x / 2) (kindsIn x + placesIn x % 2)
+module _ (v : List ℕ) (level k p w : ℕ) (hp : p < 256) (hw : w < 256) where
+  halves : dueAt level (slots (flagsIn 7 (p / 2)) (flagsIn 7 (w / 2)) (drop (k + bit (eqb (p % 2) 1)) v)) ≡ mapsDue v level (k + p % 2) (p / 2) (w / 2)
+  halves =
+      ap (λ n. dueAt level (slots (flagsIn 7 (p / 2)) (flagsIn 7 (w / 2)) (drop (k + n) v))) (bit-odd p)
+      ∙ ap (dueAt level) (slots-halves p w (drop (k + p % 2) v) hp hw)
 
-abbrev pub shiftOf : ℕ → ℕ
-shiftOf x = writtenIn x / 2 + 256 * (placesIn x / 2) + 65536 * (kindsIn x + placesIn x % 2)
+  maps-skip : (w % 2 ≡ 1 → ⊥) → (p % 2 ≡ 1 → k < length v) → mapsDue v level k p w ≡ mapsDue v level (k + p % 2) (p / 2) (w / 2)
+  maps-skip e h =
+      due-open level (flagsIn 7 (p / 2)) (flagsIn 7 (w / 2)) v k (eqb (p % 2) 1) (eqb (w % 2) 1) (ne-eqb (w % 2) 1 e) (λ o. h (eqb-true (p % 2) 1 o))
+      ∙ halves
 
-pub shifted : (x : ℕ) → Shifted x (shiftOf x)
-shifted x = framed (writtenIn x / 2) (placesIn x / 2) (kindsIn x + placesIn x % 2) (omega arith) (omega arith)
+  maps-take : w % 2 ≡ 1 → p % 2 ≡ 1 → k < length v →
+      mapsDue v level k p w ≡ record { sort = getD v k 0; level = level; root = false } ∷ mapsDue v level (k + p % 2) (p / 2) (w / 2)
+  maps-take e o h =
+      due-written level (flagsIn 7 (p / 2)) (flagsIn 7 (w / 2)) v k (eqb (p % 2) 1) (eqb (w % 2) 1) (eq-eqb (p % 2) 1 o) (eq-eqb (w % 2) 1 e) h
+      ∙ ap {B = List Due} (λ z. record { sort = getD v k 0; level = level; root = false } ∷ z) halves
 
--- What is due of the halves, from the offset behind the lowest place's kind.
-due-behind : (v : List ℕ) (level x y : ℕ) → Shifted x y →
-    dueAt level (slots (flagsIn 7 (placesIn x / 2)) (flagsIn 7 (writtenIn x / 2)) (drop (kindsIn x + bit (eqb (placesIn x % 2) 1)) v)) ≡ frameDue v level y
-due-behind v level x y s =
-    ap (λ n. dueAt level (slots (flagsIn 7 (placesIn x / 2)) (flagsIn 7 (writtenIn x / 2)) (drop (kindsIn x + n) v))) (bit-odd (placesIn x))
-    ∙ ap (dueAt level) (slots-halves (placesIn x) (writtenIn x) (drop (kindsIn x + placesIn x % 2) v) (omega arith) (omega arith))
-    ∙ ap₂ (λ p w. dueAt level (slots (flags p) (flags w) (drop (kindsIn x + placesIn x % 2) v))) (sym (s .places)) (sym (s .written))
-    ∙ ap (λ k. dueAt level (slots (flags (placesIn y)) (flags (writtenIn y)) (drop k v))) (sym (s .kinds))
-
--- A written place is a place, and the vocabulary has its kind.
-pub place-written : (v : List ℕ) (x : ℕ) → FrameIn v x → x % 2 ≡ 1 → (placesIn x % 2 ≡ 1) × (kindsIn x < length v)
-place-written v x h e =
-    let step = and-step (writtenIn x) (placesIn x) in
-    let same = h .within in
-    let odd : placesIn x % 2 ≡ 1 = omega arith in
-    (odd, omega (arith, h .inside, Count.ones-step (placesIn x)))
-
-place-known : (v : List ℕ) (x : ℕ) → FrameIn v x → eqb (placesIn x % 2) 1 ≡ true → kindsIn x < length v
-place-known v x h e = omega (arith, h .inside, Count.ones-step (placesIn x), eqb-true (placesIn x % 2) 1 e)
-
--- The lowest place is due where it is written.
-pub due-take : (v : List ℕ) (level x y : ℕ) → FrameIn v x → Shifted x y → x % 2 ≡ 1 →
-    frameDue v level x ≡ record { sort = getD v (kindsIn x) 0; level = level; root = false } ∷ frameDue v level y
-due-take v level x y h s e =
-    due-written level (flagsIn 7 (placesIn x / 2)) (flagsIn 7 (writtenIn x / 2)) v (kindsIn x) (eqb (placesIn x % 2) 1) (eqb (writtenIn x % 2) 1)
-    (eq-eqb (placesIn x % 2) 1 (place-written v x h e .0)) (eq-eqb (writtenIn x % 2) 1 (omega arith)) (place-written v x h e .1)
-    ∙ ap {B = List Due} (λ z. record { sort = getD v (kindsIn x) 0; level = level; root = false } ∷ z) (due-behind v level x y s)
-
-pub due-skip : (v : List ℕ) (level x y : ℕ) → FrameIn v x → Shifted x y → (x % 2 ≡ 1 → ⊥) → frameDue v level x ≡ frameDue v level y
-due-skip v level x y h s e =
-    due-open level (flagsIn 7 (placesIn x / 2)) (flagsIn 7 (writtenIn x / 2)) v (kindsIn x) (eqb (placesIn x % 2) 1) (eqb (writtenIn x % 2) 1)
-    (ne-eqb (writtenIn x % 2) 1 (λ o. e (omega arith))) (place-known v x h)
-    ∙ due-behind v level x y s
+  -- The lowest place is a run of its own where it is written.
+  maps-first : w % 2 ≤ p % 2 → (p % 2 ≡ 1 → k < length v) →
+      mapsDue v level k p w ≡ placesDue v level (w % 2) (k + p % 2 - w % 2) ++ mapsDue v level (k + p % 2) (p / 2) (w / 2)
+  maps-first within inside = go (ℕ-discrete (w % 2) 1)
+    where
+      go : Dec (w % 2 ≡ 1) → mapsDue v level k p w ≡ placesDue v level (w % 2) (k + p % 2 - w % 2) ++ mapsDue v level (k + p % 2) (p / 2) (w / 2)
+      go (yes o) =
+          let odd : p % 2 ≡ 1 = omega arith in
+          let here : k ≡ k + p % 2 - w % 2 = omega arith in
+          maps-take o odd (inside odd)
+          ∙ ap₂ (λ n j. placesDue v level n j ++ mapsDue v level (k + p % 2) (p / 2) (w / 2)) (sym o) here
+      go (no e) =
+          let none : 0 ≡ w % 2 = omega arith in
+          maps-skip e inside
+          ∙ ap (λ n. placesDue v level n (k + p % 2 - w % 2) ++ mapsDue v level (k + p % 2) (p / 2) (w / 2)) none
 
 due-none : (ps : List Bool) (d level : ℕ) (l : List ℕ) → dueAt level (slots ps (flagsIn d 0) l) ≡ []
 due-none [] d level l = refl
@@ -149,77 +175,113 @@ due-none (true ∷ ps) (suc d) level (k ∷ l) = due-none ps d level l
 pub due-bare : (ps : List Bool) (m level : ℕ) (l : List ℕ) → m ≡ 0 → dueAt level (slots ps (flags m) l) ≡ []
 due-bare ps m level l e = ap (λ w. dueAt level (slots ps (flags w) l)) e ∙ due-none ps 8 level l
 
-pub due-done : (v : List ℕ) (level x : ℕ) → writtenIn x ≡ 0 → frameDue v level x ≡ []
-due-done v level x = due-bare (flags (placesIn x)) (writtenIn x) level (drop (kindsIn x) v)
+-- ---- what is due of a frame
 
-pub frame-shift : (v : List ℕ) (x y : ℕ) → FrameIn v x → Shifted x y → FrameIn v y
-frame-shift v x y h s =
-    let step = and-step (writtenIn x) (placesIn x) in
-    let same = h .within in
-    let half : bitAnd (writtenIn x / 2) (placesIn x / 2) ≡ writtenIn x / 2 = omega arith in
-    let count : kindsIn y + Count.ones (placesIn y) ≡ kindsIn x + Count.ones (placesIn x) =
-    ap₂ (λ k p. k + Count.ones p) (s .kinds) (s .places) ∙ omega (arith, Count.ones-step (placesIn x)) in
-    record {
-      within = ap₂ bitAnd (s .written) (s .places) ∙ half ∙ sym (s .written);
-      inside = omega (arith, h .inside);
-      small = omega (arith, h .small);
-    }
+-- The same by the frame's four numbers.
+abbrev pub partsDue : List ℕ → ℕ → ℕ → ℕ → ℕ → ℕ → List Due
+partsDue v level n k w p = placesDue v level n k ++ mapsDue v level (k + n) p w
 
--- ---- the frame of a word
+pub due-parts : (v : List ℕ) (level x n k w p : ℕ) → Framed x n k w p → frameDue v level x ≡ partsDue v level n k w p
+due-parts v level x n k w p f =
+    ap₂ (λ n k. partsDue v level n k (writtenIn x) (placesIn x)) (f .run) (f .kinds)
+    ∙ ap₂ (partsDue v level n k) (f .written) (f .places)
 
--- z is the frame of the word f of W at the written map m.
-pub record WordFramed (v : List ℕ) (W : Vocabulary) (f m z : ℕ) : Type 0 where
-  pub fits : FrameIn v z
-  pub written : writtenIn z ≡ m
-  pub dues : (level : ℕ) → frameDue v level z ≡ dueAt level (slots (flags (mapOf W f)) (flags m) (word W f .kinds))
+module _ (v : List ℕ) (level x : ℕ) where
+  pub due-done : runIn x ≡ 0 → writtenIn x ≡ 0 → frameDue v level x ≡ []
+  due-done e h =
+      ap (λ n. placesDue v level n (kindsIn x) ++ mapsDue v level (kindsIn x + n) (placesIn x) (writtenIn x)) e
+      ∙ due-bare (flags (placesIn x)) (writtenIn x) level (drop (kindsIn x + 0) v) h
 
-pub frame-some : {v : List ℕ} {W : Vocabulary} {f m z : ℕ} → WordFramed v W f m z → (m ≡ 0 → ⊥) → 0 < writtenIn z
-frame-some c full = let written = c .written in omega arith
+  -- The first place of the run is due first.
+  pub due-behind : (y : ℕ) → Behind x y → 0 < runIn x →
+      frameDue v level x ≡ record { sort = getD v (kindsIn x) 0; level = level; root = false } ∷ frameDue v level y
+  due-behind y b some =
+      let e : runIn x ≡ suc (runIn x - 1) = omega arith in
+      let next : kindsIn x + runIn x ≡ kindsIn x + 1 + (runIn x - 1) = omega arith in
+      ap₂ (λ n k. placesDue v level n (kindsIn x) ++ mapsDue v level k (placesIn x) (writtenIn x)) e next
+      ∙ ap {B = List Due} (λ z. record { sort = getD v (kindsIn x) 0; level = level; root = false } ∷ z)
+      (sym (due-parts v level y (runIn x - 1) (kindsIn x + 1) (writtenIn x) (placesIn x) b))
 
--- Kinds behind those of the places do not matter.
-slots-front : (ps ws : List Bool) (ks r : List ℕ) → ones ps ≤ length ks → slots ps ws (ks ++ r) ≡ slots ps ws ks
-slots-front [] ws ks r h = refl
-slots-front (false ∷ ps) ws ks r h = slots-front ps (restFlags ws) ks r (omega arith)
-slots-front (true ∷ ps) ws [] r h = absurd (omega arith)
-slots-front (true ∷ ps) ws (k ∷ ks) r h =
-    ap {B = List Slot} (λ z. record { sort = k; written = firstFlag ws } ∷ z) (slots-front ps (restFlags ws) ks r (omega arith))
+  module _ (h : FrameIn v x) where
+    pub low-within : writtenIn x % 2 ≤ placesIn x % 2
+    low-within =
+        let step = and-step (writtenIn x) (placesIn x) in
+        let same = h .within in
+        omega arith
 
--- A frame whose places' kinds ks stand in v from the offset k on.
-module _ (v : List ℕ) (z m p k : ℕ) (ks : List ℕ) (of : Framed z m p k) (stand : take (length ks) (drop k v) ≡ ks) (count : length ks ≡ ones (flags p)) where
-  counted : kindsIn z + Count.ones (placesIn z) ≡ k + length ks
-  counted =
-      let places = of .places in
-      ap₂ (λ k p. k + Count.ones p) (of .kinds) places ∙ ap (λ n. k + n) (ones-count p (omega arith) ∙ sym count)
+    pub due-advanced : (y : ℕ) → Advanced x y → runIn x ≡ 0 → frameDue v level x ≡ frameDue v level y
+    due-advanced y a none =
+        let k : ℕ = kindsIn x in
+        let p : ℕ = placesIn x in
+        let w : ℕ = writtenIn x in
+        let within = low-within in
+        let map = h .map in
+        let inside = h .inside in
+        let here : k + 0 ≡ k = omega arith in
+        let behind : k + p % 2 ≡ k + p % 2 - w % 2 + w % 2 = omega arith in
+        ap (λ n. placesDue v level n k ++ mapsDue v level (k + n) p w) none
+        ∙ ap (λ n. mapsDue v level n p w) here
+        ∙ maps-first v level k p w map (omega arith) within (λ o. omega (arith, Count.ones-step p))
+        ∙ ap (λ n. placesDue v level (w % 2) (k + p % 2 - w % 2) ++ mapsDue v level n (p / 2) (w / 2)) behind
+        ∙ sym (due-parts v level y (w % 2) (k + p % 2 - w % 2) (w / 2) (p / 2) a)
 
-  pub word-frame : bitAnd m p ≡ m → k + length ks ≤ length v → k + length ks < 131072 → FrameIn v z
-  word-frame w h g = record {
-    within = ap₂ bitAnd (of .written) (of .places) ∙ w ∙ sym (of .written);
-    inside = omega (arith, counted);
-    small = omega (arith, counted);
-  }
+-- ---- frames of a vocabulary
 
-  pub word-due : (level : ℕ) → frameDue v level z ≡ dueAt level (slots (flags p) (flags m) ks)
-  word-due level =
-      ap₂ (λ p m. dueAt level (slots (flags p) (flags m) (drop (kindsIn z) v))) (of .places) (of .written)
-      ∙ ap (λ l. dueAt level (slots (flags p) (flags m) l))
-      (ap (λ k. drop k v) (of .kinds) ∙ sym (take-append-drop (length ks) (drop k v)) ∙ ap (λ l. l ++ drop (length ks) (drop k v)) stand)
-      ∙ ap (dueAt level) (slots-front (flags p) (flags m) ks (drop (length ks) (drop k v)) (omega arith))
+module _ (v : List ℕ) (x y : ℕ) (h : FrameIn v x) where
+  pub frame-behind : Behind x y → 0 < runIn x → FrameIn v y
+  frame-behind b some =
+      let run = b .run in
+      let kinds = b .kinds in
+      let few = h .few in
+      let ones : Count.ones (placesIn y) ≡ Count.ones (placesIn x) = ap Count.ones (b .places) in
+      let map = h .map in
+      let places = b .places in
+      record {
+        few = omega arith;
+        map = omega arith;
+        within = ap₂ bitAnd (b .written) (b .places) ∙ h .within ∙ sym (b .written);
+        inside = omega (arith, h .inside, ones);
+        near = omega (arith, h .near, ones);
+      }
+
+  pub frame-advanced : Advanced x y → runIn x ≡ 0 → FrameIn v y
+  frame-advanced a none =
+      let step = and-step (writtenIn x) (placesIn x) in
+      let same = h .within in
+      let half : bitAnd (writtenIn x / 2) (placesIn x / 2) ≡ writtenIn x / 2 = omega arith in
+      let run = a .run in
+      let kinds = a .kinds in
+      let places = a .places in
+      let map = h .map in
+      let low = low-within v 0 x h in
+      let ones : Count.ones (placesIn y) ≡ Count.ones (placesIn x / 2) = ap Count.ones (a .places) in
+      record {
+        few = omega arith;
+        map = omega arith;
+        within = ap₂ bitAnd (a .written) (a .places) ∙ half ∙ sym (a .written);
+        inside = omega (arith, h .inside, ones, Count.ones-step (placesIn x));
+        near = omega (arith, h .near, ones, Count.ones-step (placesIn x));
+      }
+
+-- The frame of no place at all.
+pub frame-none : (v : List ℕ) → FrameIn v 0
+frame-none v =
+    let none : Count.ones (placesIn 0) ≤ 0 = Count.ones-le 0 (placesIn 0) (omega arith) in
+    record { few = omega arith; map = omega arith; within = refl; inside = omega arith; near = omega arith }
 
 -- ---- a list of frames
 
 module _ (v : List ℕ) where
-  dues-agree : (xs ys : List ℕ) (n : ℕ) → ((i : ℕ) → i < n → getD xs i 0 ≡ getD ys i 0) → duesOf v xs n ≡ duesOf v ys n
-  dues-agree xs ys zero h = refl
-  dues-agree xs ys (suc n) h =
-      ap₂ (λ x l. frameDue v (suc (suc n)) x ++ l) (h n (omega arith)) (dues-agree xs ys n (λ i p. h i (omega arith)))
+  saved-agree : (xs ys : List ℕ) (n : ℕ) → ((i : ℕ) → i < n → getD xs i 0 ≡ getD ys i 0) → savedDue v xs n ≡ savedDue v ys n
+  saved-agree xs ys zero h = refl
+  saved-agree xs ys (suc n) h =
+      ap₂ (λ x l. frameDue v (suc n) x ++ l) (h n (omega arith)) (saved-agree xs ys n (λ i p. h i (omega arith)))
 
   -- A frame does not matter to what is due of the frames before it.
-  pub dues-before : (xs : List ℕ) (n j y : ℕ) → n ≤ j → duesOf v (set xs j y) n ≡ duesOf v xs n
-  dues-before xs n j y h = dues-agree (set xs j y) xs n (λ i p. let apart : i ≢ j = (λ e. omega arith) in getD-set-other xs j i y 0 apart)
-
-  pub dues-last : (xs : List ℕ) (n y : ℕ) → n < length xs → duesOf v (set xs n y) (suc n) ≡ frameDue v (suc (suc n)) y ++ duesOf v xs n
-  dues-last xs n y h =
-      ap₂ (λ x l. frameDue v (suc (suc n)) x ++ l) (getD-set-same xs n y 0 h) (dues-before xs n n y (omega arith))
+  pub saved-last : (xs : List ℕ) (n y : ℕ) → n < length xs → savedDue v (set xs n y) (suc n) ≡ frameDue v (suc n) y ++ savedDue v xs n
+  saved-last xs n y h =
+      ap₂ (λ x l. frameDue v (suc n) x ++ l) (getD-set-same xs n y 0 h)
+      (saved-agree (set xs n y) xs n (λ i p. let apart : i ≢ n = (λ e. omega arith) in getD-set-other xs n i y 0 apart))
 
 -- What holds of each of the first n elements and of the next holds of all of them.
 pub all-last : (P : ℕ → Type 0) (xs : List ℕ) (n y : ℕ) → n < length xs → ((i : ℕ) → i < n → P (getD xs i 0)) → P y →
@@ -229,20 +291,3 @@ all-last P xs n y h before last i below = go (ℕ-discrete i n)
     go : Dec (i ≡ n) → P (getD (set xs n y) i 0)
     go (yes e) = rw (e, getD-set-same xs n y 0 h) last
     go (no d) = let apart : i ≢ n = d in rw (getD-set-other xs n i y 0 apart) (before i (omega arith))
-
--- ---- what is left to read of a list of frames
-
--- A bound on the turns for the first n frames: one to leave each, and fewer than its written map's number to pass its places.
-abbrev pub turnsOf : List ℕ → ℕ → ℕ
-turnsOf xs zero = 0
-turnsOf xs (suc n) = writtenIn (getD xs n 0) + 1 + turnsOf xs n
-
-turns-agree : (xs ys : List ℕ) (n : ℕ) → ((i : ℕ) → i < n → getD xs i 0 ≡ getD ys i 0) → turnsOf xs n ≡ turnsOf ys n
-turns-agree xs ys zero h = refl
-turns-agree xs ys (suc n) h =
-    ap₂ (λ x l. writtenIn x + 1 + l) (h n (omega arith)) (turns-agree xs ys n (λ i p. h i (omega arith)))
-
-pub turns-last : (xs : List ℕ) (n y : ℕ) → n < length xs → turnsOf (set xs n y) (suc n) ≡ writtenIn y + 1 + turnsOf xs n
-turns-last xs n y h =
-    ap₂ (λ x l. writtenIn x + 1 + l) (getD-set-same xs n y 0 h)
-    (turns-agree (set xs n y) xs n (λ i p. let apart : i ≢ n = (λ e. omega arith) in getD-set-other xs n i y 0 apart))

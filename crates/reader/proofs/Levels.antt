@@ -2,7 +2,7 @@
 use mathlib.Core.Path.{_≡_, refl, sym, ap, subst, _∙_}
 use mathlib.Core.Bool.{false}
 use mathlib.Core.List.{List, [], _∷_, _++_}
-use Prim.Native.Nat.{ℕ, zero, suc, _+_, _%_, _<_, _≤_, max}
+use Prim.Native.Nat.{ℕ, zero, suc, _+_, _-_, _%_, _/_, _*_, _<_, _≤_, max}
 use native.Mathlib.Decide.{decLe, ℕ-discrete}
 use native.Mathlib.Omega.{arith}
 use lib.ListN.{getD}
@@ -11,56 +11,72 @@ use Rattle.wire.specs.Vocabulary.{Vocabulary}
 use Rattle.wire.specs.TermLines.{Due, dueAt}
 use Rattle.wire.specs.Parser.{Node, wordHere, nameHere, wholeHere, fault, node}
 use Rattle.wire.specs.TermBytes.{mostLevels}
-use Rattle.wire.proofs.Scan.{scanNode, run, run-node, run-limit}
-use Rattle.reader.specs.Frames.{writtenIn, kindsIn, FrameIn, frameDue}
-use Rattle.reader.specs.Nodes.{tallyOf}
-use Rattle.reader.proofs.Frames.{shiftOf, shifted, due-take, due-skip, frame-shift}
+use Rattle.wire.specs.Scan.{Tally, withWord, withLeaf, scanNode, run}
+use Rattle.wire.proofs.Scan.{run-node, run-limit}
+use Rattle.reader.specs.Frames.{runIn, kindsIn, writtenIn, placesIn, FrameIn, frameDue}
+use Rattle.reader.proofs.Frames.{advanced-framed, passed-framed, due-behind, due-advanced, frame-advanced}
+
+-- The tally with a level that is due.
+abbrev pub withLevel : ℕ → Tally → Tally
+withLevel level y = record { words = y .words; deepest = max (y .deepest) level; gap = y .gap }
 
 -- A run from what is due on reaches a level.
 abbrev pub Reaches : Vocabulary → ℕ → List Due → Type 0
 Reaches W level due =
-    (ds : List Due) (seen : List Occurrence) (c e : ℕ) (l : List ℕ) →
-    run W (due ++ ds) seen (tallyOf c (max e level)) l ≡ run W (due ++ ds) seen (tallyOf c e) l
+    (ds : List Due) (seen : List Occurrence) (y : Tally) (l : List ℕ) →
+    run W (due ++ ds) seen (withLevel level y) l ≡ run W (due ++ ds) seen y l
 
 module _ (W : Vocabulary) where
   pub first-reaches : (d : Due) (due : List Due) → Reaches W (d .level) (d ∷ due)
-  first-reaches d due ds seen c e l = go (decLe (d .level) mostLevels)
+  first-reaches d due ds seen y l = go (decLe (d .level) mostLevels)
     where
-      twice : max (max e (d .level)) (d .level) ≡ max e (d .level)
+      twice : max (max (y .deepest) (d .level)) (d .level) ≡ max (y .deepest) (d .level)
       twice = omega arith
 
-      behind : (x : Node) → scanNode (run W) d (due ++ ds) seen (tallyOf c (max e (d .level))) x ≡ scanNode (run W) d (due ++ ds) seen (tallyOf c e) x
-      behind (wordHere f ks r) = ap (λ k. run W (dueAt (suc (d .level)) ks ++ (due ++ ds)) seen (tallyOf (c + 1) k) r) twice
-      behind (nameHere n r) = ap (λ k. run W (due ++ ds) (seen ++ (record { name = n; sort = d .sort } ∷ [])) (tallyOf c k) r) twice
-      behind (wholeHere r) = ap (λ k. run W (due ++ ds) seen (tallyOf c k) r) twice
+      behind : (x : Node) → scanNode (run W) d (due ++ ds) seen (withLevel (d .level) y) x ≡ scanNode (run W) d (due ++ ds) seen y x
+      behind (wordHere f ks r) =
+          ap (λ k. run W (dueAt (suc (d .level)) ks ++ (due ++ ds)) seen (record { words = y .words + 1; deepest = k; gap = withWord (d .level) ks r y .gap }) r) twice
+      behind (nameHere n r) =
+          ap (λ k. run W (due ++ ds) (seen ++ (record { name = n; sort = d .sort } ∷ [])) (record { words = y .words; deepest = k; gap = withLeaf (d .level) r y .gap }) r) twice
+      behind (wholeHere r) = ap (λ k. run W (due ++ ds) seen (record { words = y .words; deepest = k; gap = withLeaf (d .level) r y .gap }) r) twice
       behind (fault n r) = refl
 
-      go : Dec (d .level ≤ mostLevels) → run W (d ∷ (due ++ ds)) seen (tallyOf c (max e (d .level))) l ≡ run W (d ∷ (due ++ ds)) seen (tallyOf c e) l
+      go : Dec (d .level ≤ mostLevels) → run W (d ∷ (due ++ ds)) seen (withLevel (d .level) y) l ≡ run W (d ∷ (due ++ ds)) seen y l
       go (yes h) =
-          run-node W d (due ++ ds) seen (tallyOf c (max e (d .level))) l h
+          run-node W d (due ++ ds) seen (withLevel (d .level) y) l h
           ∙ behind (node W (d .root) (d .sort) seen l)
-          ∙ sym (run-node W d (due ++ ds) seen (tallyOf c e) l h)
+          ∙ sym (run-node W d (due ++ ds) seen y l h)
       go (no h) =
           let high : mostLevels < d .level = omega arith in
-          run-limit W d (due ++ ds) seen (tallyOf c (max e (d .level))) l high ∙ sym (run-limit W d (due ++ ds) seen (tallyOf c e) l high)
+          run-limit W d (due ++ ds) seen (withLevel (d .level) y) l high ∙ sym (run-limit W d (due ++ ds) seen y l high)
 
   module _ (v : List ℕ) (level : ℕ) where
-    -- The lowest place is due, or the others are.
-    frame-step : (x : ℕ) → FrameIn v x → ((x % 2 ≡ 1 → ⊥) → Reaches W level (frameDue v level (shiftOf x))) → Reaches W level (frameDue v level x)
-    frame-step x sound others = go (ℕ-discrete (x % 2) 1)
-      where
-        go : Dec (x % 2 ≡ 1) → Reaches W level (frameDue v level x)
-        go (yes odd) =
-            subst (Reaches W level) (sym (due-take v level x (shiftOf x) sound (shifted x) odd))
-            (first-reaches (record { sort = getD v (kindsIn x) 0; level = level; root = false }) (frameDue v level (shiftOf x)))
-        go (no even) = subst (Reaches W level) (sym (due-skip v level x (shiftOf x) sound (shifted x) even)) (others even)
+    -- The first place of a run is due.
+    run-reaches : (x : ℕ) → 0 < runIn x → FrameIn v x → Reaches W level (frameDue v level x)
+    run-reaches x some sound =
+        let near = sound .near in
+        subst (Reaches W level) (sym (due-behind v level x (x + 15) (passed-framed x some (omega arith)) some))
+        (first-reaches (record { sort = getD v (kindsIn x) 0; level = level; root = false }) (frameDue v level (x + 15)))
 
-    frame-below : (n x : ℕ) → writtenIn x < n → FrameIn v x → 0 < writtenIn x → Reaches W level (frameDue v level x)
+    -- A frame with its lowest place taken off its maps.
+    abbrev next : ℕ → ℕ
+    next x = writtenIn x % 2 + 16 * ((kindsIn x + placesIn x % 2 - writtenIn x % 2) + 1048576 * (writtenIn x / 2 + 256 * (placesIn x / 2)))
+
+    frame-below : (n x : ℕ) → writtenIn x < n → FrameIn v x → 0 < runIn x + writtenIn x → Reaches W level (frameDue v level x)
     frame-below zero x few sound some = absurd (omega arith)
-    frame-below (suc n) x few sound some =
-        let half = shifted x .written in
-        frame-step x sound (λ even. frame-below n (shiftOf x) (omega arith) (frame-shift v x (shiftOf x) sound (shifted x)) (omega arith))
+    frame-below (suc n) x few sound some = go (ℕ-discrete (runIn x) 0) (frame-below n (next x))
+      where
+        go : Dec (runIn x ≡ 0) → (writtenIn (next x) < n → FrameIn v (next x) → 0 < runIn (next x) + writtenIn (next x) → Reaches W level (frameDue v level (next x))) →
+            Reaches W level (frameDue v level x)
+        go (no other) ih = run-reaches x (omega arith) sound
+        go (yes none) ih =
+            let near = sound .near in
+            let a = advanced-framed x (omega arith) in
+            let run = a .run in
+            let written = a .written in
+            subst (Reaches W level) (sym (due-advanced v level x sound (next x) a none))
+            (ih (omega arith) (frame-advanced v x (next x) sound a none) (omega arith))
 
-    -- A frame with written places has one due at its level.
-    pub frame-reaches : (x : ℕ) → FrameIn v x → 0 < writtenIn x → Reaches W level (frameDue v level x)
+    -- A frame with places that are due has one due at its level.
+    pub frame-reaches : (x : ℕ) → FrameIn v x → 0 < runIn x + writtenIn x → Reaches W level (frameDue v level x)
     frame-reaches x = frame-below (suc (writtenIn x)) x (omega arith)

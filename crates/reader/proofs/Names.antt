@@ -1,4 +1,8 @@
--- The table of names answers as the list of the names seen does.
+-- Names: the table of names answers as the list of the names seen does.
+--
+--   clashing-new, clashing-same, clashing-other    what the test of an entry gives
+--   named-clash, named-none, named-more    of the table: its answer, no names yet, and a name more
+--
 use mathlib.Core.Path.{_≡_, refl, sym, ap, ap₂, _∙_}
 use mathlib.Core.Bool.{Bool, true, false, not, _&&_, _||_, true≢false, and-false, or-false, or-self, or-assoc}
 use mathlib.Core.List.{List, [], _∷_, _++_}
@@ -12,7 +16,7 @@ use lib.Seq.{getD-set-same, getD-set-other}
 use borrow.Author.Tests.{eqb-true, eq-eqb, ne-eqb}
 use Rattle.terms.specs.Term.{Occurrence}
 use Rattle.wire.specs.Parser.{clash}
-use Rattle.reader.specs.Nodes.{clashing}
+use Rattle.reader.specs.Names.{clashing, Named}
 
 pub clashing-new : (k s : ℕ) → k ≡ 256 → false ≡ clashing k s
 clashing-new k s e = rw (eq-eqb k 256 e)
@@ -22,9 +26,6 @@ clashing-same k s e = rw (eq-eqb k s e) (sym (and-false (not (eqb k 256))))
 
 pub clashing-other : (k s : ℕ) → (k ≡ 256 → ⊥) → (k ≡ s → ⊥) → true ≡ clashing k s
 clashing-other k s d e = rw (ne-eqb k 256 d, ne-eqb k s e)
-
-pub Named : List ℕ → List Occurrence → Type 0
-Named names seen = (n s : ℕ) → n < 64 → clash seen n s ≡ clashing (getD names n 0) s
 
 clash-append : (seen : List Occurrence) (o : Occurrence) (n s : ℕ) →
     clash (seen ++ (o ∷ [])) n s ≡ (clash seen n s || (eqb (o .name) n && not (eqb (o .sort) s)))

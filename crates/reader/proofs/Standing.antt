@@ -1,4 +1,11 @@
--- What the functions that read a node answer, case by case.
+-- Standing: what the functions that read a node answer, case by case.
+--
+--   word-differs, word-ends, word-stray, word-stands    of a word
+--   at-ends, at-deep, at-word, at-name, at-unknown      of what is due
+--   Stood, stood, stood-room     an answer under a vocabulary
+--   node-inside, node-room       an answer before any vocabulary
+--   rest-whole                   the rest of a term, as it is lent
+--
 use mathlib.Core.Path.{_≡_, refl, sym, ap, subst, subst₂, _∙_}
 use mathlib.Core.Bool.{false}
 use mathlib.Core.List.{List, [], _∷_}
@@ -10,11 +17,11 @@ use lib.Seq.{take-all}
 use Rattle.wire.specs.Map.{flags, within}
 use Rattle.wire.specs.Vocabulary.{Vocabulary}
 use Rattle.wire.specs.Parser.{stop, nameHere, fault, node, atLimit}
-use Rattle.wire.proofs.Scan.{Tally}
+use Rattle.wire.specs.Scan.{Scanned}
 use Rattle.reader.specs.Nodes.{TablesOf, nodeOf, Inside, Limited, NodeAt, WordAt}
 use Rattle.reader.specs.declared.TermRefusal.the-variants as T
-use Rattle.reader.specs.declared.term.Node.{Node as Answer}
-use Rattle.reader.specs.declared.term.Node.the-variants.{Word, Name, Fault}
+use Rattle.reader.specs.declared.node.Node.{Node as Answer}
+use Rattle.reader.specs.declared.node.Node.the-variants.{Word, Name, Fault}
 use Rattle.reader.proofs.Nodes.{within-and, within-not, node-ends, node-differs, node-short, node-stray, node-word, node-name, node-unknown}
 
 -- A fault k at a place, of bytes that begin at an offset.
@@ -34,28 +41,37 @@ module _ (f result map s at : ℕ) (rest : List ℕ) (some : 0 < length rest) (f
     same = λ W k r m. node-short W s rest some h k (sym r ∙ d) ∙ fault-at 9 at (at + 1) 1 rest (omega arith);
   })
 
-  pub word-stray : result ≡ s → 2 ≤ length rest → getD rest 1 0 < 256 → (bitAnd (getD rest 1 0) map ≡ getD rest 1 0 → ⊥) →
+  stray-there : result ≡ s → 2 ≤ length rest → getD rest 1 0 < 256 → (bitAnd (getD rest 1 0) map ≡ getD rest 1 0 → ⊥) →
       WordAt f result map s at rest (Fault (T.StrayBit (at + 1)))
-  word-stray d h small w = subst (λ f. WordAt f result map s at rest (Fault (T.StrayBit (at + 1)))) first (record {
+  stray-there d h small w = subst (λ f. WordAt f result map s at rest (Fault (T.StrayBit (at + 1)))) first (record {
     inside = λ n maps k e. record { from = omega arith; upTo = omega arith };
     same = λ W k r m.
         node-stray W s rest h k (sym r ∙ d) (ap (λ p. within (flags (getD rest 1 0)) (flags p)) (sym m) ∙ within-not (getD rest 1 0) map small w)
         ∙ fault-at 14 at (at + 1) 1 rest (omega arith);
   })
 
-  pub word-stands : result ≡ s → 2 ≤ length rest → getD rest 1 0 < 256 → bitAnd (getD rest 1 0) map ≡ getD rest 1 0 →
+  word-there : result ≡ s → 2 ≤ length rest → getD rest 1 0 < 256 → bitAnd (getD rest 1 0) map ≡ getD rest 1 0 →
       WordAt f result map s at rest (Word f (getD rest 1 0))
-  word-stands d h small w = subst (λ f. WordAt f result map s at rest (Word f (getD rest 1 0))) first (record {
+  word-there d h small w = subst (λ f. WordAt f result map s at rest (Word f (getD rest 1 0))) first (record {
     inside = λ n maps k e. record { known = k; long = h; within = ap (bitAnd (getD rest 1 0)) e ∙ w };
     same = λ W k r m.
         node-word W s rest h k (sym r ∙ d) (ap (λ p. within (flags (getD rest 1 0)) (flags p)) (sym m) ∙ within-and 8 (getD rest 1 0) map small w);
   })
 
-limit-ends : (rest : List ℕ) (n : ℕ) → length rest ≡ 0 → atLimit {A = Tally} rest ≡ stop 9 (drop n rest)
+  -- The same with the map read as m.
+  module _ {m : ℕ} (second : m ≡ getD rest 1 0) (d : result ≡ s) (h : 2 ≤ length rest) (small : m < 256) where
+    pub word-stray : (bitAnd m map ≡ m → ⊥) → WordAt f result map s at rest (Fault (T.StrayBit (at + 1)))
+    word-stray w = stray-there d h (omega arith) (subst (λ m. bitAnd m map ≡ m → ⊥) second w)
+
+    pub word-stands : bitAnd m map ≡ m → WordAt f result map s at rest (Word f m)
+    word-stands w =
+        subst (λ m. WordAt f result map s at rest (Word f m)) (sym second) (word-there d h (omega arith) (subst (λ m. bitAnd m map ≡ m) second w))
+
+limit-ends : (rest : List ℕ) (n : ℕ) → length rest ≡ 0 → atLimit {A = Scanned} rest ≡ stop 9 (drop n rest)
 limit-ends [] n h = ap (stop 9) (sym (drop-of-length-le [] {i = n} (omega arith)))
 limit-ends (b ∷ l) n h = absurd (omega arith)
 
-limit-deep : (rest : List ℕ) (n : ℕ) → 0 < length rest → 0 ≡ n → atLimit {A = Tally} rest ≡ stop 10 (drop n rest)
+limit-deep : (rest : List ℕ) (n : ℕ) → 0 < length rest → 0 ≡ n → atLimit {A = Scanned} rest ≡ stop 10 (drop n rest)
 limit-deep [] n some e = absurd (omega arith)
 limit-deep (b ∷ l) n some e = ap (λ n. stop 10 (drop n (b ∷ l))) e
 
@@ -124,3 +140,11 @@ stood t {W = W} {depth = depth} {n = n} {results = results} {maps = maps} {s = s
 pub stood-room : {W : Vocabulary} {depth n : ℕ} {maps : List ℕ} {s at : ℕ} {rest : List ℕ} {y : Answer} →
     Stood W depth n maps s at rest y → (Limited at rest y → ⊥) → depth ≤ 31
 stood-room {depth = depth} c never = let high : 31 < depth → ⊥ = λ deep. never (c .limit deep) in omega arith
+
+-- The same of an answer before any vocabulary.
+module _ {depth n : ℕ} {results maps : List ℕ} {s at : ℕ} {rest : List ℕ} {x y : Answer} (a : NodeAt depth n results maps s at rest x) (e : x ≡ y) where
+  pub node-inside : Inside n maps at rest y
+  node-inside = subst (Inside n maps at rest) e (a .inside)
+
+  pub node-room : (Limited at rest y → ⊥) → depth ≤ 31
+  node-room never = let high : 31 < depth → ⊥ = λ deep. never (subst (Limited at rest) e (a .limit deep)) in omega arith

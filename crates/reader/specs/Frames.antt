@@ -1,52 +1,67 @@
--- Frames: a word whose written places are due, packed into a number; no public contract cites it.
+-- Frames: the places of a word that are due, packed into a number; no public contract cites it.
 --
---   writtenIn x           the frame's written map, past the places that are read
---   placesIn x            its place map, past the same places
---   kindsIn x             the offset in the vocabulary of the next place's kind
---   Framed x w p k        x is the frame of these three
---   FrameIn v x           what is written are places, and their kinds lie in the vocabulary v
---   FramesIn v xs n d     FrameIn of the first n of 32 frames, and d, the deepest level that was due, lies below their words
+--   runIn x               how many places follow each other in a run, all of them written
+--   kindsIn x             the offset in the vocabulary of the kind of the run's first place
+--   writtenIn x           the written map of the places behind the run
+--   placesIn x            their place map
+--   Framed x n k w p      x is the frame of these four
+--   WordFrame x w p o     x is the frame of a word with the place map p at the written map w, whose record stands at the
+--                         offset o: where all places are written they are a run, else the maps have them
+--   FrameIn v x           what is written are places, and the kinds of all places lie in the vocabulary v
+--   placesDue v level n k    n places due at a level, their kinds from the offset k of v on
 --   frameDue v level x    what is due of x, at a level
---   duesOf v xs n         what is due of the first n frames of xs, the last of them first
+--   savedDue v xs n       what is due of the first n frames of xs, the last of them first; frame i is due at level i + 1
 --
 use mathlib.Core.Path.{_≡_}
-use mathlib.Core.List.{List, [], _++_}
+use mathlib.Core.Bool.{false}
+use mathlib.Core.List.{List, [], _∷_, _++_}
 use Prim.Native.Nat.{ℕ, zero, suc, _+_, _/_, _%_, _<_, _≤_}
 use lib.Bits.{bitAnd}
 use lib.Count
 use lib.ListN.{length, getD, drop}
-use Rattle.wire.specs.Map.{flags, slots}
+use Rattle.wire.specs.Map.{mapBytes, flags, slots}
 use Rattle.wire.specs.TermLines.{Due, dueAt}
 
-abbrev pub writtenIn : ℕ → ℕ
-writtenIn x = x % 256
-
-abbrev pub placesIn : ℕ → ℕ
-placesIn x = x / 256 % 256
+abbrev pub runIn : ℕ → ℕ
+runIn x = x % 16
 
 abbrev pub kindsIn : ℕ → ℕ
-kindsIn x = x / 65536
+kindsIn x = x / 16 % 1048576
 
-pub record Framed (x w p k : ℕ) : Type 0 where
+abbrev pub writtenIn : ℕ → ℕ
+writtenIn x = x / 16 / 1048576 % 256
+
+abbrev pub placesIn : ℕ → ℕ
+placesIn x = x / 16 / 1048576 / 256
+
+pub record Framed (x n k w p : ℕ) : Type 0 where
+  pub run : runIn x ≡ n
+  pub kinds : kindsIn x ≡ k
   pub written : writtenIn x ≡ w
   pub places : placesIn x ≡ p
-  pub kinds : kindsIn x ≡ k
+
+-- The kinds stand behind the record's result kind and map.
+pub record WordFrame (x w p o : ℕ) : Type 0 where
+  pub full : w ≡ p → Framed x (Count.ones p) (o + (1 + mapBytes)) 0 0
+  pub part : (w ≡ p → ⊥) → Framed x 0 (o + (1 + mapBytes)) w p
+  pub near : o < 65536
+  pub map : p < 256
 
 pub record FrameIn (v : List ℕ) (x : ℕ) : Type 0 where
+  pub few : runIn x ≤ 8
+  pub map : placesIn x < 256
   pub within : bitAnd (writtenIn x) (placesIn x) ≡ writtenIn x
-  pub inside : kindsIn x + Count.ones (placesIn x) ≤ length v
-  pub small : kindsIn x + Count.ones (placesIn x) < 131072
+  pub inside : kindsIn x + runIn x + Count.ones (placesIn x) ≤ length v
+  pub near : kindsIn x + runIn x + Count.ones (placesIn x) < 131072
 
-pub record FramesIn (v xs : List ℕ) (n deepest : ℕ) : Type 0 where
-  pub sound : (i : ℕ) → i < n → FrameIn v (getD xs i 0)
-  pub shallow : n ≤ 32
-  pub reached : n < deepest
-  pub entries : length xs ≡ 32
+abbrev pub placesDue : List ℕ → ℕ → ℕ → ℕ → List Due
+placesDue v level zero k = []
+placesDue v level (suc n) k = record { sort = getD v k 0; level = level; root = false } ∷ placesDue v level n (k + 1)
 
 abbrev pub frameDue : List ℕ → ℕ → ℕ → List Due
-frameDue v level x = dueAt level (slots (flags (placesIn x)) (flags (writtenIn x)) (drop (kindsIn x) v))
+frameDue v level x =
+    placesDue v level (runIn x) (kindsIn x) ++ dueAt level (slots (flags (placesIn x)) (flags (writtenIn x)) (drop (kindsIn x + runIn x) v))
 
--- The word of frame n stands at level n + 1, its places a level below.
-abbrev pub duesOf : List ℕ → List ℕ → ℕ → List Due
-duesOf v xs zero = []
-duesOf v xs (suc n) = frameDue v (suc (suc n)) (getD xs n 0) ++ duesOf v xs n
+abbrev pub savedDue : List ℕ → List ℕ → ℕ → List Due
+savedDue v xs zero = []
+savedDue v xs (suc n) = frameDue v (suc n) (getD xs n 0) ++ savedDue v xs n

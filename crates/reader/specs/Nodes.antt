@@ -9,27 +9,23 @@
 --   Limited at rest x            x is the fault where level 33 begins
 --   NodeAt                       x is what stands where a term of kind s is due below so many words, no names seen
 --   WordAt                       the same, of a word
---   clashing k s                 the entry k of the table of names is another kind than s
---   tallyOf c d                  c words, the deepest at level d
---   answerOf t g                 the reply where reading the term t gives g
 --
 use mathlib.Core.Path.{_≡_}
-use mathlib.Core.Bool.{Bool, false, not, _&&_}
-use mathlib.Core.List.{List, [], _∷_}
+use mathlib.Core.Bool.{false}
+use mathlib.Core.List.{List, []}
 use Prim.Native.Nat.{ℕ, _+_, _-_, _<_, _≤_}
 use lib.Bits.{bitAnd}
-use lib.Dec.{eqb}
 use lib.ListN.{length, getD, drop}
 use Rattle.wire.specs.Reply.{Reply, accepted, refused}
-use Rattle.wire.specs.Map.{flags, slots}
+use Rattle.wire.specs.Map.{mapBytes, flags, slots}
 use Rattle.wire.specs.Vocabulary.{Vocabulary, word, mapOf}
-use Rattle.wire.specs.Parser.{Got, got, stop, Node, wordHere, nameHere, fault, node, atLimit, offset}
-use Rattle.wire.proofs.Scan.{Tally}
+use Rattle.wire.specs.Parser.{stop, Node, wordHere, nameHere, fault, node, atLimit}
+use Rattle.wire.specs.Scan.{Scanned}
 use Rattle.signature.specs.Tables.{Tabled}
 use Rattle.reader.specs.Answers.{termRefused}
 use Rattle.reader.specs.declared.TermRefusal.{TermRefusal}
-use Rattle.reader.specs.declared.term.Node.{Node as Answer}
-use Rattle.reader.specs.declared.term.Node.the-variants.{Word, Name, Fault}
+use Rattle.reader.specs.declared.node.Node.{Node as Answer}
+use Rattle.reader.specs.declared.node.Node.the-variants.{Word, Name, Fault}
 
 abbrev numberIn : Reply → ℕ
 numberIn (accepted values) = 0
@@ -50,13 +46,13 @@ pub record TablesOf (W : Vocabulary) (n : ℕ) (results maps : List ℕ) : Type 
   pub placeMap : (f : ℕ) → f < n → getD maps f 0 ≡ mapOf W f
 
 abbrev pub nodeOf : Vocabulary → ℕ → List ℕ → Answer → Node
-nodeOf W at rest (Word f m) = wordHere f (slots (flags (mapOf W f)) (flags m) (word W f .kinds)) (drop 2 rest)
+nodeOf W at rest (Word f m) = wordHere f (slots (flags (mapOf W f)) (flags m) (word W f .kinds)) (drop (1 + mapBytes) rest)
 nodeOf W at rest (Name n) = nameHere n (drop 1 rest)
 nodeOf W at rest (Fault why) = fault (numberOf why) (drop (placeOf why - at) rest)
 
 pub record WordInside (n : ℕ) (maps rest : List ℕ) (f m : ℕ) : Type 0 where
   pub known : f < n
-  pub long : 2 ≤ length rest
+  pub long : 1 + mapBytes ≤ length rest
   pub within : bitAnd m (getD maps f 0) ≡ m
 
 pub record NameInside (rest : List ℕ) (n : ℕ) : Type 0 where
@@ -75,7 +71,7 @@ Inside n maps at rest (Fault why) = PlaceInside at rest (placeOf why)
 abbrev pub Limited : ℕ → List ℕ → Answer → Type 0
 Limited at rest (Word f m) = ⊥
 Limited at rest (Name k) = ⊥
-Limited at rest (Fault why) = atLimit {A = Tally} rest ≡ stop (numberOf why) (drop (placeOf why - at) rest)
+Limited at rest (Fault why) = atLimit {A = Scanned} rest ≡ stop (numberOf why) (drop (placeOf why - at) rest)
 
 pub record NodeAt (depth n : ℕ) (results maps : List ℕ) (s at : ℕ) (rest : List ℕ) (x : Answer) : Type 0 where
   pub inside : Inside n maps at rest x
@@ -87,15 +83,3 @@ pub record WordAt (f result map s at : ℕ) (rest : List ℕ) (x : Answer) : Typ
   pub inside : (n : ℕ) (maps : List ℕ) → f < n → getD maps f 0 ≡ map → Inside n maps at rest x
   pub same : (W : Vocabulary) → f < length (W .words) → result ≡ word W f .result → map ≡ mapOf W f →
       node W false s [] rest ≡ nodeOf W at rest x
-
--- A name that has not stood yet has the entry 256.
-abbrev pub clashing : ℕ → ℕ → Bool
-clashing k s = not (eqb k 256) && not (eqb k s)
-
-abbrev pub tallyOf : ℕ → ℕ → Tally
-tallyOf c d = record { words = c; deepest = d }
-
-abbrev pub answerOf : List ℕ → Got Tally → Reply
-answerOf t (stop n r) = refused n 1 (offset t r)
-answerOf t (got y []) = accepted (y .words ∷ y .deepest ∷ [])
-answerOf t (got y (x ∷ r)) = refused 15 1 (offset t (x ∷ r))

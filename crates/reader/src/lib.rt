@@ -1,14 +1,19 @@
-// Document 01's check of a term, and its judging of the inputs of match.
+// Document 01's check of a term, and the reading of two terms under one vocabulary.
 ghost use mathlib.Core.Path.{_≡_};
+ghost use Rattle.wire.specs.Parser.{accept};
 ghost use Rattle.wire.specs.Checking.{TermPromise};
 ghost use Rattle.wire.specs.CheckComputed.{termReply};
-ghost use Rattle.wire.specs.MatchComputed.{judged, clearReply};
-ghost use Rattle.reader.specs.Answers.{termNumbers, inputsNumbers};
+ghost use Rattle.signature.specs.Tables.{Tables, vocabularyIn};
+ghost use Rattle.reader.specs.Answers.{termNumbers};
 ghost use Rattle.reader.specs.Checked.{CheckedFrom};
+ghost use Rattle.reader.specs.Whole.{pairNumbers, pairReply, told, bothTold, extentValues};
 use signature::VocabularyAnswer;
 use signature::VocabularyRefusal;
+use whole::Whole;
 
-mod inputs;
+mod cursor;
+mod frame;
+mod node;
 mod term;
 mod whole;
 
@@ -32,18 +37,20 @@ pub enum TermAnswer {
     Term(TermRefusal),
 }
 
-// Why the inputs of match are refused: document 01, lines 1 to 17.
-pub enum InputsRefusal {
-    Vocabulary(VocabularyRefusal),
-    Pattern(TermRefusal),
-    Situation(TermRefusal),
-    Incomplete(usize),
-    KindsDiffer,
+// What reading a term tells of it: its words, its deepest level and the offset of its first gap, its length where it
+// has none.
+pub struct Extent {
+    pub words: usize,
+    pub deepest: usize,
+    pub gap: usize,
 }
 
-pub enum InputsAnswer {
-    Clear,
-    Refused(InputsRefusal),
+// What reading two terms tells of them, or why the vocabulary or one of them is refused.
+pub enum PairAnswer {
+    Read(Extent, Extent),
+    Vocabulary(VocabularyRefusal),
+    First(TermRefusal),
+    Second(TermRefusal),
 }
 
 // Checks a term under a vocabulary.
@@ -64,33 +71,70 @@ pub fn load_term(vocabulary: &[u8], term: &[u8], results: &mut [u8; 96]) -> Term
     match signature::load(vocabulary, &mut offsets, results, &mut maps) {
         VocabularyAnswer::Refused(why) => TermAnswer::Vocabulary(why),
         VocabularyAnswer::Accepted => {
-            let words = term::wide(vocabulary[1]);
-            term::read(vocabulary, term, words, &offsets, results, &maps)
+            let words = node::wide(vocabulary[1]);
+            match whole::read(vocabulary, term, words, &offsets, results, &maps) {
+                Whole::Refused(why) => TermAnswer::Term(why),
+                Whole::Read(x) => TermAnswer::Accepted(x.words, x.deepest),
+            }
         }
     }
 }
 
-// Judges the inputs of match: a vocabulary, a pattern and a complete situation of the pattern's kind, in
-// this order.
-pub fn judge(vocabulary: &[u8], pattern: &[u8], situation: &[u8]) -> InputsAnswer
-    ensures { λ r. ⌜ inputsNumbers r ≡ clearReply (judged (now (vocabulary .entry)) (now (pattern .entry)) (now (situation .entry))) ⌝ }
+// Reads a second term behind a first one, of which that is told.
+fn read_second<'a>(
+    v: &[u8],
+    x: Extent,
+    second: &[u8],
+    words: usize,
+    offsets: &'a [u16; 96],
+    results: &'a [u8; 96],
+    maps: &'a [u8; 96],
+) -> PairAnswer
+    requires { ⌜ Tables (now v) words (now offsets) (now results) (now maps) ⌝ }
+    ensures { λ r. ⌜ pairNumbers r ≡ bothTold (accept (extentValues x)) (told (vocabularyIn (now (v .entry))) (now (second .entry))) ⌝ }
+{
+    match whole::read(v, second, words, offsets, results, maps) {
+        Whole::Refused(why) => PairAnswer::Second(why),
+        Whole::Read(y) => PairAnswer::Read(x, y),
+    }
+}
+
+// Reads two terms under an accepted vocabulary. Where they are the same bytes, one reading is enough.
+fn read_both<'a>(
+    v: &[u8],
+    first: &[u8],
+    second: &[u8],
+    words: usize,
+    offsets: &'a [u16; 96],
+    results: &'a [u8; 96],
+    maps: &'a [u8; 96],
+) -> PairAnswer
+    requires { ⌜ Tables (now v) words (now offsets) (now results) (now maps) ⌝ }
+    ensures { λ r. ⌜ pairNumbers r ≡ bothTold (told (vocabularyIn (now (v .entry))) (now (first .entry))) (told (vocabularyIn (now (v .entry))) (now (second .entry))) ⌝ }
+{
+    match whole::read(v, first, words, offsets, results, maps) {
+        Whole::Refused(why) => PairAnswer::First(why),
+        Whole::Read(x) => {
+            if slices::equal(first, second) {
+                return PairAnswer::Read(x, x);
+            }
+            read_second(v, x, second, words, offsets, results, maps)
+        }
+    }
+}
+
+// Reads two terms under one loading of a vocabulary: the vocabulary first, then the one, then the other.
+pub fn read_pair(vocabulary: &[u8], first: &[u8], second: &[u8]) -> PairAnswer
+    ensures { λ r. ⌜ pairNumbers r ≡ pairReply (now (vocabulary .entry)) (now (first .entry)) (now (second .entry)) ⌝ }
 {
     let mut offsets = [0u16; 96];
     let mut results = [0u8; 96];
     let mut maps = [0u8; 96];
     match signature::load(vocabulary, &mut offsets, &mut results, &mut maps) {
-        VocabularyAnswer::Refused(why) => InputsAnswer::Refused(InputsRefusal::Vocabulary(why)),
+        VocabularyAnswer::Refused(why) => PairAnswer::Vocabulary(why),
         VocabularyAnswer::Accepted => {
-            let words = term::wide(vocabulary[1]);
-            inputs::judge_terms(
-                vocabulary,
-                pattern,
-                situation,
-                words,
-                &offsets,
-                &results,
-                &maps,
-            )
+            let words = node::wide(vocabulary[1]);
+            read_both(vocabulary, first, second, words, &offsets, &results, &maps)
         }
     }
 }

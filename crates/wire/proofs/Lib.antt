@@ -33,6 +33,7 @@ pub mod Entries
 pub mod Front
 pub mod Gaps
 -- On terms: refusing them.
+pub mod ScanGap
 pub mod Scan
 pub mod NodeLines
 pub mod ScanPath

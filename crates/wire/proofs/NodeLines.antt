@@ -18,7 +18,8 @@ use Rattle.wire.specs.Parser.{stop, fault, isWord, isName, clash, node}
 use Rattle.wire.proofs.Map.{map-missing}
 use Rattle.wire.proofs.Seen.{clash-meant, clash-not}
 use Rattle.wire.proofs.Node.{name-meant, name-tested, node-short, node-differs, node-stray, node-clash, node-unknown}
-use Rattle.wire.proofs.Scan.{Tally, run, scanNode, run-node, run-limit}
+use Rattle.wire.specs.Scan.{Tally, run, scanNode}
+use Rattle.wire.proofs.Scan.{run-node, run-limit}
 
 -- A state at which a term is due.
 abbrev pub atDue : Due → List Due → List Occurrence → ℕ → List ℕ → State

@@ -6,35 +6,37 @@ use Prim.Native.Nat.{ℕ, zero, suc, _+_, _<_}
 use native.Mathlib.Omega.{arith}
 use lib.ListN.{length}
 use Rattle.terms.specs.Term.{Occurrence}
-use Rattle.wire.specs.Vocabulary.{Vocabulary, InOrder}
+use Rattle.wire.specs.Map.{flags, slots}
+use Rattle.wire.specs.Vocabulary.{Vocabulary, InOrder, word, mapOf}
 use Rattle.wire.specs.TermBytes.{wholeByte}
 use Rattle.wire.specs.Refusals.{Sooner}
 use Rattle.wire.specs.TermLines.{Due, State, Step, onWord, onName, onWhole, LeadsTo, here, next, NodeLine}
 use Rattle.wire.specs.Parser.{Got, stop}
 use Rattle.wire.proofs.Map.{map-got}
 use Rattle.wire.proofs.Node.{node-symbol, node-name, node-whole}
-use Rattle.wire.proofs.Scan.{Tally, withWord, withLeaf, run, scanNode, run-node, rootDue, noTally}
+use Rattle.wire.specs.Scan.{Tally, Scanned, withWord, withLeaf, run, scanNode, rootDue, noTally}
+use Rattle.wire.proofs.Scan.{run-node}
 use Rattle.wire.proofs.NodeLines.{atDue, Stuck, Moves, look}
 
 -- What a scan of the bytes l from a term's first byte gives.
-abbrev pub scanned : Vocabulary → ℕ → List ℕ → Got Tally
+abbrev pub scanned : Vocabulary → ℕ → List ℕ → Got Scanned
 scanned W s l = run W (rootDue s ∷ []) [] noTally l
 
-abbrev pub runAt : Vocabulary → State → Tally → Got Tally
+abbrev pub runAt : Vocabulary → State → Tally → Got Scanned
 runAt W x y = run W (x .due) (x .seen) y (x .rest)
 
 -- A step keeps what the scan gives.
 pub step-runs : (W : Vocabulary) → InOrder W → {x x′ : State} → Step W x x′ → (y : Tally) → (z : Tally) × (runAt W x y ≡ runAt W x′ z)
 step-runs W inOrder (onWord {d = d} {ds = ds} {seen = seen} f m l r o w e k h) y = (
-  withWord (d .level) y,
+  withWord (d .level) (slots (flags (mapOf W f)) (flags m) (word W f .kinds)) r y,
   run-node W d ds seen y (f ∷ l) o ∙ ap (scanNode (run W) d ds seen y) (node-symbol W (d .root) (d .sort) seen f m l r w e k h),
 )
 step-runs W inOrder (onName {d = d} {ds = ds} {seen = seen} b n l o h c) y = (
-  withLeaf (d .level) y,
+  withLeaf (d .level) l y,
   run-node W d ds seen y (b ∷ l) o ∙ ap (scanNode (run W) d ds seen y) (node-name W (d .root) (d .sort) seen inOrder b n l h c),
 )
 step-runs W inOrder (onWhole {d = d} {ds = ds} {seen = seen} l o h) y = (
-  withLeaf (d .level) y,
+  withLeaf (d .level) l y,
   run-node W d ds seen y (wholeByte ∷ l) o ∙ ap (scanNode (run W) d ds seen y) (node-whole W (d .root) (d .sort) seen inOrder l h),
 )
 

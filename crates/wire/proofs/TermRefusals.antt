@@ -20,7 +20,8 @@ use Rattle.wire.specs.TermLines.{Due, State, LeadsTo, NodeLine, TermLine
 use Rattle.wire.proofs.Cond.{cond-true, cond-false}
 use Rattle.wire.proofs.Outside.{outside-true, outside-false, no-outside}
 use Rattle.wire.proofs.Refusals.{refuses-one, refuses-none}
-use Rattle.wire.proofs.Scan.{Tally, run, tallied, scan-reads}
+use Rattle.wire.specs.Scan.{Scanned, run, tallied}
+use Rattle.wire.proofs.Scan.{scan-reads}
 use Rattle.wire.proofs.ScanPath.{scanned, leads-to-path, line-stops, EndsStuck, EndsDone, path-ends}
 
 pub node-rank : (W : Vocabulary) (x : State) (d : Due) {n q : ℕ} → NodeLine W x d n q → rank n ≡ 9
@@ -33,13 +34,13 @@ node-rank W x d (NodeLine.clashes b n l e h k) = refl
 node-rank W x d (NodeLine.stray f m l r e h k n) = refl
 
 -- A scan that stops tells where readTerm stops, and one that ends what it leaves.
-tallied-stop : (x : Got Read) (n : ℕ) (r : List ℕ) → tallied x ≡ stop n r → x ≡ stop n r
-tallied-stop (got a r′) n r e = let z : _≡_ {A = ℕ} 0 1 = cc in absurd (omega arith)
-tallied-stop (stop n′ r′) n r e = let p : n′ ≡ n = cc in let q : r′ ≡ r = cc in cc
+tallied-stop : (W : Vocabulary) (l : List ℕ) (x : Got Read) (n : ℕ) (r : List ℕ) → tallied W l x ≡ stop n r → x ≡ stop n r
+tallied-stop W l (got a r′) n r e = let z : _≡_ {A = ℕ} 0 1 = cc in absurd (omega arith)
+tallied-stop W l (stop n′ r′) n r e = let p : n′ ≡ n = cc in let q : r′ ≡ r = cc in cc
 
-tallied-got : (x : Got Read) (y : Tally) (r : List ℕ) → tallied x ≡ got y r → (a : Read) × (x ≡ got a r)
-tallied-got (got a r′) y r e = let q : r′ ≡ r = cc in (a, ap (got a) q)
-tallied-got (stop n′ r′) y r e = let z : _≡_ {A = ℕ} 0 1 = cc in absurd (omega arith)
+tallied-got : (W : Vocabulary) (l : List ℕ) (x : Got Read) (y : Scanned) (r : List ℕ) → tallied W l x ≡ got y r → (a : Read) × (x ≡ got a r)
+tallied-got W l (got a r′) y r e = let q : r′ ≡ r = cc in (a, ap (got a) q)
+tallied-got W l (stop n′ r′) y r e = let z : _≡_ {A = ℕ} 0 1 = cc in absurd (omega arith)
 
 -- Line 7 comes before every other, line 8 before those behind it.
 size-first : (W : Vocabulary) (b : List ℕ) {m r : ℕ} → TermLine W b m r → Sooner 7 0 m r
@@ -59,10 +60,10 @@ stuck-scan W inOrder s l t =
     (o .runs ∙ t .stuck .stops (o .tally), omega (arith, o .placed, t .stuck .placed))
 
 done-scan : (W : Vocabulary) → InOrder W → (s : ℕ) (l : List ℕ) (x : State) → LeadsTo W s l x → x .due ≡ [] →
-    (y : Tally) × (scanned W s l ≡ got y (x .rest)) × (x .at + length (x .rest) ≡ suc (length l))
+    (y : Scanned) × (scanned W s l ≡ got y (x .rest)) × (x .at + length (x .rest) ≡ suc (length l))
 done-scan W inOrder s l x p u =
     let o = leads-to-path W inOrder s l p in
-    (o .tally, o .runs ∙ ap (λ due. run W due (x .seen) (o .tally) (x .rest)) u, o .placed)
+    (record { tally = o .tally; seen = x .seen }, o .runs ∙ ap (λ due. run W due (x .seen) (o .tally) (x .rest)) u, o .placed)
 
 -- The bytes are as many as allowed.
 module _ (W : Vocabulary) (inOrder : InOrder W) (s : ℕ) (l : List ℕ) (fits : outside leastBytes mostBytes (suc (length l)) ≡ false) where
@@ -116,7 +117,7 @@ module _ (W : Vocabulary) (inOrder : InOrder W) (s : ℕ) (l : List ℕ) (fits :
         })
       where
         read : readTerm W mostLevels true s [] l ≡ stop (t .stuck .number) (t .stuck .from)
-        read = tallied-stop _ _ _ (sym (scan-reads W s l) ∙ stuck-scan W inOrder s l t .0)
+        read = tallied-stop W l _ _ _ (sym (scan-reads W s [] l) ∙ stuck-scan W inOrder s l t .0)
 
         given : checkedTerm W (s ∷ l) ≡ refuse (t .stuck .number) (t .stuck .place)
         given =
@@ -125,9 +126,9 @@ module _ (W : Vocabulary) (inOrder : InOrder W) (s : ℕ) (l : List ℕ) (fits :
 
     refuses-done : (seen : List Occurrence) (at : ℕ) (rest : List ℕ) → LeadsTo W s l (record { due = []; seen = seen; at = at; rest = rest }) →
         RefusesBy (TermLine W (s ∷ l)) (checkedTerm W (s ∷ l))
-    refuses-done seen at rest p = go rest p (tallied-got _ _ _ (sym (scan-reads W s l) ∙ t .1)) (t .2)
+    refuses-done seen at rest p = go rest p (tallied-got W l _ _ _ (sym (scan-reads W s [] l) ∙ t .1)) (t .2)
       where
-        t : (y : Tally) × (scanned W s l ≡ got y rest) × (at + length rest ≡ suc (length l))
+        t : (y : Scanned) × (scanned W s l ≡ got y rest) × (at + length rest ≡ suc (length l))
         t = done-scan W inOrder s l (record { due = []; seen = seen; at = at; rest = rest }) p refl
 
         go : (rest : List ℕ) → LeadsTo W s l (record { due = []; seen = seen; at = at; rest = rest }) →

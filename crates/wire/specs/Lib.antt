@@ -22,6 +22,7 @@ pub mod Effect
 pub mod Parser
 pub mod CheckComputed
 pub mod SituationComputed
+pub mod Scan
 pub mod MatchComputed
 pub mod ListComputed
 pub mod PrintComputed

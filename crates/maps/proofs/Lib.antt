@@ -1,0 +1,2 @@
+-- Proofs about reading a map.
+pub mod Reading

@@ -1,0 +1,2 @@
+-- What the contract of reading a map cites.
+pub mod Reading

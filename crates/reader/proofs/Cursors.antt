@@ -1,0 +1,246 @@
+-- Cursors: how a reading goes on from a cursor, by what stands there.
+--
+--   gap-full, gap-new, gap-word    the first gap behind a node
+--   going-onto, going-up, going-leaf, going-word, going-down    a cursor that moves is one that a reading comes to
+--   run-place       the first place of the cursor's frame is the node that is due
+--   run-advanced, run-up    a frame with no run, and one with nothing left
+--   run-bare, run-down      behind a word without written places, and with some
+--   run-name, run-clash, run-fault, run-deep    at a name, and where something is wrong
+--
+use mathlib.Core.Path.{_≡_, refl, sym, ap, ap₂, subst, _∙_}
+use mathlib.Core.Bool.{Bool, true, false, cond}
+use mathlib.Core.List.{List, [], _∷_, _++_}
+use mathlib.Core.Option.{Option, some, none}
+use Prim.Native.Nat.{ℕ, zero, suc, _+_, _-_, _<_, _≤_, min, max}
+use native.Mathlib.Numerals.{add-one}
+use native.Mathlib.Omega.{arith}
+use lib.Dec.{ltb}
+use lib.ListN.{length, getD, drop, set, length-set, length-drop}
+use lib.Seq.{drop-drop, getD-set-same, getD-set-other}
+use borrow.Author.Tests.{ltb-true, ltb-false, lt-ltb, le-ltb}
+use Rattle.terms.specs.Lists.{orElse}
+use Rattle.terms.specs.Term.{Occurrence}
+use Rattle.wire.specs.Map.{mapBytes, Slot}
+use Rattle.wire.specs.Vocabulary.{Vocabulary}
+use Rattle.wire.specs.TermLines.{Due, dueAt}
+use Rattle.wire.specs.Parser.{Got, stop, Node, wordHere, nameHere, fault, node, atLimit, clash}
+use Rattle.wire.specs.Scan.{everyWritten, Tally, withWord, withLeaf, Scanned, scanNode, run}
+use Rattle.wire.proofs.Cond.{cond-true, cond-false}
+use Rattle.wire.proofs.Scan.{run-node, run-limit, same-tally}
+use Rattle.reader.specs.Frames.{runIn, kindsIn, writtenIn, FrameIn, frameDue, savedDue}
+use Rattle.reader.specs.Cursors.{pastLeaf, pastWord, wentDown, wentUp, atFrame, gapLeft, tallyAt, openDue, restRun, Going}
+use Rattle.reader.specs.Terms.{nodeDue, nodeRun}
+use Rattle.reader.specs.declared.cursor.Cursor.{Cursor}
+use Rattle.reader.proofs.Frames.{Behind, Advanced, due-behind, due-advanced, due-done, saved-last, all-last}
+use Rattle.reader.proofs.Levels.{withLevel, frame-reaches}
+use Rattle.reader.proofs.Nodes.{seenNode, node-seen}
+
+-- ---- the first gap
+
+module _ (n at k gap : ℕ) (gapless : at ≤ gap → gap ≡ n) (long : at + k ≤ n) where
+  -- Behind k bytes without a gap.
+  pub gap-full : gapLeft n (at + k) gap ≡ orElse (gapLeft n at gap) none
+  gap-full = go (ltb gap at) refl
+    where
+      go : (b : Bool) → ltb gap at ≡ b → gapLeft n (at + k) gap ≡ orElse (cond b (some (n - gap)) none) none
+      go true e = let h = ltb-true gap at e in cond-true (ltb gap (at + k)) (some (n - gap)) none (lt-ltb gap (at + k) (omega arith))
+      go false e = let h = gapless (ltb-false gap at e) in cond-false (ltb gap (at + k)) (some (n - gap)) none (le-ltb gap (at + k) (omega arith))
+
+  -- Behind k bytes with a gap at q.
+  pub gap-new : (q : ℕ) → at ≤ q → q < at + k → gapLeft n (at + k) (min gap q) ≡ orElse (gapLeft n at gap) (some (n - q))
+  gap-new q from to = go (ltb gap at) refl
+    where
+      go : (b : Bool) → ltb gap at ≡ b → gapLeft n (at + k) (min gap q) ≡ orElse (cond b (some (n - gap)) none) (some (n - q))
+      go true e =
+          let h = ltb-true gap at e in
+          let first : min gap q ≡ gap = omega arith in
+          ap (λ g. gapLeft n (at + k) g) first ∙ cond-true (ltb gap (at + k)) (some (n - gap)) none (lt-ltb gap (at + k) (omega arith))
+      go false e =
+          let h = gapless (ltb-false gap at e) in
+          let first : min gap q ≡ q = omega arith in
+          ap (λ g. gapLeft n (at + k) g) first ∙ cond-true (ltb q (at + k)) (some (n - q)) none (lt-ltb q (at + k) to)
+
+-- Behind a word and its map.
+pub gap-word : (n at gap m : ℕ) (full : Bool) → (at ≤ gap → gap ≡ n) → at + (1 + mapBytes) ≤ n → at + (1 + mapBytes) + m ≡ n →
+    gapLeft n (at + (1 + mapBytes)) (cond full gap (min gap (at + 1))) ≡ orElse (gapLeft n at gap) (cond full none (some (mapBytes + m)))
+gap-word n at gap m true gapless long e = gap-full n at (1 + mapBytes) gap gapless long
+gap-word n at gap m false gapless long e =
+    gap-new n at (1 + mapBytes) gap gapless long (at + 1) (omega arith) (omega arith)
+    ∙ ap (λ q. orElse (gapLeft n at gap) (some q)) (let e : n - (at + 1) ≡ mapBytes + m = omega arith in e)
+
+-- ---- cursors that a reading comes to
+
+module _ {v t frames : List ℕ} {c : Cursor} (g : Going v t frames c) where
+  pub going-onto : {y : ℕ} → 0 < c .depth → FrameIn v y → Going v t frames (atFrame y c)
+  going-onto low fits = record {
+    due = fits;
+    saved = g .saved;
+    root = λ e. absurd (omega arith);
+    rootSaved = g .rootSaved;
+    shallow = g .shallow;
+    reached = g .reached;
+    inside = g .inside;
+    fewer = g .fewer;
+    gapless = g .gapless;
+    entries = g .entries;
+  }
+
+  pub going-up : 0 < c .depth → Going v t frames (wentUp (getD frames (c .depth - 1) 0) c)
+  going-up low = record {
+    due = g .saved (c .depth - 1) (omega arith);
+    saved = λ i p. g .saved i (omega arith);
+    root = λ e. ap (λ i. getD frames i 0) e ∙ g .rootSaved low;
+    rootSaved = λ h. g .rootSaved low;
+    shallow = let shallow = g .shallow in omega arith;
+    reached = let reached = g .reached in omega arith;
+    inside = g .inside;
+    fewer = g .fewer;
+    gapless = g .gapless;
+    entries = g .entries;
+  }
+
+  pub going-leaf : c .at < length t → Going v t frames (pastLeaf c)
+  going-leaf long = record {
+    due = g .due;
+    saved = g .saved;
+    root = g .root;
+    rootSaved = g .rootSaved;
+    shallow = g .shallow;
+    reached = g .reached;
+    inside = omega arith;
+    fewer = let fewer = g .fewer in omega arith;
+    gapless = λ h. absurd (omega arith);
+    entries = g .entries;
+  }
+
+  pub going-word : (full : Bool) → c .at + (1 + mapBytes) ≤ length t → Going v t frames (pastWord full c)
+  going-word full long = record {
+    due = g .due;
+    saved = g .saved;
+    root = g .root;
+    rootSaved = g .rootSaved;
+    shallow = g .shallow;
+    reached = g .reached;
+    inside = long;
+    fewer = let fewer = g .fewer in omega arith;
+    gapless = still full;
+    entries = g .entries;
+  }
+    where
+      still : (b : Bool) → c .at + (1 + mapBytes) ≤ cond b (c .gap) (min (c .gap) (c .at + 1)) → cond b (c .gap) (min (c .gap) (c .at + 1)) ≡ length t
+      still true h = g .gapless (omega arith)
+      still false h = absurd (omega arith)
+
+  pub going-down : {z : ℕ} → c .depth < 32 → FrameIn v z → Going v t (set frames (c .depth) (c .due)) (wentDown z c)
+  going-down room fits = record {
+    due = fits;
+    saved = λ i p. all-last (FrameIn v) frames (c .depth) (c .due) (omega (arith, g .entries)) (g .saved) (g .due) i (omega arith);
+    root = λ e. absurd (omega arith);
+    rootSaved = λ h. bottom (c .depth) refl;
+    shallow = omega arith;
+    reached = let reached = g .reached in omega arith;
+    inside = g .inside;
+    fewer = g .fewer;
+    gapless = g .gapless;
+    entries = length-set frames (c .depth) (c .due) ∙ g .entries;
+  }
+    where
+      bottom : (d : ℕ) → c .depth ≡ d → getD (set frames (c .depth) (c .due)) 0 0 ≡ 0
+      bottom zero e = ap (λ d. getD (set frames d (c .due)) 0 0) e ∙ getD-set-same frames 0 (c .due) 0 (omega (arith, g .entries)) ∙ g .root e
+      bottom (suc d) e = getD-set-other frames (c .depth) 0 (c .due) 0 (λ z. omega arith) ∙ g .rootSaved (omega arith)
+
+-- ---- reading on
+
+module _ (W : Vocabulary) (v t frames : List ℕ) (seen : List Occurrence) (c : Cursor) where
+  -- The first place of the run is the node that is due.
+  pub run-place : (y : ℕ) → Behind (c .due) y → 0 < runIn (c .due) →
+      restRun W v t frames seen c ≡ nodeRun W v t frames seen false (getD v (kindsIn (c .due)) 0) (atFrame y c)
+  run-place y b first =
+      ap (λ ds. run W (ds ++ savedDue v frames (c .depth)) seen (tallyAt (length t) c) (drop (c .at) t)) (due-behind v (suc (c .depth)) (c .due) y b first)
+
+  pub run-advanced : (y : ℕ) → FrameIn v (c .due) → Advanced (c .due) y → runIn (c .due) ≡ 0 →
+      restRun W v t frames seen (atFrame y c) ≡ restRun W v t frames seen c
+  run-advanced y fits a over =
+      ap (λ ds. run W (ds ++ savedDue v frames (c .depth)) seen (tallyAt (length t) c) (drop (c .at) t))
+      (sym (due-advanced v (suc (c .depth)) (c .due) fits y a over))
+
+  pub run-up : 0 < c .depth → runIn (c .due) ≡ 0 → writtenIn (c .due) ≡ 0 →
+      restRun W v t frames seen (wentUp (getD frames (c .depth - 1) 0) c) ≡ restRun W v t frames seen c
+  run-up low over bare =
+      let e : c .depth ≡ suc (c .depth - 1) = omega arith in
+      ap (λ ds. run W (ds ++ savedDue v frames (suc (c .depth - 1))) seen (tallyAt (length t) c) (drop (c .at) t))
+      (sym (due-done v (suc (c .depth)) (c .due) over bare))
+      ∙ ap (λ d. run W (frameDue v (suc (c .depth)) (c .due) ++ savedDue v frames d) seen (tallyAt (length t) c) (drop (c .at) t)) (sym e)
+
+module _ (W : Vocabulary) (v t frames : List ℕ) (seen : List Occurrence) (k : ℕ) {c : Cursor} (g : Going v t frames c) where
+  abbrev rest : List ℕ
+  rest = drop (c .at) t
+
+  abbrev told : Tally
+  told = tallyAt (length t) c
+
+  pub run-deep : 31 < c .depth → nodeRun W v t frames seen false k c ≡ atLimit rest
+  run-deep h = run-limit W (nodeDue false k c) (openDue v frames c) seen told rest (omega arith)
+
+  -- The level is allowed, and x stands there, no names seen.
+  module _ (room : c .depth ≤ 31) {x : Node} (stands : node W false k [] rest ≡ x) where
+    run-stands : nodeRun W v t frames seen false k c ≡ scanNode (run W) (nodeDue false k c) (openDue v frames c) seen told (seenNode seen k rest x)
+    run-stands =
+        run-node W (nodeDue false k c) (openDue v frames c) seen told rest (omega arith)
+        ∙ ap (scanNode (run W) (nodeDue false k c) (openDue v frames c) seen told) (node-seen W false k seen rest ∙ ap (seenNode seen k rest) stands)
+
+  pub run-fault : c .depth ≤ 31 → (m : ℕ) (r : List ℕ) → node W false k [] rest ≡ fault m r → nodeRun W v t frames seen false k c ≡ stop m r
+  run-fault room m r e = run-stands room e
+
+  module _ (room : c .depth ≤ 31) (j : ℕ) (long : c .at < length t) (stands : node W false k [] rest ≡ nameHere j (drop 1 rest)) where
+    pub run-clash : clash seen j k ≡ true → nodeRun W v t frames seen false k c ≡ stop 13 rest
+    run-clash e =
+        run-stands room stands
+        ∙ ap (λ b. scanNode (run W) (nodeDue false k c) (openDue v frames c) seen told (cond b (fault 13 rest) (nameHere j (drop 1 rest)))) e
+
+    leaf-told : withLeaf (suc (c .depth)) (drop 1 rest) told ≡ tallyAt (length t) (pastLeaf c)
+    leaf-told =
+        let size : suc (length (drop 1 rest)) ≡ length t - c .at = omega (arith, length-drop (c .at) t, length-drop 1 rest) in
+        same-tally _ _ refl (omega (arith, g .reached))
+        (ap (λ m. orElse (gapLeft (length t) (c .at) (c .gap)) (some m)) size
+        ∙ sym (gap-new (length t) (c .at) 1 (c .gap) (g .gapless) (omega arith) (c .at) (omega arith) (omega arith)))
+
+    pub run-name : clash seen j k ≡ false →
+        restRun W v t frames (seen ++ (record { name = j; sort = k } ∷ [])) (pastLeaf c) ≡ nodeRun W v t frames seen false k c
+    run-name e =
+        ap₂ (run W (openDue v frames c) (seen ++ (record { name = j; sort = k } ∷ []))) (sym leaf-told) (sym (drop-drop 1 (c .at) t))
+        ∙ sym (run-stands room stands
+        ∙ ap (λ b. scanNode (run W) (nodeDue false k c) (openDue v frames c) seen told (cond b (fault 13 rest) (nameHere j (drop 1 rest)))) e)
+
+  module _ (room : c .depth ≤ 31) (f : ℕ) (ks : List Slot) (full : Bool) (whole : full ≡ everyWritten ks) (long : c .at + (1 + mapBytes) ≤ length t)
+      (stands : node W false k [] rest ≡ wordHere f ks (drop (1 + mapBytes) rest)) where
+    word-told : withWord (suc (c .depth)) ks (drop (1 + mapBytes) rest) told ≡ tallyAt (length t) (pastWord full c)
+    word-told =
+        let size : c .at + (1 + mapBytes) + length (drop (1 + mapBytes) rest) ≡ length t = omega (arith, length-drop (c .at) t, length-drop (1 + mapBytes) rest) in
+        same-tally _ _ refl (omega (arith, g .reached))
+        (ap (λ b. orElse (gapLeft (length t) (c .at) (c .gap)) (cond b none (some (mapBytes + length (drop (1 + mapBytes) rest))))) (sym whole)
+        ∙ sym (gap-word (length t) (c .at) (c .gap) (length (drop (1 + mapBytes) rest)) full (g .gapless) long size))
+
+    -- Its written places, and then what was due behind it.
+    word-behind : run W (dueAt (suc (suc (c .depth))) ks ++ openDue v frames c) seen (tallyAt (length t) (pastWord full c)) (drop (c .at + (1 + mapBytes)) t) ≡ nodeRun W v t frames seen false k c
+    word-behind =
+        ap₂ (run W (dueAt (suc (suc (c .depth))) ks ++ openDue v frames c) seen) (sym word-told) (sym (drop-drop (1 + mapBytes) (c .at) t))
+        ∙ sym (run-stands room stands)
+
+    pub run-bare : dueAt (suc (suc (c .depth))) ks ≡ [] → restRun W v t frames seen (pastWord full c) ≡ nodeRun W v t frames seen false k c
+    run-bare e =
+        ap (λ ds. run W (ds ++ openDue v frames c) seen (tallyAt (length t) (pastWord full c)) (drop (c .at + (1 + mapBytes)) t)) (sym e)
+        ∙ word-behind
+
+    pub run-down : (z : ℕ) → FrameIn v z → 0 < runIn z + writtenIn z → ((level : ℕ) → frameDue v level z ≡ dueAt level ks) →
+        restRun W v t (set frames (c .depth) (c .due)) seen (wentDown z (pastWord full c)) ≡ nodeRun W v t frames seen false k c
+    run-down z fits first dues =
+        let next : Tally = tallyAt (length t) (pastWord full c) in
+        let l : List ℕ = drop (c .at + (1 + mapBytes)) t in
+        let level : c .depth + 2 ≡ suc (suc (c .depth)) = omega arith in
+        ap (λ d. run W (frameDue v (suc d) z ++ savedDue v (set frames (c .depth) (c .due)) d) seen (withLevel (c .depth + 2) next) l) (add-one (c .depth))
+        ∙ ap₂ (λ ds d. run W (frameDue v (suc (suc (c .depth))) z ++ ds) seen (withLevel d next) l)
+        (saved-last v frames (c .depth) (c .due) (omega (arith, g .entries))) level
+        ∙ frame-reaches W v (suc (suc (c .depth))) z fits first (openDue v frames c) seen next l
+        ∙ ap (λ ds. run W (ds ++ openDue v frames c) seen next l) (dues (suc (suc (c .depth))))
+        ∙ word-behind

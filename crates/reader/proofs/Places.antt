@@ -1,0 +1,255 @@
+-- Places: how the loop over the nodes of a term goes on, and the root.
+--
+--   Onward                    what holds at each turn: the reading from there on gives what it gave from the beginning on
+--   onward-none, onward-passed, onward-node    the beginning, full words that are passed, and a node that is read
+--   NodeTurn, node-turn, node-under    a turn at a node that is due at the first place of the cursor's frame
+--   onward-ends, onward-refused    the end
+--   whole-ends, whole-tested  whether 255 stands at an offset
+--   root-begins, root-whole, root-under, root-refused, root-read    a term from its first byte on
+--
+use mathlib.Core.Path.{_≡_, refl, sym, ap, ap₂, subst, _∙_}
+use mathlib.Core.Bool.{true, false, false≢true}
+use mathlib.Core.List.{List, [], _∷_, _++_}
+use mathlib.Core.Option.{Option, some, none}
+use Prim.Native.Nat.{ℕ, zero, suc, _+_, _-_, _<_, _≤_, min}
+use native.Mathlib.Nat.{add-zero}
+use native.Mathlib.Omega.{arith}
+use lib.Dec.{eqb, ltb}
+use lib.ListN.{length, getD, drop, replicate, length-drop, List·getD-eq-default}
+use lib.Seq.{getD-drop, drop-drop}
+use borrow.Author.Tests.{le-ltb, eqb-true, eqb-false}
+use Rattle.terms.specs.Lists.{orElse}
+use Rattle.terms.specs.Term.{Occurrence}
+use Rattle.wire.specs.Vocabulary.{Vocabulary}
+use Rattle.wire.specs.Parser.{Got, got, Node, wordHere, nameHere, wholeHere, fault, node}
+use Rattle.wire.specs.Scan.{Scanned, scanNode, run, rootDue, noTally, withLeaf}
+use Rattle.wire.proofs.Cond.{cond-false}
+use Rattle.wire.proofs.Scan.{run-node, same-tally}
+use Rattle.signature.specs.Tables.{Tables, vocabularyIn}
+use Rattle.reader.specs.Frames.{runIn, kindsIn, FrameIn}
+use Rattle.reader.specs.Names.{Named}
+use Rattle.reader.specs.Cursors.{started, pastLeaf, atFrame, gapLeft, tallyAt, openDue, restRun, Going}
+use Rattle.reader.specs.Terms.{Passed, nodeDue, nodeRun, Leads, Refuses, Follows, Under, Ends, Answers, PlacesRead, WholeAt}
+use Rattle.reader.specs.declared.TermRefusal.{TermRefusal}
+use Rattle.reader.specs.declared.cursor.Cursor.{Cursor}
+use Rattle.reader.specs.declared.term.Reading.{Reading}
+use Rattle.reader.specs.declared.term.Reading.the-variants as R
+use Rattle.reader.proofs.Frames.{Behind, frame-behind, frame-none}
+use Rattle.reader.proofs.Levels.{first-reaches}
+use Rattle.reader.proofs.Nodes.{node-root, node-whole}
+use Rattle.reader.proofs.Cursors.{gap-new, going-onto, run-place}
+
+pub record Onward (v t names₀ frames₀ : List ℕ) (c₀ : Cursor) (names frames : List ℕ) (c : Cursor) : Type 0 where
+  pub going : Going v t frames c
+  pub entries : length names ≡ 64
+  pub leads : (seen : List Occurrence) → Named names₀ seen → Leads v t names frames c (restRun (vocabularyIn v) v t frames₀ seen c₀)
+
+pub onward-none : {v t names frames : List ℕ} {c : Cursor} → length names ≡ 64 → Going v t frames c → Onward v t names frames c names frames c
+onward-none size g = record { going = g; entries = size; leads = λ seen named. record { seen = seen; named = named; same = refl } }
+
+module _ {v t names₀ frames₀ : List ℕ} {c₀ : Cursor} {names frames : List ℕ} {c : Cursor} (x : Onward v t names₀ frames₀ c₀ names frames c) where
+  abbrev W : Vocabulary
+  W = vocabularyIn v
+
+  pub onward-passed : {frames′ : List ℕ} {c′ : Cursor} → Passed v t frames c frames′ c′ → Onward v t names₀ frames₀ c₀ names frames′ c′
+  onward-passed p = record {
+    going = p .going;
+    entries = x .entries;
+    leads = λ seen named.
+        let l = x .leads seen named in
+        record { seen = l .seen; named = l .named; same = p .same (l .seen) ∙ l .same };
+  }
+
+  -- Nothing is due any more.
+  pub onward-ends : c .depth ≡ 0 → (seen : List Occurrence) → Named names₀ seen → Answers t names (restRun W v t frames₀ seen c₀) (R.Read c)
+  onward-ends e seen named =
+      let l = x .leads seen named in
+      record {
+        seen = l .seen;
+        named = l .named;
+        same =
+            ap₂ (λ d y. run W (openDue v frames (record { at = c .at; words = c .words; deepest = c .deepest; gap = c .gap; depth = d; due = y }))
+            (l .seen) (tallyAt (length t) c) (drop (c .at) t)) (sym e) (sym (x .going .root e))
+            ∙ l .same;
+        inside = x .going .inside;
+        gapless = x .going .gapless;
+      }
+
+-- A turn at the node of kind k that is due at the first place of the frame; d is the cursor behind the place.
+pub record NodeTurn (v t names₀ frames₀ : List ℕ) (c₀ : Cursor) (names frames : List ℕ) (c d : Cursor) (k n : ℕ) (offsets results maps : List ℕ) : Type 0 where
+  pub onward : Onward v t names₀ frames₀ c₀ names frames c
+  pub frame : ℕ
+  pub behind : Behind (c .due) frame
+  pub first : 0 < runIn (c .due)
+  pub low : 0 < c .depth
+  pub next : d ≡ atFrame frame c
+  pub kind : k ≡ getD v (kindsIn (c .due)) 0
+  pub tables : Tables v n offsets results maps
+  pub bytes : (i : ℕ) → getD v i 0 < 256
+
+pub positive : (d : ℕ) → (d ≡ 0 → ⊥) → 0 < d
+positive d other = let some : 0 < d = omega (arith, other) in some
+
+pub node-turn : {v t names₀ frames₀ : List ℕ} {c₀ : Cursor} {names frames frames′ : List ℕ} {c c′ d : Cursor} {y j n : ℕ} {offsets results maps : List ℕ} →
+    Onward v t names₀ frames₀ c₀ names frames c → Passed v t frames c frames′ c′ → (c′ .depth ≡ 0 → ⊥) → Behind (c′ .due) y → d ≡ atFrame y c′ → j ≡ kindsIn (c′ .due) →
+    Tables v n offsets results maps → ((i : ℕ) → getD v i 0 < 256) → NodeTurn v t names₀ frames₀ c₀ names frames′ c′ d (getD v j 0) n offsets results maps
+node-turn {v} {c′ = c′} {y = y} x p other b e h tables bytes = record {
+  onward = onward-passed x p;
+  frame = y;
+  behind = b;
+  first = p .due (positive (c′ .depth) other);
+  low = positive (c′ .depth) other;
+  next = e;
+  kind = ap (λ j. getD v j 0) h;
+  tables = tables;
+  bytes = bytes;
+}
+
+module _ {v t names₀ frames₀ : List ℕ} {c₀ : Cursor} {names frames : List ℕ} {c d : Cursor} {k n : ℕ} {offsets results maps : List ℕ}
+    (x : NodeTurn v t names₀ frames₀ c₀ names frames c d k n offsets results maps) where
+  abbrev N : Vocabulary
+  N = vocabularyIn v
+
+  pub node-under : Under v t n offsets results maps frames d
+  node-under = record {
+    tables = x .tables;
+    bytes = x .bytes;
+    going =
+        subst (Going v t frames) (sym (x .next))
+        (going-onto (x .onward .going) (x .low) (frame-behind v (c .due) (x .frame) (x .onward .going .due) (x .behind) (x .first)));
+  }
+
+  -- Reading the node is reading on from the cursor.
+  node-same : (seen : List Occurrence) → nodeRun N v t frames seen false k d ≡ restRun N v t frames seen c
+  node-same seen = ap₂ (λ k d. nodeRun N v t frames seen false k d) (x .kind) (x .next) ∙ sym (run-place N v t frames seen c (x .frame) (x .behind) (x .first))
+
+  pub onward-node : {c′ : Cursor} {names′ frames′ : List ℕ} → Follows v t k d names frames names′ frames′ c′ → Onward v t names₀ frames₀ c₀ names′ frames′ c′
+  onward-node f = record {
+    going = f .going;
+    entries = f .entries ∙ x .onward .entries;
+    leads = λ seen named.
+        let l = x .onward .leads seen named in
+        let m = f .leads (l .seen) (l .named) in
+        record { seen = m .seen; named = m .named; same = m .same ∙ node-same (l .seen) ∙ l .same };
+  }
+
+  pub onward-less : {c′ : Cursor} {names′ frames′ : List ℕ} → Follows v t k d names frames names′ frames′ c′ → length t - c′ .at < length t - c .at
+  onward-less f =
+      let further = f .further in
+      let inside = f .going .inside in
+      omega (arith, ap (λ (d : Cursor). d .at) (x .next))
+
+  pub onward-refused : {why : TermRefusal} → ((seen : List Occurrence) → Named names seen → Refuses t why (nodeRun N v t frames seen false k d)) →
+      (seen : List Occurrence) → Named names₀ seen → Refuses t why (restRun N v t frames₀ seen c₀)
+  onward-refused f seen named =
+      let l = x .onward .leads seen named in
+      let m = f (l .seen) (l .named) in
+      record { inside = m .inside; same = m .same ∙ node-same (l .seen) ∙ l .same }
+
+-- Full words that are passed take nothing from what is left.
+pub less-from : (t : List ℕ) {v frames frames′ : List ℕ} {c c′ : Cursor} {m : ℕ} → Passed v t frames c frames′ c′ → m < length t - c′ .at → m < length t - c .at
+less-from t p h = let further = p .further in omega arith
+
+pub zero-left : (d : ℕ) → d ≤ 0 → d ≡ 0
+zero-left d h = omega arith
+
+pub ends-as : {t names : List ℕ} {g : Got Scanned} {c d : Cursor} → d ≡ c → Ends t names c g → Ends t names d g
+ends-as {t} {names} {g} e x = subst (λ c. Ends t names c g) (sym e) x
+
+-- ---- the root
+
+whole-first : (t : List ℕ) (at : ℕ) → getD (drop at t) 0 0 ≡ getD t at 0
+whole-first t at = getD-drop at t 0 0 ∙ ap (λ n. getD t n 0) (add-zero at)
+
+pub whole-ends : (t : List ℕ) (at : ℕ) → length t ≤ at → WholeAt t at false
+whole-ends t at h = record {
+  there = λ e. absurd (false≢true e);
+  other = λ e b. let z : _≡_ {A = ℕ} 0 255 = sym (List·getD-eq-default t 0 h) ∙ sym (whole-first t at) ∙ b in omega arith;
+}
+
+pub whole-tested : (t : List ℕ) (at : ℕ) → at < length t → WholeAt t at (eqb (getD t at 0) 255)
+whole-tested t at h = record {
+  there = λ e. (h, eqb-true (getD t at 0) 255 e);
+  other = λ e b. eqb-false (getD t at 0) 255 e (sym (whole-first t at) ∙ b);
+}
+
+module _ (v t : List ℕ) (from k : ℕ) (inside : from ≤ length t) where
+  abbrev U : Vocabulary
+  U = vocabularyIn v
+
+  pub root-going : Going v t (replicate 32 0) (started from (length t))
+  root-going = record {
+    due = frame-none v;
+    saved = λ i p. absurd (omega arith);
+    root = λ e. refl;
+    rootSaved = λ h. absurd (omega arith);
+    shallow = omega arith;
+    reached = omega arith;
+    inside = inside;
+    fewer = omega arith;
+    gapless = λ h. refl;
+    entries = refl;
+  }
+
+  -- No gap is known yet.
+  no-gap : gapLeft (length t) from (length t) ≡ none
+  no-gap = cond-false (ltb (length t) from) (some (length t - length t)) none (le-ltb (length t) from inside)
+
+  -- Below the root and at it a node that is no 255 leads to the same.
+  root-node : (seen : List Occurrence) (o : Option ℕ) → o ≡ none → (x : Node) →
+      scanNode (run U) (rootDue k) [] seen noTally x ≡
+      scanNode (run U) (record { sort = k; level = 1; root = false }) [] seen (record { words = 0; deepest = 1; gap = o }) x
+  root-node seen o e (wordHere f ks r) = ap (λ o. scanNode (run U) (rootDue k) [] seen (record { words = 0; deepest = 1; gap = o }) (wordHere f ks r)) (sym e)
+  root-node seen o e (nameHere j r) = ap (λ o. scanNode (run U) (rootDue k) [] seen (record { words = 0; deepest = 1; gap = o }) (nameHere j r)) (sym e)
+  root-node seen o e (wholeHere r) = ap (λ o. scanNode (run U) (rootDue k) [] seen (record { words = 0; deepest = 1; gap = o }) (wholeHere r)) (sym e)
+  root-node seen o e (fault j r) = refl
+
+  pub root-begins : (getD (drop from t) 0 0 ≡ 255 → ⊥) → (seen : List Occurrence) →
+      nodeRun U v t (replicate 32 0) seen false k (started from (length t)) ≡ run U (rootDue k ∷ []) seen noTally (drop from t)
+  root-begins other seen =
+      run-node U (record { sort = k; level = 1; root = false }) [] seen (tallyAt (length t) (started from (length t))) (drop from t) (omega arith)
+      ∙ sym (root-node seen (gapLeft (length t) from (length t)) no-gap (node U false k seen (drop from t)))
+      ∙ ap (scanNode (run U) (rootDue k) [] seen noTally) (sym (node-root U k seen (drop from t) other))
+      ∙ sym (run-node U (rootDue k) [] seen noTally (drop from t) (omega arith))
+
+  pub root-whole : {names : List ℕ} → from < length t → getD t from 0 ≡ 255 → length (U .words) ≤ 96 → (seen : List Occurrence) → Named names seen →
+      Ends t names (pastLeaf (started from (length t))) (run U (rootDue k ∷ []) seen noTally (drop from t))
+  root-whole {names} long e few seen named = record {
+    seen = seen;
+    named = named;
+    same =
+        ap₂ (λ y l. got (record { tally = y; seen = seen }) l)
+        (same-tally (tallyAt (length t) (pastLeaf (started from (length t)))) (withLeaf 1 (drop 1 (drop from t)) noTally) refl refl leaf-gap)
+        (sym (drop-drop 1 from t))
+        ∙ ap (scanNode (run U) (rootDue k) [] seen noTally) (sym (node-whole U k seen (drop from t) (omega (arith, length-drop from t)) (whole-first t from ∙ e) few))
+        ∙ sym (run-node U (rootDue k) [] seen noTally (drop from t) (omega arith));
+    inside = omega arith;
+    gapless = λ h. absurd (omega arith);
+  }
+    where
+      leaf-gap : gapLeft (length t) (from + 1) (min (length t) from) ≡ some (suc (length (drop 1 (drop from t))))
+      leaf-gap =
+          gap-new (length t) from 1 (length t) (λ h. refl) (omega arith) from (omega arith) (omega arith)
+          ∙ ap (λ o. orElse o (some (length t - from))) no-gap
+          ∙ ap some (let e : length t - from ≡ suc (length (drop 1 (drop from t))) = omega (arith, length-drop from t, length-drop 1 (drop from t)) in e)
+
+  module _ {d : Cursor} (e : d ≡ started from (length t)) where
+    pub root-under : {n : ℕ} {offsets results maps : List ℕ} → Tables v n offsets results maps → ((i : ℕ) → getD v i 0 < 256) →
+        Under v t n offsets results maps (replicate 32 0) d
+    root-under tables bytes = record { tables = tables; bytes = bytes; going = subst (Going v t (replicate 32 0)) (sym e) root-going }
+
+    module _ (other : getD (drop from t) 0 0 ≡ 255 → ⊥) where
+      root-same : (seen : List Occurrence) → nodeRun U v t (replicate 32 0) seen false k d ≡ run U (rootDue k ∷ []) seen noTally (drop from t)
+      root-same seen = ap (nodeRun U v t (replicate 32 0) seen false k) e ∙ root-begins other seen
+
+      pub root-refused : (names : List ℕ) {why : TermRefusal} →
+          ((seen : List Occurrence) → Named names seen → Refuses t why (nodeRun U v t (replicate 32 0) seen false k d)) →
+          (seen : List Occurrence) → Named names seen → Refuses t why (run U (rootDue k ∷ []) seen noTally (drop from t))
+      root-refused names f seen named = let m = f seen named in record { inside = m .inside; same = m .same ∙ root-same seen }
+
+      pub root-read : {names names′ frames′ : List ℕ} {c′ : Cursor} (names″ : List ℕ) (r : Reading) → Follows v t k d names (replicate 32 0) names′ frames′ c′ →
+          PlacesRead v t names′ frames′ c′ names″ r → (seen : List Occurrence) → Named names seen →
+          Answers t names″ (run U (rootDue k ∷ []) seen noTally (drop from t)) r
+      root-read names″ r f h seen named =
+          let l = f .leads seen named in
+          subst (λ g. Answers t names″ g r) (l .same ∙ root-same seen) (h (l .seen) (l .named))

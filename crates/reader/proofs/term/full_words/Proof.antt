@@ -1,0 +1,275 @@
+use borrow.Author.Needs.{needs}
+use mathlib.Core.Path.{_≡_, refl, sym, ap, subst, _∙_}
+use mathlib.Core.Bool.{true}
+use native.Mathlib.Omega.{arith}
+use native.Mathlib.Nat.{le-refl, lt-of-lt-of-le}
+use denote.Ref.{now}
+use lib.Dec.{lit<}
+use lib.ListN.{getD}
+use borrow.Author.Needs.{scaled-fits}
+use borrow.Author.Tests.{not-false}
+use Rattle.reader.specs.Cursors.{pastWord, wentDown, atFrame}
+use Rattle.reader.proofs.Tables.{few-words}
+use Rattle.reader.proofs.Turns.{Turned, turned-none, turned-as, turned-ends, turned-up, turned-advanced, turned-bare, turned-down, FullHere, WordTurn, full-here, word-inside, word-inside, turnsLeft, less-up, less-advanced, less-bare, less-down, less-as, first-due, advance-asks, pass-asks, kind-inside, word-asks}
+use Rattle.reader.proofs.term.full_words.Statement.{statement}
+use Rattle.reader.proofs.term.full_words.Tie as tie
+use Rattle.reader.proofs.term.full_words.Reads as reads
+use Rattle.reader.proofs.term.full_words.Lts as lts
+use Rattle.reader.proofs.cursor.Cursor.down.Reads as down-reads
+use Rattle.reader.proofs.cursor.Cursor.onto.Reads as onto-reads
+use Rattle.reader.proofs.cursor.Cursor.up.Reads as up-reads
+use Rattle.reader.proofs.cursor.Cursor.word.Reads as word-reads
+use Rattle.reader.proofs.frame.advanced.Reads as advanced-reads
+use Rattle.reader.proofs.frame.full.Reads as full-reads
+use Rattle.reader.proofs.frame.kinds.Reads as kinds-reads
+use Rattle.reader.proofs.frame.passed.Reads as passed-reads
+use Rattle.reader.proofs.frame.written.Reads as written-reads
+use Rattle.reader.proofs.node.wide.Reads as wide-reads
+use Rattle.reader.proofs.term.full_word.Reads as full-word-reads
+
+abbrev Inv-loop : tie.InvT-loop
+Inv-loop v t frames₀ words offsets results maps c₀ frames c = Turned v t frames₀ c₀ frames c
+
+abbrev μ-loop : tie.MeasureT-loop
+μ-loop v t frames₀ words offsets results maps c₀ frames c = turnsLeft t frames c
+
+-- src/term.rt:70:5
+
+-- The turn at a full word, up to where its place is passed.
+word-turn : (c : tie.After-passed Inv-loop μ-loop) →
+    let loop = c .before .before .before .before .before .before .before .before .before .before .before .before in
+    let a = loop .before .before .before .args in
+    WordTurn (now (a .v)) (now (a .t)) (now (a .frames)) (loop .loop .frames) (a .from) (loop .loop .c) (a .words)
+    (now (a .offsets)) (now (a .results)) (now (a .maps)) (c .before .wide .result) (c .passed .result)
+word-turn c =
+    let read = c .before .before .before .before in
+    let kinds = read .before .before .before .before in
+    let loop = kinds .before .before .before .before in
+    let start = loop .before .before .before in
+    let a = start .args in
+    record {
+      turned = loop .loop .inv;
+      low = kinds .before .before .if1 .taken;
+      first = first-due (loop .loop .c .due) (kinds .before .if2 .left);
+      behind = c .passed .ensures;
+      room = read .before .before .if4 .left;
+      tables = start .pre .0;
+      bytes = λ i. loop .before .before .shared-slice-known .given i .fits;
+      here =
+          subst (λ j. FullHere (now (a .v)) (now (a .t)) (a .words) (loop .loop .c .at) (getD (now (a .v)) j 0) (c .before .wide .result)) (kinds .kinds .ensures)
+          (full-here (start .pre .0) (read .full-word .ensures (not-false _ (c .before .before .before .if5 .left))) (c .before .wide .ensures));
+    }
+
+-- The cursor behind the word.
+past : (c : tie.After-word Inv-loop μ-loop) →
+    c .word .result ≡ pastWord true (atFrame (c .before .before .passed .result) (c .before .before .before .before .before .before .before .before .before .before .before .before .before .before .loop .c))
+past c = c .word .ensures ∙ ap (pastWord true) (c .before .onto2 .ensures)
+
+loop-holds : tie.Need-loop-holds Inv-loop μ-loop
+loop-holds c = turned-none (c .before .before .pre .1)
+
+-- src/term.rt:74:16
+written-requires : tie.Need-written-requires Inv-loop μ-loop
+written-requires c κs = search needs
+
+-- src/term.rt:75:33
+sub-up : tie.Need-sub-up Inv-loop μ-loop
+sub-up c = search needs
+
+-- src/term.rt:75:26
+mul-up : tie.Need-mul-up Inv-loop μ-loop
+mul-up c = search needs
+
+-- src/term.rt:75:26
+element-copy-out-up : tie.Need-element-copy-out-up Inv-loop μ-loop
+element-copy-out-up c = search needs
+
+-- src/term.rt:75:17
+up-requires : tie.Need-up-requires Inv-loop μ-loop
+up-requires c κs = search needs
+
+-- src/term.rt:70:5
+loop-less : tie.Need-loop-less Inv-loop μ-loop
+loop-less c = less-as (now (c .before .before .before .before .before .before .before .before .before .before .args .t)) (c .before .before .before .before .before .before .before .loop .frames) (c .up .ensures) (less-up (now (c .before .before .before .before .before .before .before .before .before .before .args .t)) (c .before .before .before .before .before .before .before .loop .frames) (c .before .before .before .before .before .before .before .loop .c) (c .before .before .before .before .before .if1 .taken))
+
+-- src/term.rt:70:5
+loop-again : tie.Need-loop-again Inv-loop μ-loop
+loop-again c = turned-as (c .up .ensures) (turned-up (c .before .before .before .before .before .before .before .loop .inv) (c .before .before .before .before .before .if1 .taken) (c .before .before .before .before .if2 .taken) (sym (c .before .before .before .written .ensures) ∙ c .before .before .if3 .taken))
+
+-- src/term.rt:77:28
+advanced-requires : tie.Need-advanced-requires Inv-loop μ-loop
+advanced-requires c κs = advance-asks (c .before .before .before .before .before .loop .inv .going .due)
+
+-- src/term.rt:77:17
+onto-requires : tie.Need-onto-requires Inv-loop μ-loop
+onto-requires c κs = search needs
+
+-- src/term.rt:70:5
+loop-less-2 : tie.Need-loop-less-2 Inv-loop μ-loop
+loop-less-2 c = less-as (now (c .before .before .before .before .before .before .before .before .before .before .args .t)) (c .before .before .before .before .before .before .before .loop .frames) (c .onto .ensures) (less-advanced (now (c .before .before .before .before .before .before .before .before .before .before .args .t)) (c .before .before .before .before .before .before .before .loop .frames) (c .before .before .before .before .before .before .before .loop .c) (c .before .advanced .ensures) (c .before .before .before .before .if2 .taken) (λ e. c .before .before .if3 .left (c .before .before .before .written .ensures ∙ e)))
+
+-- src/term.rt:70:5
+loop-again-2 : tie.Need-loop-again-2 Inv-loop μ-loop
+loop-again-2 c = turned-as (c .onto .ensures) (turned-advanced (c .before .before .before .before .before .before .before .loop .inv) (c .before .before .before .before .before .if1 .taken) (c .before .advanced .ensures) (c .before .before .before .before .if2 .taken))
+
+-- src/term.rt:81:26
+kinds-requires : tie.Need-kinds-requires Inv-loop μ-loop
+kinds-requires c κs = search needs
+
+-- src/term.rt:81:24
+shared-slice-read-kind : tie.Need-shared-slice-read-kind Inv-loop μ-loop
+shared-slice-read-kind c = kind-inside (c .before .before .before .before .before .loop .inv .going .due) (first-due (c .before .before .before .before .before .loop .c .due) (c .before .before .if2 .left)) (c .before .kinds .ensures)
+
+-- src/term.rt:83:17
+returns : tie.Need-returns Inv-loop μ-loop
+returns c = turned-ends (c .before .before .before .before .before .before .loop .inv) (λ low. first-due (c .before .before .before .before .before .before .loop .c .due) (c .before .before .before .if2 .left))
+
+-- src/term.rt:85:27
+sub-full-word : tie.Need-sub-full-word Inv-loop μ-loop
+sub-full-word c = search needs
+
+-- src/term.rt:85:27
+part-full-word-start : tie.Need-part-full-word-start Inv-loop μ-loop
+part-full-word-start c = search needs
+
+-- src/term.rt:85:27
+part-full-word-end : tie.Need-part-full-word-end Inv-loop μ-loop
+part-full-word-end c = search needs
+
+-- src/term.rt:85:17
+full-word-requires : tie.Need-full-word-requires Inv-loop μ-loop
+full-word-requires c κs = few-words (c .before .before .before .before .before .before .before .before .before .before .pre .0) (λ i. c .before .before .before .before .before .before .before .before .before .shared-slice-known .given i .fits)
+
+-- src/term.rt:86:17
+returns-2 : tie.Need-returns-2 Inv-loop μ-loop
+returns-2 c = turned-ends (c .before .before .before .before .before .before .before .before .before .loop .inv) (λ low. first-due (c .before .before .before .before .before .before .before .before .before .loop .c .due) (c .before .before .before .before .before .before .if2 .left))
+
+-- src/term.rt:88:32
+shared-slice-read-wide : tie.Need-shared-slice-read-wide Inv-loop μ-loop
+shared-slice-read-wide c =
+    let start = c .before .before .before .before .before .before .before .before .before .before .before .before .before in
+    word-inside {t = now (start .args .t)} (full-here (start .pre .0) (c .before .before .full-word .ensures (not-false _ (c .before .if5 .left))) refl)
+
+-- src/term.rt:88:17
+wide-requires : tie.Need-wide-requires Inv-loop μ-loop
+wide-requires c κs = search needs
+
+-- src/term.rt:89:17
+passed-requires : tie.Need-passed-requires Inv-loop μ-loop
+passed-requires c κs = pass-asks (c .before .before .before .before .before .before .before .before .before .before .before .loop .inv .going .due) (first-due (c .before .before .before .before .before .before .before .before .before .before .before .loop .c .due) (c .before .before .before .before .before .before .before .before .if2 .left))
+
+-- src/term.rt:90:17
+onto-requires-2 : tie.Need-onto-requires-2 Inv-loop μ-loop
+onto-requires-2 c κs = search needs
+
+-- src/term.rt:90:13
+word-requires : tie.Need-word-requires Inv-loop μ-loop
+word-requires c κs =
+    let turn = word-turn (c .before) in
+    let a = c .before .before .before .before .before .before .before .before .before .before .before .before .before .before .before .before .args in
+    word-asks (c .onto2 .result) (turn .turned .going) (ap (λ d. d .at) (c .onto2 .ensures)) (ap (λ d. d .words) (c .onto2 .ensures)) (turn .here .long) (c .before .before .before .before .before .before .before .before .before .before .before .before .before .before .before .before .good .1 .0 .0)
+
+-- src/term.rt:91:16
+element-copy-out-if6 : tie.Need-element-copy-out-if6 Inv-loop μ-loop
+element-copy-out-if6 c = lt-of-lt-of-le (word-turn (c .before .before) .here .known) (few-words (word-turn (c .before .before) .tables) (word-turn (c .before .before) .bytes))
+
+-- src/term.rt:92:17
+mul-frames : tie.Need-mul-frames Inv-loop μ-loop
+mul-frames c = search needs
+
+-- src/term.rt:92:17
+element-write-frames : tie.Need-element-write-frames Inv-loop μ-loop
+element-write-frames c = search needs
+
+-- src/term.rt:93:40
+element-copy-out-full : tie.Need-element-copy-out-full Inv-loop μ-loop
+element-copy-out-full c = lt-of-lt-of-le (word-turn (c .before .before .before .before) .here .known) (few-words (word-turn (c .before .before .before .before) .tables) (word-turn (c .before .before .before .before) .bytes))
+
+-- src/term.rt:93:49
+mul-full : tie.Need-mul-full Inv-loop μ-loop
+mul-full c = scaled-fits _ 96 2 (lt-of-lt-of-le (word-turn (c .before .before .before .before .before) .here .known) (few-words (word-turn (c .before .before .before .before .before) .tables) (word-turn (c .before .before .before .before .before) .bytes))) (lit< tt)
+
+-- src/term.rt:93:49
+element-copy-out-full-2 : tie.Need-element-copy-out-full-2 Inv-loop μ-loop
+element-copy-out-full-2 c = lt-of-lt-of-le (word-turn (c .before .before .before .before .before) .here .known) (few-words (word-turn (c .before .before .before .before .before) .tables) (word-turn (c .before .before .before .before .before) .bytes))
+
+-- src/term.rt:93:28
+full-requires : tie.Need-full-requires Inv-loop μ-loop
+full-requires c κs = search needs
+
+-- src/term.rt:93:17
+down-requires : tie.Need-down-requires Inv-loop μ-loop
+down-requires c κs = let depth = ap (λ d. d .depth) (past (c .before .before .before .before .before)) in let room = word-turn (c .before .before .before .before .before .before .before) .room in omega arith
+
+-- src/term.rt:70:5
+loop-less-3 : tie.Need-loop-less-3 Inv-loop μ-loop
+loop-less-3 c =
+    let turn = word-turn (c .before .before .before .before .before .before .before .before) in
+    let a = c .before .before .before .before .before .before .before .before .before .before .before .before .before .before .before .before .before .before .before .before .before .before .before .args in
+    less-as (now (a .t)) _ (c .down .ensures ∙ ap (wentDown (c .before .full .result)) (past (c .before .before .before .before .before .before))) (less-down turn (c .before .full .result))
+
+-- src/term.rt:70:5
+loop-again-3 : tie.Need-loop-again-3 Inv-loop μ-loop
+loop-again-3 c =
+    let turn = word-turn (c .before .before .before .before .before .before .before .before) in
+    turned-as (c .down .ensures ∙ ap (wentDown (c .before .full .result)) (past (c .before .before .before .before .before .before))) (turned-down turn (c .before .before .before .before .if6 .taken) (c .before .full .ensures))
+
+-- src/term.rt:70:5
+loop-less-4 : tie.Need-loop-less-4 Inv-loop μ-loop
+loop-less-4 c =
+    let turn = word-turn (c .before .before .before .before) in
+    let a = c .before .before .before .before .before .before .before .before .before .before .before .before .before .before .before .before .before .before .before .args in
+    less-as (now (a .t)) (c .before .before .before .before .before .before .before .before .before .before .before .before .before .before .before .before .loop .frames) (past (c .before .before)) (less-bare turn)
+
+-- src/term.rt:70:5
+loop-again-4 : tie.Need-loop-again-4 Inv-loop μ-loop
+loop-again-4 c = turned-as (past (c .before .before)) (turned-bare (word-turn (c .before .before .before .before)) (c .if6 .left))
+
+-- src/term.rt:55:1
+returns-3 : tie.Need-returns-3 Inv-loop μ-loop
+returns-3 c = turned-ends (c .before .before .loop .inv) (λ low. absurd (let none = c .if1 .left in omega arith))
+
+pub full-words-spec : {M : Type 1} → statement M
+full-words-spec =
+    tie.close
+    (tie.spec
+    Inv-loop
+    μ-loop
+    loop-holds
+    written-requires
+    sub-up
+    mul-up
+    element-copy-out-up
+    up-requires
+    loop-less
+    loop-again
+    advanced-requires
+    onto-requires
+    loop-less-2
+    loop-again-2
+    kinds-requires
+    shared-slice-read-kind
+    returns
+    sub-full-word
+    part-full-word-start
+    part-full-word-end
+    full-word-requires
+    returns-2
+    shared-slice-read-wide
+    wide-requires
+    passed-requires
+    onto-requires-2
+    word-requires
+    element-copy-out-if6
+    mul-frames
+    element-write-frames
+    element-copy-out-full
+    mul-full
+    element-copy-out-full-2
+    full-requires
+    down-requires
+    loop-less-3
+    loop-again-3
+    loop-less-4
+    loop-again-4
+    returns-3)

@@ -1,0 +1,112 @@
+-- Terms: what the functions that read a term promise each other; no public contract cites it.
+--
+--   FullWord l k n r m      at the front of the bytes l stands a word of kind k with its whole place map, by the tables
+--   Passed                  reading on from one cursor is reading on from another, further one, where a place is due or
+--                           nothing at all
+--   nodeDue b k c           a term of kind k that is due at the cursor's level; b tells whether it is the root
+--   nodeRun W v t frames seen b k c    what reading that term and then what is due behind it gives
+--   Leads W v names frames c g     some names seen are those of the table, and reading on from the cursor gives g
+--   Refuses t why g         g refuses with the number of why, at its place in t
+--   Follows, NodeAnswers    what reading the node that stands at a cursor gives, under a vocabulary
+--   Under, NodeRead         the same under every vocabulary whose tables are those
+--   Ends, Answers           what reading a whole term gives
+--   PlacesRead              what reading all that is due from a cursor on gives
+--   WholeAt                 255 stands at an offset of t
+--   TermRead                what reading the term of kind k that stands at an offset of t gives
+--
+use mathlib.Core.Path.{_≡_}
+use mathlib.Core.Bool.{Bool, true, false}
+use mathlib.Core.List.{List, [], _∷_}
+use Prim.Native.Nat.{ℕ, suc, _+_, _<_, _≤_}
+use lib.ListN.{length, getD, drop}
+use Rattle.terms.specs.Term.{Occurrence}
+use Rattle.wire.specs.Map.{mapBytes}
+use Rattle.wire.specs.Vocabulary.{Vocabulary}
+use Rattle.wire.specs.TermBytes.{wholeByte}
+use Rattle.wire.specs.TermLines.{Due}
+use Rattle.wire.specs.Parser.{Got, got, stop}
+use Rattle.wire.specs.Scan.{Scanned, run, rootDue, noTally}
+use Rattle.signature.specs.Tables.{Tables, vocabularyIn}
+use Rattle.reader.specs.Frames.{runIn}
+use Rattle.reader.specs.Names.{Named}
+use Rattle.reader.specs.Cursors.{tallyAt, openDue, restRun, Going}
+use Rattle.reader.specs.Nodes.{numberOf, placeOf}
+use Rattle.reader.specs.declared.TermRefusal.{TermRefusal}
+use Rattle.reader.specs.declared.cursor.Cursor.{Cursor}
+use Rattle.reader.specs.declared.term.Step.{Step}
+use Rattle.reader.specs.declared.term.Step.the-variants as S
+use Rattle.reader.specs.declared.term.Reading.{Reading}
+use Rattle.reader.specs.declared.term.Reading.the-variants as R
+
+pub record FullWord (l : List ℕ) (k n : ℕ) (results maps : List ℕ) : Type 0 where
+  pub long : 1 + mapBytes ≤ length l
+  pub known : getD l 0 0 < n
+  pub kind : getD results (getD l 0 0) 0 ≡ k
+  pub full : getD l 1 0 ≡ getD maps (getD l 0 0) 0
+
+pub record Passed (v t frames : List ℕ) (c : Cursor) (frames′ : List ℕ) (c′ : Cursor) : Type 0 where
+  pub going : Going v t frames′ c′
+  pub same : (seen : List Occurrence) → restRun (vocabularyIn v) v t frames′ seen c′ ≡ restRun (vocabularyIn v) v t frames seen c
+  pub further : c .at ≤ c′ .at
+  pub due : 0 < c′ .depth → 0 < runIn (c′ .due)
+
+abbrev pub nodeDue : Bool → ℕ → Cursor → Due
+nodeDue b k c = record { sort = k; level = suc (c .depth); root = b }
+
+abbrev pub nodeRun : Vocabulary → List ℕ → List ℕ → List ℕ → List Occurrence → Bool → ℕ → Cursor → Got Scanned
+nodeRun W v t frames seen b k c = run W (nodeDue b k c ∷ openDue v frames c) seen (tallyAt (length t) c) (drop (c .at) t)
+
+pub record Leads (v t names frames : List ℕ) (c : Cursor) (g : Got Scanned) : Type 0 where
+  pub seen : List Occurrence
+  pub named : Named names seen
+  pub same : restRun (vocabularyIn v) v t frames seen c ≡ g
+
+pub record Refuses (t : List ℕ) (why : TermRefusal) (g : Got Scanned) : Type 0 where
+  pub inside : placeOf why ≤ length t
+  pub same : stop (numberOf why) (drop (placeOf why) t) ≡ g
+
+-- The reading goes on from c′, and whatever names were seen, to the same end.
+pub record Follows (v t : List ℕ) (k : ℕ) (c : Cursor) (names frames names′ frames′ : List ℕ) (c′ : Cursor) : Type 0 where
+  pub going : Going v t frames′ c′
+  pub further : c .at < c′ .at
+  pub entries : length names′ ≡ length names
+  pub leads : (seen : List Occurrence) → Named names seen → Leads v t names′ frames′ c′ (nodeRun (vocabularyIn v) v t frames seen false k c)
+
+pub record NodeAnswers (v t : List ℕ) (k : ℕ) (c : Cursor) (names frames names′ frames′ : List ℕ) (x : Step) : Type 0 where
+  pub went : (c′ : Cursor) → x ≡ S.Went c′ → Follows v t k c names frames names′ frames′ c′
+  pub fault : (why : TermRefusal) → x ≡ S.Fault why → (seen : List Occurrence) → Named names seen →
+      Refuses t why (nodeRun (vocabularyIn v) v t frames seen false k c)
+
+-- A vocabulary whose tables these are, and under which the cursor is one that a reading comes to.
+pub record Under (v t : List ℕ) (n : ℕ) (offsets results maps frames : List ℕ) (c : Cursor) : Type 0 where
+  pub tables : Tables v n offsets results maps
+  pub bytes : (i : ℕ) → getD v i 0 < 256
+  pub going : Going v t frames c
+
+abbrev pub NodeRead : List ℕ → ℕ → List ℕ → List ℕ → List ℕ → ℕ → Cursor → List ℕ → List ℕ → List ℕ → List ℕ → Step → Type 0
+NodeRead t n offsets results maps k c names frames names′ frames′ x =
+    (v : List ℕ) → Under v t n offsets results maps frames c → k < 256 → NodeAnswers v t k c names frames names′ frames′ x
+
+-- Behind the last byte of a term: what is told of it, and the names seen.
+pub record Ends (t names : List ℕ) (c : Cursor) (g : Got Scanned) : Type 0 where
+  pub seen : List Occurrence
+  pub named : Named names seen
+  pub same : got (record { tally = tallyAt (length t) c; seen = seen }) (drop (c .at) t) ≡ g
+  pub inside : c .at ≤ length t
+  pub gapless : c .at ≤ c .gap → c .gap ≡ length t
+
+abbrev pub Answers : List ℕ → List ℕ → Got Scanned → Reading → Type 0
+Answers t names g (R.Read c) = Ends t names c g
+Answers t names g (R.Fault why) = Refuses t why g
+
+abbrev pub PlacesRead : List ℕ → List ℕ → List ℕ → List ℕ → Cursor → List ℕ → Reading → Type 0
+PlacesRead v t names frames c names′ r =
+    (seen : List Occurrence) → Named names seen → Answers t names′ (restRun (vocabularyIn v) v t frames seen c) r
+
+pub record WholeAt (t : List ℕ) (at : ℕ) (r : Bool) : Type 0 where
+  pub there : r ≡ true → (at < length t) × (getD t at 0 ≡ wholeByte)
+  pub other : r ≡ false → getD (drop at t) 0 0 ≡ wholeByte → ⊥
+
+abbrev pub TermRead : List ℕ → List ℕ → ℕ → ℕ → List ℕ → List ℕ → Reading → Type 0
+TermRead v t from k names names′ r =
+    (seen : List Occurrence) → Named names seen → Answers t names′ (run (vocabularyIn v) (rootDue k ∷ []) seen noTally (drop from t)) r
