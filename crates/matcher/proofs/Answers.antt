@@ -7,13 +7,14 @@ use Rattle.wire.specs.Reply.{Reply, accepted, refused}
 use Rattle.signature.specs.Answers.{vocabularyRefused}
 use Rattle.signature.specs.declared.VocabularyRefusal.{VocabularyRefusal}
 use Rattle.signature.specs.declared.VocabularyRefusal.the-variants as Voc
-use Rattle.reader.specs.Answers.{termRefused, inputsRefused}
+use Rattle.reader.specs.Answers.{termRefused}
 use Rattle.reader.specs.declared.TermRefusal.{TermRefusal}
 use Rattle.reader.specs.declared.TermRefusal.the-variants as T
-use Rattle.reader.specs.declared.InputsRefusal.{InputsRefusal}
-use Rattle.reader.specs.declared.InputsRefusal.the-variants as I
-use Rattle.reader.specs.declared.InputsAnswer.the-variants.{Refused}
-use Rattle.reader.proofs.Answers.{inputs-answers-differ}
+use Rattle.inputs.specs.Answers.{inputsRefused}
+use Rattle.inputs.specs.declared.InputsRefusal.{InputsRefusal}
+use Rattle.inputs.specs.declared.InputsRefusal.the-variants as I
+use Rattle.inputs.specs.declared.InputsAnswer.the-variants.{Refused}
+use Rattle.inputs.proofs.Answers.{inputs-answers-differ}
 use Rattle.matcher.specs.Answers.{MatchAnswersDiffer}
 use Rattle.matcher.specs.declared.MatchAnswer.the-variants.{Yes, No, Inputs, TableLength}
 

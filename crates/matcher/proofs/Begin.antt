@@ -21,7 +21,7 @@ use Rattle.wire.proofs.Words.{length-symbols}
 use Rattle.wire.proofs.Complete.{sorted-ground}
 use Rattle.wire.proofs.GroundBytes.{root-ground}
 use Rattle.wire.proofs.SpanTable.{length-table, table-span}
-use Rattle.reader.specs.Frames.{Framed}
+use Rattle.matcher.specs.Frames.{Framed}
 use Rattle.matcher.specs.Walking.{found, WalkedOver}
 use Rattle.matcher.proofs.Marks.{Marked, marks, marks-one}
 use Rattle.matcher.proofs.Joined.{onward, match-first}

@@ -22,10 +22,10 @@ use Rattle.wire.proofs.Matching.{match-keeps, part-keeps}
 use Rattle.wire.proofs.GroundBytes.{size-least, root-ground}
 use Rattle.wire.proofs.Spans.{coverFrom, SpanHolds, span-covers, span-absent}
 use Rattle.wire.proofs.SpanTable.{length-table, table-span}
-use Rattle.reader.specs.Answers.{inputsRefused}
-use Rattle.reader.specs.declared.InputsRefusal.{InputsRefusal}
-use Rattle.reader.specs.declared.InputsAnswer.the-variants.{Clear, Refused}
-use Rattle.reader.proofs.Answers.{inputs-answers-differ}
+use Rattle.inputs.specs.Answers.{inputsRefused}
+use Rattle.inputs.specs.declared.InputsRefusal.{InputsRefusal}
+use Rattle.inputs.specs.declared.InputsAnswer.the-variants.{Clear, Refused}
+use Rattle.inputs.proofs.Answers.{inputs-answers-differ}
 use Rattle.matcher.specs.Places.{partAt}
 use Rattle.matcher.specs.Walking.{InputsRead, found, Walked}
 

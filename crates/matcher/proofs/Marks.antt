@@ -21,7 +21,7 @@ use Rattle.terms.specs.Signature.{Signature}
 use Rattle.terms.specs.Term.{Terms, nil, cons, SortedAll}
 use Rattle.wire.specs.Map.{flagsIn, flags, bit, number, ones, isOpen, writtenFlags}
 use Rattle.wire.specs.TermBytes.{levels, levelsAll}
-use Rattle.reader.specs.Frames.{writtenIn, placesIn, Framed}
+use Rattle.matcher.specs.Frames.{writtenIn, placesIn, Framed}
 
 pub record Mark : Type 0 where
   pub written : Bool

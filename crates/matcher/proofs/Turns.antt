@@ -20,7 +20,7 @@ use Rattle.wire.specs.TermBytes.{writtenMap}
 use Rattle.wire.specs.Matching.{Inputs, size}
 use Rattle.wire.proofs.Words.{length-symbols}
 use Rattle.wire.proofs.GroundBytes.{joined}
-use Rattle.reader.specs.Frames.{writtenIn, placesIn, Framed}
+use Rattle.matcher.specs.Frames.{writtenIn, placesIn, Framed}
 use Rattle.matcher.specs.Walking.{Standing, ends, Covered, InputsRead, Walked, WalkedOver}
 use Rattle.matcher.proofs.Marks.{Mark, marks, marksOf, marks-none, Shifted, marks-place, marks-gap, marks-last, turnsOf, turns-last, chained}
 use Rattle.matcher.proofs.Side.{Side, Facing, facing, due, stands, situation-inside, turn-open}

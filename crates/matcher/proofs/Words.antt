@@ -19,7 +19,7 @@ use Rattle.wire.specs.Vocabulary.{Vocabulary, signature, mapOf, InOrder}
 use Rattle.wire.specs.TermBytes.{nameCount, writtenMap, encodeAll, asTerms}
 use Rattle.wire.specs.Matching.{size, spanAll}
 use Rattle.wire.proofs.GroundBytes.{node-bytes, known-word, count-arguments, joined, joined-sorted, joined-bytes}
-use Rattle.reader.specs.Frames.{Framed}
+use Rattle.matcher.specs.Frames.{Framed}
 use Rattle.matcher.proofs.Marks.{Mark, marks, chained, marked-chained, marked-word}
 use Rattle.matcher.proofs.Joined.{onward, match-first, match-chained, span-chained, chained-bytes, chained-sorted, chained-names}
 use Rattle.matcher.proofs.Side.{spanAt, Side, due}

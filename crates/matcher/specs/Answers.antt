@@ -6,7 +6,7 @@
 use mathlib.Core.Path.{_≡_}
 use Rattle.wire.specs.Reply.{Reply, refused}
 use Rattle.wire.specs.Matching.{yes, no}
-use Rattle.reader.specs.Answers.{inputsRefused}
+use Rattle.inputs.specs.Answers.{inputsRefused}
 use Rattle.matcher.specs.declared.MatchAnswer.{MatchAnswer}
 use Rattle.matcher.specs.declared.MatchAnswer.the-variants.{Yes, No, Inputs, TableLength}
 

@@ -3,15 +3,15 @@ ghost use mathlib.Core.Path.{_≡_};
 ghost use Prim.Native.Nat.{_+_, _*_, _/_, _<_, _≤_};
 ghost use lib.Count.{ones};
 ghost use lib.ListN.{length, getD, replicate};
-ghost use Rattle.reader.specs.Frames.{placesIn, writtenIn, Framed};
+ghost use Rattle.matcher.specs.Frames.{placesIn, writtenIn, Framed};
 ghost use Rattle.matcher.specs.Walking.{Standing, ends, Covered, InputsRead, Walked};
 ghost use Rattle.wire.specs.Matching.{MatchPromise, PartPromise};
 ghost use Rattle.wire.specs.Effect.{HasEffect};
 ghost use Rattle.wire.specs.MatchComputed.{matched, partSpan};
 ghost use Rattle.matcher.specs.Answers.{matchNumbers};
 ghost use Rattle.matcher.specs.Places.{partAt};
-use reader::InputsAnswer;
-use reader::InputsRefusal;
+use inputs::InputsAnswer;
+use inputs::InputsRefusal;
 
 // Yes or no, or why there is no answer.
 pub enum MatchAnswer {
@@ -208,7 +208,7 @@ pub fn match_pattern(
     ensures { λ r. ⌜ MatchPromise (now (vocabulary .entry)) (now (pattern .entry)) (now (situation .entry)) (now (table .entry)) (now (table .exit)) (matchNumbers r) ⌝ }
     ensures { λ r. ⌜ HasEffect (matched (now (vocabulary .entry)) (now (pattern .entry)) (now (situation .entry)) (now (table .entry))) (matchNumbers r) (now (table .exit)) ⌝ }
 {
-    match reader::judge(vocabulary, pattern, situation) {
+    match inputs::judge(vocabulary, pattern, situation) {
         InputsAnswer::Refused(why) => {
             return MatchAnswer::Inputs(why);
         }
@@ -233,7 +233,7 @@ pub fn part<'a>(vocabulary: &[u8], pattern: &[u8], situation: &'a [u8], name: us
     ensures { λ r. ⌜ situation .entry .ptr .1 ≤ r .ptr .1 ⌝ }
     ensures { λ r. ⌜ partAt (situation .entry .ptr .1) (r .ptr .1) (now r) ≡ partSpan (now (vocabulary .entry)) (now (pattern .entry)) (now (situation .entry)) name ⌝ }
 {
-    match reader::judge(vocabulary, pattern, situation) {
+    match inputs::judge(vocabulary, pattern, situation) {
         InputsAnswer::Refused(_) => {
             return &situation[0..0];
         }

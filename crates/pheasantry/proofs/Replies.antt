@@ -15,13 +15,14 @@ use Rattle.signature.specs.declared.VocabularyRefusal.{VocabularyRefusal}
 use Rattle.signature.specs.declared.VocabularyRefusal.the-variants as W
 use Rattle.signature.specs.declared.VocabularyAnswer.{VocabularyAnswer}
 use Rattle.signature.specs.declared.VocabularyAnswer.the-variants as C
-use Rattle.reader.specs.Answers.{termRefused, termNumbers, inputsRefused}
+use Rattle.reader.specs.Answers.{termRefused, termNumbers}
 use Rattle.reader.specs.declared.TermRefusal.{TermRefusal}
 use Rattle.reader.specs.declared.TermRefusal.the-variants as T
 use Rattle.reader.specs.declared.TermAnswer.{TermAnswer}
 use Rattle.reader.specs.declared.TermAnswer.the-variants as A
-use Rattle.reader.specs.declared.InputsRefusal.{InputsRefusal}
-use Rattle.reader.specs.declared.InputsRefusal.the-variants as I
+use Rattle.inputs.specs.Answers.{inputsRefused}
+use Rattle.inputs.specs.declared.InputsRefusal.{InputsRefusal}
+use Rattle.inputs.specs.declared.InputsRefusal.the-variants as I
 use Rattle.matcher.specs.Answers.{matchNumbers}
 use Rattle.matcher.specs.declared.MatchAnswer.{MatchAnswer}
 use Rattle.matcher.specs.declared.MatchAnswer.the-variants as M

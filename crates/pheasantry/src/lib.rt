@@ -2,7 +2,8 @@
 // 0 where there is none. Refused: number, input and place.
 ghost use mathlib.Core.Path.{_≡_};
 ghost use Rattle.signature.specs.Answers.{vocabularyRefused, vocabularyNumbers};
-ghost use Rattle.reader.specs.Answers.{termRefused, termNumbers, inputsRefused};
+ghost use Rattle.reader.specs.Answers.{termRefused, termNumbers};
+ghost use Rattle.inputs.specs.Answers.{inputsRefused};
 ghost use Rattle.matcher.specs.Answers.{matchNumbers};
 ghost use Rattle.complement.specs.Answers.{listNumbers};
 ghost use Rattle.wire.specs.Effect.{HasEffect};
@@ -11,8 +12,8 @@ ghost use Rattle.wire.specs.MatchComputed.{matched, partSpan};
 ghost use Rattle.wire.specs.ListComputed.{listed};
 ghost use Rattle.pheasantry.specs.Replies.{replyNumbers, replyIn, spanSaid, VocabularyReplied, TermReplied, MatchReplied, PartReplied, ListReplied};
 use complement::ListAnswer;
+use inputs::InputsRefusal;
 use matcher::MatchAnswer;
-use reader::InputsRefusal;
 use reader::TermAnswer;
 use reader::TermRefusal;
 use signature::VocabularyAnswer;

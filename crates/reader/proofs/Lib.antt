@@ -10,3 +10,6 @@ pub mod Cursors
 pub mod Turns
 pub mod Steps
 pub mod Places
+-- A term that is handed to a call, and the vocabulary's check and the terms' together.
+pub mod Told
+pub mod Calls

@@ -3,7 +3,8 @@
 --   gapOr n o          the gap o, or n where there is none
 --   toldOf W n k       what is told of the term k of n bytes: its words, its deepest level, and its first gap, its length
 --                      where it has none
---   told W b           what reading the term b tells, or the number and the place with which it is refused
+--   toldBy W n r       the same of the reading r of a term of n bytes, or the number and the place with which it is refused
+--   told W b           what reading the term b tells
 --   extentValues x     the numbers of an extent
 --   wholeTold r        the same of an answer
 --   pairNumbers r      the reply of reading two terms
@@ -38,7 +39,7 @@ gapOr n (some q) = q
 abbrev pub toldOf : Vocabulary → ℕ → Kinded → List ℕ
 toldOf U n k = wordCount (k .term) ∷ deepest (k .term) ∷ gapOr n (firstGap U (k .term)) ∷ []
 
-abbrev toldBy : Vocabulary → ℕ → Reading Kinded → Reading (List ℕ)
+abbrev pub toldBy : Vocabulary → ℕ → Reading Kinded → Reading (List ℕ)
 toldBy U n (accept k) = accept (toldOf U n k)
 toldBy U n (refuse m q) = refuse m q
 

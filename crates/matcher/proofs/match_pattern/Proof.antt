@@ -6,8 +6,8 @@ use denote.Ref.{now}
 use borrow.Author.Needs.{needs}
 use Rattle.wire.specs.Reply.{accepted}
 use Rattle.wire.specs.MatchComputed.{judged, clearReply}
-use Rattle.reader.specs.Answers.{inputsNumbers}
-use Rattle.reader.specs.declared.InputsAnswer.the-variants.{Clear}
+use Rattle.inputs.specs.Answers.{inputsNumbers}
+use Rattle.inputs.specs.declared.InputsAnswer.the-variants.{Clear}
 use Rattle.wire.proofs.Bytes.{bytes-of}
 use Rattle.matcher.proofs.Calls.{Lent, inputs-read, match-refused, match-length, match-yes, match-no, walked-as, walked-long}
 use Rattle.matcher.proofs.match_pattern.Statement.{statement}

@@ -9,8 +9,8 @@ use lib.Dec.{lit<}
 use borrow.Author.Needs.{scaled-fits, zero≤}
 use Rattle.wire.specs.Reply.{accepted}
 use Rattle.wire.specs.MatchComputed.{judged, clearReply}
-use Rattle.reader.specs.Answers.{inputsNumbers}
-use Rattle.reader.specs.declared.InputsAnswer.the-variants.{Clear}
+use Rattle.inputs.specs.Answers.{inputsNumbers}
+use Rattle.inputs.specs.declared.InputsAnswer.the-variants.{Clear}
 use Rattle.wire.proofs.Bytes.{bytes-of}
 use Rattle.matcher.proofs.Parts.{name-low, even-slot, odd-slot}
 use Rattle.matcher.proofs.Calls.{Lent, inputs-read, part-refused, part-above, part-none, part-inside, part-found, walked-as}

@@ -8,7 +8,7 @@ use denote.Ref.{now}
 use lib.Dec.{lit<}
 use lib.ListN.{getD, set}
 use borrow.Author.Needs.{scaled-fits}
-use Rattle.reader.specs.Frames.{placesIn}
+use Rattle.matcher.specs.Frames.{placesIn}
 use Rattle.matcher.specs.Walking.{InputsRead}
 use borrow.Author.Tests.{not-true, not-false}
 use Rattle.matcher.proofs.Turns.{Walking, walking-begins, walking-ends, turn-leave, top-slot, offset-fits, level-fits, Turn, AtPlace, turn-gap, at-open, at-written, standing, turn-opened, AtWord, AtName, at-word, at-name, pattern-inside, word-pattern, word-situation, pattern-second, situation-second, situation-first, word-room, word-slot, word-differs, turn-worded, name-inside, name-covers, turn-named, turn-unnamed, end-later, end-inside, leftOf, left-leave, left-on, left-word}

@@ -1,7 +1,7 @@
 -- `pheasantry::inputs_refused` meets its contract.
 use mathlib.Core.Path.{sym, ap, _∙_}
 use borrow.Author.Needs.{needs}
-use Rattle.reader.specs.Answers.{inputsRefused}
+use Rattle.inputs.specs.Answers.{inputsRefused}
 use Rattle.pheasantry.specs.Replies.{replyNumbers}
 use Rattle.pheasantry.proofs.inputs_refused.Statement.{statement}
 use Rattle.pheasantry.proofs.inputs_refused.Tie as tie

@@ -1,0 +1,223 @@
+-- Told: what reading a term that is handed to a call tells, by its size, its kind and what its reading ends with.
+--
+--   gapBack n o            a gap by the number of the n bytes from it on, as an offset; n where there is none
+--   toldScan t g           what the scan g of the term t behind its kind byte tells
+--   told-short, told-long, told-kind    what is told where the size or the kind is wrong
+--   Begun                  size and kind are in order
+--   told-fault, told-continues, told-read    what is told where reading the term ends so
+--   refusal-reply          the reply that a refusal gives
+--   told-refused, told-accepted    the reply of checking a term that tells this
+--   first-refused, second-refused, first-read, same-read    the reply of reading two terms that tell this
+--
+use mathlib.Core.Path.{_≡_, refl, sym, ap, ap₂, subst, _∙_}
+use mathlib.Core.Bool.{Bool, true, false, cond}
+use mathlib.Core.List.{List, [], _∷_, _++_, append-nil}
+use mathlib.Core.Option.{Option, some, none}
+use Prim.Native.Nat.{ℕ, suc, _+_, _-_, _<_, _≤_, min}
+use native.Mathlib.Omega.{arith}
+use lib.Dec.{ltb}
+use lib.ListN.{length, getD, drop, replicate, drop-of-length-le}
+use lib.Seq.{drop-cons}
+use borrow.Author.Tests.{lt-ltb, le-ltb, ltb-true, ltb-false}
+use Rattle.terms.specs.Term.{Term}
+use Rattle.terms.proofs.Bools.{or-left, or-right}
+use Rattle.wire.specs.Reply.{Reply, IsBytes, accepted, refused, Kinded, outside}
+use Rattle.wire.specs.Vocabulary.{Vocabulary, InOrder}
+use Rattle.wire.specs.TermBytes.{encodeRoot, wordCount, deepest, mostBytes, mostLevels}
+use Rattle.wire.specs.Parser.{Reading, accept, refuse, Got, got, stop, Read, offset, line15, readTerm, readWhole}
+use Rattle.wire.specs.CheckComputed.{replyOf, checkedTerm, termValues}
+use Rattle.wire.specs.SituationComputed.{firstGap}
+use Rattle.wire.specs.Scan.{Scanned, run, rootDue, noTally, gapHere, leftFrom, tallied}
+use Rattle.wire.proofs.Bytes.{offset-drop}
+use Rattle.wire.proofs.Cond.{cond-true, cond-false}
+use Rattle.wire.proofs.Outside.{inside-outside}
+use Rattle.wire.proofs.ReadWrite.{Reads, term-reads}
+use Rattle.wire.proofs.Scan.{scan-reads}
+use Rattle.wire.proofs.ScanGap.{Near, whole-gap, whole-near}
+use Rattle.signature.specs.Tables.{vocabularyIn}
+use Rattle.reader.specs.Answers.{termRefused}
+use Rattle.reader.specs.Cursors.{gapLeft, tallyAt}
+use Rattle.reader.specs.Nodes.{numberOf, placeOf}
+use Rattle.reader.specs.Terms.{Refuses, Ends, Answers, TermRead}
+use Rattle.reader.specs.Whole.{gapOr, toldBy, told, extentValues, bothTold}
+use Rattle.reader.specs.declared.TermRefusal.{TermRefusal}
+use Rattle.reader.specs.declared.TermRefusal.the-variants as T
+use Rattle.reader.specs.declared.Extent.{Extent}
+use Rattle.reader.specs.declared.cursor.Cursor.{Cursor}
+use Rattle.reader.specs.declared.term.Reading.{Reading as Answer}
+use Rattle.reader.specs.declared.term.Reading.the-variants as R
+use Rattle.reader.proofs.Names.{named-none}
+
+-- ---- a gap
+
+abbrev pub gapBack : ℕ → Option ℕ → ℕ
+gapBack n none = n
+gapBack n (some m) = n - m
+
+back-left : (n : ℕ) (o : Option ℕ) → Near n o → gapBack n (leftFrom n o) ≡ gapOr n o
+back-left n none h = refl
+back-left n (some q) h = omega arith
+
+-- The first gap of a term in n bytes behind its kind byte.
+gap-told : (W : Vocabulary) (t : Term) (n : ℕ) → n ≡ length (encodeRoot W t) → gapBack (suc n) (leftFrom n (gapHere W t)) ≡ gapOr (suc n) (firstGap W t)
+gap-told W t n e =
+    let more : n + 1 ≡ suc n = omega arith in
+    let whole : 1 + length (encodeRoot W t) ≡ suc n = omega arith in
+    ap (gapBack (suc n)) (sym (whole-gap W t n) ∙ ap (λ m. leftFrom m (firstGap W t)) more)
+    ∙ back-left (suc n) (firstGap W t) (subst (λ m. Near m (firstGap W t)) whole (whole-near W t))
+
+-- The gap that a cursor has where all n bytes are read.
+gap-read : (n gap : ℕ) → min gap n ≡ gapBack n (gapLeft n n gap)
+gap-read n gap = go (ltb gap n) refl
+  where
+    go : (b : Bool) → ltb gap n ≡ b → min gap n ≡ gapBack n (cond b (some (n - gap)) none)
+    go true e = let h = ltb-true gap n e in omega arith
+    go false e = let h = ltb-false gap n e in omega arith
+
+-- ---- what a scan tells
+
+abbrev pub toldScan : List ℕ → Got Scanned → Reading (List ℕ)
+toldScan t (stop n r) = refuse n (offset t r)
+toldScan t (got x []) = accept (x .tally .words ∷ x .tally .deepest ∷ gapBack (length t) (x .tally .gap) ∷ [])
+toldScan t (got x (b ∷ r)) = refuse 15 (offset t (b ∷ r))
+
+scan-told : (W : Vocabulary) (s : ℕ) (l : List ℕ) (x : Got Read) → Reads W mostLevels true s [] l x →
+    toldScan (s ∷ l) (tallied W l x) ≡ toldBy W (length (s ∷ l)) (line15 (s ∷ l) s x)
+scan-told W s l (stop n r) h = refl
+scan-told W s l (got a (b ∷ r)) h = refl
+scan-told W s l (got a []) h =
+    let bytes : length l ≡ length (encodeRoot W (a .term)) = ap length (h .bytes ∙ append-nil (encodeRoot W (a .term))) in
+    ap (λ g. accept (wordCount (a .term) ∷ deepest (a .term) ∷ g ∷ [])) (gap-told W (a .term) (length l) bytes)
+
+module _ (t : List ℕ) (at : ℕ) where
+  scan-continues : (x : Scanned) → at < length t → refuse 15 at ≡ toldScan t (got x (drop at t))
+  scan-continues x h =
+      ap (refuse 15) (sym (ap (offset t) (sym (drop-cons t at 0 h)) ∙ offset-drop t (drop at t) at refl (omega arith)))
+      ∙ ap (λ l. toldScan t (got x l)) (sym (drop-cons t at 0 h))
+
+  scan-whole : (x : Scanned) → length t ≤ at →
+      accept (x .tally .words ∷ x .tally .deepest ∷ gapBack (length t) (x .tally .gap) ∷ []) ≡ toldScan t (got x (drop at t))
+  scan-whole x h = ap (λ l. toldScan t (got x l)) (sym (drop-of-length-le t h))
+
+-- ---- the size and the kind
+
+module _ (W : Vocabulary) (t : List ℕ) where
+  size-told : outside 2 mostBytes (length t) ≡ true → refuse 7 0 ≡ told W t
+  size-told e = ap (toldBy W (length t)) (sym (cond-true (outside 2 mostBytes (length t)) (refuse 7 0) (readWhole W mostLevels t) e))
+
+  pub told-short : length t < 2 → refuse 7 0 ≡ told W t
+  told-short h = size-told (or-left (ltb (length t) 2) (ltb mostBytes (length t)) (lt-ltb (length t) 2 h))
+
+  pub told-long : mostBytes < length t → refuse 7 0 ≡ told W t
+  told-long h = size-told (or-right (ltb (length t) 2) (ltb mostBytes (length t)) (lt-ltb mostBytes (length t) h))
+
+  sized : 2 ≤ length t → length t ≤ mostBytes → toldBy W (length t) (readWhole W mostLevels t) ≡ told W t
+  sized long short =
+      ap (toldBy W (length t))
+      (sym (cond-false (outside 2 mostBytes (length t)) (refuse 7 0) (readWhole W mostLevels t) (inside-outside 2 mostBytes (length t) long short)))
+
+kind-refused : (W : Vocabulary) (t : List ℕ) → 2 ≤ length t → W .kinds ≤ getD t 0 0 → refuse 8 0 ≡ toldBy W (length t) (readWhole W mostLevels t)
+kind-refused W [] long h = absurd (omega arith)
+kind-refused W (s ∷ l) long h =
+    ap (toldBy W (length (s ∷ l)))
+    (sym (cond-false (ltb s (W .kinds)) (line15 (s ∷ l) s (readTerm W mostLevels true s [] l)) (refuse 8 0) (le-ltb s (W .kinds) h)))
+
+-- What reading the term behind its kind byte gives.
+abbrev pub rootRun : Vocabulary → List ℕ → Got Scanned
+rootRun W t = run W (rootDue (getD t 0 0) ∷ []) [] noTally (drop 1 t)
+
+kind-known : (W : Vocabulary) (t : List ℕ) → InOrder W → IsBytes t → 2 ≤ length t → getD t 0 0 < W .kinds →
+    toldScan t (rootRun W t) ≡ toldBy W (length t) (readWhole W mostLevels t)
+kind-known W [] inOrder bytes long h = absurd (omega arith)
+kind-known W (s ∷ l) inOrder bytes long h =
+    ap (toldScan (s ∷ l)) (scan-reads W s [] l)
+    ∙ scan-told W s l (readTerm W mostLevels true s [] l) (term-reads W inOrder mostLevels true s [] l (bytes .1))
+    ∙ ap (toldBy W (length (s ∷ l)))
+    (sym (cond-true (ltb s (W .kinds)) (line15 (s ∷ l) s (readTerm W mostLevels true s [] l)) (refuse 8 0) (lt-ltb s (W .kinds) h)))
+
+pub told-kind : (W : Vocabulary) (t : List ℕ) → 2 ≤ length t → length t ≤ mostBytes → W .kinds ≤ getD t 0 0 → refuse 8 0 ≡ told W t
+told-kind W t long short h = kind-refused W t long h ∙ sized W t long short
+
+-- ---- where reading the term ends
+
+-- The size and the kind of t are in order.
+pub record Begun (W : Vocabulary) (t : List ℕ) : Type 0 where
+  pub inOrder : InOrder W
+  pub bytes : IsBytes t
+  pub long : 2 ≤ length t
+  pub short : length t ≤ mostBytes
+  pub known : getD t 0 0 < W .kinds
+
+module _ (v t names : List ℕ) (r : Answer) (x : Begun (vocabularyIn v) t) (reads : TermRead v t 1 (getD t 0 0) (replicate 64 256) names r) where
+  told-run : toldScan t (rootRun (vocabularyIn v) t) ≡ told (vocabularyIn v) t
+  told-run = kind-known (vocabularyIn v) t (x .inOrder) (x .bytes) (x .long) (x .known) ∙ sized (vocabularyIn v) t (x .long) (x .short)
+
+  answer : {y : Answer} → r ≡ y → Answers t names (rootRun (vocabularyIn v) t) y
+  answer e = subst (Answers t names (rootRun (vocabularyIn v) t)) e (reads [] named-none)
+
+  pub told-fault : (why : TermRefusal) → r ≡ R.Fault why → refuse (numberOf why) (placeOf why) ≡ told (vocabularyIn v) t
+  told-fault why e =
+      let h : Refuses t why (rootRun (vocabularyIn v) t) = answer e in
+      ap (refuse (numberOf why)) (sym (offset-drop t (drop (placeOf why) t) (placeOf why) refl (h .inside)))
+      ∙ ap (toldScan t) (h .same)
+      ∙ told-run
+
+  module _ (c : Cursor) (e : r ≡ R.Read c) where
+    ends : Ends t names c (rootRun (vocabularyIn v) t)
+    ends = answer e
+
+    abbrev scanned : Scanned
+    scanned = record { tally = tallyAt (length t) c; seen = ends .seen }
+
+    pub told-continues : c .at < length t → refuse 15 (c .at) ≡ told (vocabularyIn v) t
+    told-continues more = scan-continues t (c .at) scanned more ∙ ap (toldScan t) (ends .same) ∙ told-run
+
+    pub told-read : length t ≤ c .at → {gap : ℕ} → gap ≡ min (c .gap) (c .at) → accept (c .words ∷ c .deepest ∷ gap ∷ []) ≡ told (vocabularyIn v) t
+    told-read all e =
+        let inside = ends .inside in
+        let at : c .at ≡ length t = omega arith in
+        ap (λ g. accept (c .words ∷ c .deepest ∷ g ∷ [])) (e ∙ rw at (gap-read (length t) (c .gap)))
+        ∙ scan-whole t (c .at) scanned all
+        ∙ ap (toldScan t) (ends .same)
+        ∙ told-run
+
+-- ---- replies
+
+pub refusal-reply : (input : ℕ) (why : TermRefusal) → termRefused input why ≡ refused (numberOf why) input (placeOf why)
+refusal-reply input T.Size = refl
+refusal-reply input T.NoSuchKind = refl
+refusal-reply input (T.Ends q) = refl
+refusal-reply input (T.TooDeep q) = refl
+refusal-reply input (T.NoWordOrName q) = refl
+refusal-reply input (T.WrongKind q) = refl
+refusal-reply input (T.Clashes q) = refl
+refusal-reply input (T.StrayBit q) = refl
+refusal-reply input (T.Continues q) = refl
+
+abbrev firstTwo : List ℕ → List ℕ
+firstTwo l = getD l 0 0 ∷ getD l 1 0 ∷ []
+
+module _ (W : Vocabulary) where
+  told-reply : (n : ℕ) (r : Reading Kinded) → replyOf 1 firstTwo (toldBy W n r) ≡ replyOf 1 termValues r
+  told-reply n (accept k) = refl
+  told-reply n (refuse m q) = refl
+
+  module _ (b : List ℕ) where
+    pub told-refused : (why : TermRefusal) → refuse (numberOf why) (placeOf why) ≡ told W b → termRefused 1 why ≡ replyOf 1 termValues (checkedTerm W b)
+    told-refused why e = refusal-reply 1 why ∙ ap (replyOf 1 firstTwo) e ∙ told-reply (length b) (checkedTerm W b)
+
+    pub told-accepted : (x : Extent) → accept (extentValues x) ≡ told W b → accepted (x .words ∷ x .deepest ∷ []) ≡ replyOf 1 termValues (checkedTerm W b)
+    told-accepted x e = ap (replyOf 1 firstTwo) e ∙ told-reply (length b) (checkedTerm W b)
+
+  pub first-refused : (p : List ℕ) (why : TermRefusal) (y : Reading (List ℕ)) → refuse (numberOf why) (placeOf why) ≡ told W p → termRefused 1 why ≡ bothTold (told W p) y
+  first-refused p why y e = refusal-reply 1 why ∙ ap (λ r. bothTold r y) e
+
+  pub second-refused : (s : List ℕ) (why : TermRefusal) (a : List ℕ) → refuse (numberOf why) (placeOf why) ≡ told W s → termRefused 2 why ≡ bothTold (accept a) (told W s)
+  second-refused s why a e = refusal-reply 2 why ∙ ap (bothTold (accept a)) e
+
+  pub first-read : (p s a : List ℕ) {r : Reply} → accept a ≡ told W p → r ≡ bothTold (accept a) (told W s) → r ≡ bothTold (told W p) (told W s)
+  first-read p s a e h = h ∙ ap (λ z. bothTold z (told W s)) e
+
+  -- Two terms that are the same bytes tell the same.
+  pub same-read : (p s a : List ℕ) → p ≡ s → accept a ≡ told W p → accepted (a ++ a) ≡ bothTold (told W p) (told W s)
+  same-read p s a same e = ap₂ bothTold e (e ∙ ap (told W) same)
