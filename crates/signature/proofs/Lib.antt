@@ -4,6 +4,7 @@ pub mod Answers
 pub mod KindBytes
 pub mod RecordBytes
 pub mod Laid
+pub mod WordsUpTo
 pub mod RecordsRead
 pub mod Marking
 pub mod Rounds

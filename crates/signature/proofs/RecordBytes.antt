@@ -4,19 +4,23 @@ use mathlib.Core.List.{List, _∷_}
 use Prim.Native.Nat.{ℕ, suc, _+_, _<_, _≤_}
 use native.Mathlib.Omega.{arith}
 use lib.Count
-use lib.ListN.{length, take, drop, drop-of-length-le}
+use lib.ListN.{length, drop, drop-of-length-le}
 use lib.Seq.{drop-cons}
 use borrow.Author.Count.{below-none}
 use borrow.Author.Tests.{lt-ltb, le-ltb}
+use Rattle.terms.proofs.All.{all-drop}
 use Rattle.wire.specs.Map.{flags, ones}
-use Rattle.wire.specs.Vocabulary.{Word}
+use Rattle.wire.specs.Vocabulary.{Word, WordInOrder, encodeWord}
 use Rattle.wire.specs.Parser.{Got, got, andThen, readKinds, readWord}
 use Rattle.wire.specs.VocabularyLines.{byteAt}
 use Rattle.wire.proofs.Map.{ones-count}
+use Rattle.wire.proofs.Bytes.{bytes-of}
+use Rattle.wire.proofs.Inverse.{ReadOff}
+use Rattle.wire.proofs.WordsInverse.{word-inverse}
 use Rattle.signature.specs.declared.WordRead.{WordRead}
 use Rattle.signature.specs.declared.WordRead.the-variants.{Whole, Ends, NoSuchKind}
-use Rattle.signature.specs.Loading.{KindsRead, RecordRead}
-use Rattle.signature.proofs.KindBytes.{SoundKinds, kinds-sound, kinds-read-whole}
+use Rattle.signature.specs.Loading.{kindsGot, KindsRead, wordGot, RecordRead}
+use Rattle.signature.proofs.KindBytes.{kinds-read-whole}
 
 pub no-ones : (m : ℕ) → m ≡ 0 → Count.ones m ≡ 0
 no-ones m e = rw e (Count.ones-ones 0)
@@ -42,7 +46,7 @@ module _ (v : List ℕ) (at k : ℕ) where
   }
 
   -- Behind a result kind and a map stand the kinds of the places.
-  module _ (long : at + 2 ≤ length v) (result : byteAt v at < k) (small : byteAt v (at + 1) < 256) where
+  module _ (small : (i : ℕ) → byteAt v i < 256) (long : at + 2 ≤ length v) (result : byteAt v at < k) where
     n : ℕ
     n = ones (flags (byteAt v (at + 1)))
 
@@ -53,35 +57,27 @@ module _ (v : List ℕ) (at k : ℕ) where
     unfolding n withKinds
     word-read = rw (first-byte (omega arith), lt-ltb (byteAt v at) k result, byte-cons v (at + 1) (at + 2) (omega arith) (omega arith))
 
+    -- The record is read as its kinds are.
+    reads-as : (r : WordRead) → KindsRead v (at + 2) n k r → andThen (kindsGot v (at + 2) r) withKinds ≡ readWord k (drop at v)
+    reads-as r read = sym (word-read ∙ ap (λ g. andThen g withKinds) (sym (read .reads)))
+
     behind-map : (r : WordRead) → KindsRead v (at + 2) n k r → RecordRead v at k r
     unfolding n withKinds
-    behind-map (Whole m) read = record {
-      reads = sym (word-read ∙ ap (λ g. andThen g withKinds) (sym (read .reads)));
-      inside = (
-        omega (arith, read .inside .0, read .inside .1),
+    behind-map (Whole m) read =
+        let reads : wordGot v at (Whole m) ≡ readWord k (drop at v) = reads-as (Whole m) read in
         record {
-          result = result;
-          placeMap = small;
-          count = sound .0;
-          kinds = sound .1;
-        },
-      );
-    }
-      where
-        sound : SoundKinds k n (got (take m (drop (at + 2) v)) (drop (at + 2 + m) v))
-        sound = subst (SoundKinds k n) (sym (read .reads)) (kinds-sound k n (drop (at + 2) v))
-    behind-map Ends read = record {
-      reads = sym (word-read ∙ ap (λ g. andThen g withKinds) (sym (read .reads)));
-      inside = tt;
-    }
-    behind-map (NoSuchKind q) read = record {
-      reads = sym (word-read ∙ ap (λ g. andThen g withKinds) (sym (read .reads)));
-      inside = read .inside;
-    }
+          reads = reads;
+          inside = (
+            omega (arith, read .inside .0, read .inside .1),
+            subst (ReadOff encodeWord (WordInOrder k) (drop at v)) (sym reads) (word-inverse k .read (drop at v) (all-drop (λ b. b < 256) at v (bytes-of v small))) .0,
+          );
+        }
+    behind-map Ends read = record { reads = reads-as Ends read; inside = tt }
+    behind-map (NoSuchKind q) read = record { reads = reads-as (NoSuchKind q) read; inside = read .inside }
 
     pub record-kinds : (r : WordRead) → KindsRead v (at + 2) (Count.ones (byteAt v (at + 1))) k r → RecordRead v at k r
     unfolding n
-    record-kinds r read = behind-map r (rw (ones-count (byteAt v (at + 1)) small) at read)
+    record-kinds r read = behind-map r (rw (ones-count (byteAt v (at + 1)) (small (at + 1))) at read)
 
     -- A map of no places.
     pub record-bare : byteAt v (at + 1) ≡ 0 → RecordRead v at k (Whole 0)

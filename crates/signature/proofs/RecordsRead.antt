@@ -1,12 +1,11 @@
 -- RecordsRead: the records that are read so far stand in the tables, and what is left to read decides the rest.
 --
---   prepend ws g             g with the words ws before its own
 --   Tabled v n w at          w of n records of v are read, up to the offset `at`, into the tables o, r and m; behind
 --                            their entries the tables are as before
 --
-use mathlib.Core.Path.{_≡_, refl, sym, _∙_, ap}
+use mathlib.Core.Path.{_≡_, refl, sym, _∙_, ap, subst}
 use mathlib.Core.Bool.{Bool, true, false}
-use mathlib.Core.List.{List, [], _∷_, _++_, append-assoc, append-nil, map, map-append}
+use mathlib.Core.List.{List, [], _∷_, _++_, map, map-append}
 use Prim.Native.Nat.{ℕ, suc, _+_, _-_, _*_, _<_, _≤_}
 use native.Mathlib.Numerals.{add-one}
 use native.Mathlib.Decide.{ℕ-discrete}
@@ -17,13 +16,14 @@ use Rattle.terms.specs.Lists.{range}
 use Rattle.terms.proofs.Count.{length-range}
 use Rattle.wire.specs.Map.{flags, ones}
 use Rattle.wire.specs.Vocabulary.{Word, noWord, WordInOrder}
-use Rattle.wire.specs.Parser.{Got, got, stop, andThen, readWord, readWords}
+use Rattle.wire.specs.Parser.{got, stop, readWord, readWords}
 use Rattle.wire.specs.Reply.{refused}
 use Rattle.wire.specs.VocabularyLines.{byteAt, placesOf, recordAt}
 use Rattle.wire.proofs.Map.{length-flagsIn}
+use Rattle.wire.proofs.Row.{row-last, row-stopped}
 use Rattle.wire.proofs.Records.{behind, behind-is, places-at, record-behind}
 use Rattle.signature.specs.Answers.{vocabularyRefused}
-use Rattle.signature.specs.Tables.{wordsUpTo, offsetsOf, resultsOf, mapsOf, Laid}
+use Rattle.signature.specs.Tables.{offsetsOf, resultsOf, mapsOf, Laid}
 use Rattle.signature.specs.declared.VocabularyRefusal.{VocabularyRefusal}
 use Rattle.signature.specs.declared.VocabularyRefusal.the-variants as R
 use Rattle.signature.specs.declared.VocabularyAnswer.the-variants.{Accepted, Refused}
@@ -31,18 +31,7 @@ use Rattle.signature.specs.declared.WordRead.{WordRead}
 use Rattle.signature.specs.declared.WordRead.the-variants.{Whole, Ends, NoSuchKind}
 use Rattle.signature.specs.Loading.{RecordRead, wordAt, recordsIn, checksReply, Entry, Filled, Sized, WordsLoaded}
 use Rattle.signature.proofs.Laid.{laid-more, map-range-more}
-
-abbrev pub prepend : List Word → Got (List Word) → Got (List Word)
-prepend ws (got us r) = got (ws ++ us) r
-prepend ws (stop n r) = stop n r
-
-prepend-none : (g : Got (List Word)) → g ≡ prepend [] g
-prepend-none (got us r) = refl
-prepend-none (stop n r) = refl
-
-prepend-more : (ws : List Word) (x : Word) (g : Got (List Word)) → prepend ws (prepend (x ∷ []) g) ≡ prepend (ws ++ (x ∷ [])) g
-prepend-more ws x (got us r) = ap (λ l. got l r) (sym (append-assoc ws (x ∷ []) us))
-prepend-more ws x (stop n r) = refl
+use Rattle.signature.proofs.WordsUpTo.{UpTo, words-up-to}
 
 -- What is answered of a record, by the answer's case.
 pub record-as : {v : List ℕ} {at k j : ℕ} {r s : WordRead} → RecordRead v at k r → r ≡ s → k ≡ j → RecordRead v at j s
@@ -50,24 +39,6 @@ record-as read e d = rw (e, d) at read
 
 pub whole-inside : {v : List ℕ} {at k : ℕ} {r : WordRead} {p : ℕ} → RecordRead v at k r → r ≡ Whole p → at + 2 + p ≤ length v
 whole-inside read e = record-as read e refl .inside .0
-
--- One record, then the others.
-module _ (k n : ℕ) (l : List ℕ) where
-  words-step : (x : Word) (r : List ℕ) → readWord k l ≡ got x r → readWords k (suc n) l ≡ prepend (x ∷ []) (readWords k n r)
-  words-step x r e = rw e (go (readWords k n r))
-    where
-      go : (g : Got (List Word)) → andThen g (λ ws r′. got (x ∷ ws) r′) ≡ prepend (x ∷ []) g
-      go (got ws r′) = refl
-      go (stop m r′) = refl
-
-  words-stop : (m : ℕ) (r : List ℕ) → readWord k l ≡ stop m r → readWords k (suc n) l ≡ stop m r
-  words-stop m r e = rw e
-
-  up-to-step : (x : Word) (r : List ℕ) → readWord k l ≡ got x r → wordsUpTo k (suc n) l ≡ x ∷ wordsUpTo k n r
-  up-to-step x r e = rw e
-
-  up-to-stop : (m : ℕ) (r : List ℕ) → readWord k l ≡ stop m r → wordsUpTo k (suc n) l ≡ []
-  up-to-stop m r e = rw e
 
 -- The tables o₀, r₀ and m₀ were lent.
 pub record Tabled (v : List ℕ) (n w at : ℕ) (o₀ r₀ m₀ o r m : List ℕ) : Type 0 where
@@ -77,9 +48,8 @@ pub record Tabled (v : List ℕ) (n w at : ℕ) (o₀ r₀ m₀ o r m : List ℕ
   pub near : at ≤ 2 + 10 * w
   pub start : at ≡ recordAt v w
   pub count : length words ≡ w
-  pub left : readWords (byteAt v 0) n (drop 2 v) ≡ prepend words (readWords (byteAt v 0) (n - w) (drop at v))
+  pub read : readWords (byteAt v 0) w (drop 2 v) ≡ got words (drop at v)
   pub entries : (f : ℕ) → f < w → Entry v (getD o f 0) (getD r f 0) (getD m f 0) (getD words f noWord)
-  pub upTo : recordsIn v n ≡ words ++ wordsUpTo (byteAt v 0) (n - w) (drop at v)
   pub holds : Laid v words o₀ r₀ m₀ o r m
   pub sameOffsets : length o ≡ length o₀
   pub sameResults : length r ≡ length r₀
@@ -93,9 +63,8 @@ tabled-none v n o r m h = record {
   near = omega arith;
   start = refl;
   count = refl;
-  left = let e : n - 0 ≡ n = omega arith in rw e (prepend-none (readWords (byteAt v 0) n (drop 2 v)));
+  read = refl;
   entries = λ f b. absurd (omega arith);
-  upTo = let e : n - 0 ≡ n = omega arith in rw e;
   holds = record { offsets = refl; results = refl; maps = refl };
   sameOffsets = refl;
   sameResults = refl;
@@ -142,24 +111,22 @@ module _ (v : List ℕ) (at p : ℕ) (fits : at + 2 + p ≤ length v) (sound : W
   entry-at = record { result = refl; placeMap = refl; inside = rw place-count fits; kinds = rw place-count; sound = sound }
 
 module _ (v : List ℕ) (n w at : ℕ) (o₀ r₀ m₀ o r m : List ℕ) (tabled : Tabled v n w at o₀ r₀ m₀ o r m) where
-  -- The record at `at` is read next.
-  one-more : w < n → n - w ≡ suc (n - (w + 1))
-  one-more b = omega arith
+  -- What is to hold of the words up to the first record that is not in order.
+  up-to : UpTo (byteAt v 0) w (drop 2 v) (got (tabled .words) (drop at v))
+  up-to = subst (UpTo (byteAt v 0) w (drop 2 v)) (tabled .read) (words-up-to (byteAt v 0) w (drop 2 v))
 
-  next-read : w < n → readWords (byteAt v 0) (n - w) (drop at v) ≡ readWords (byteAt v 0) (suc (n - (w + 1))) (drop at v)
-  next-read b = ap (λ (i : ℕ). readWords (byteAt v 0) i (drop at v)) (one-more b)
-
-  next-words : w < n → wordsUpTo (byteAt v 0) (n - w) (drop at v) ≡ wordsUpTo (byteAt v 0) (suc (n - (w + 1))) (drop at v)
-  next-words b = ap (λ (i : ℕ). wordsUpTo (byteAt v 0) i (drop at v)) (one-more b)
-
+  -- The record at `at` is refused.
   module _ (i : ℕ) (rest : List ℕ) (b : w < n) (e : stop i rest ≡ readWord (byteAt v 0) (drop at v)) where
+    one-more : w + suc (n - (w + 1)) ≡ n
+    one-more = omega arith
+
     stopped : readWords (byteAt v 0) n (drop 2 v) ≡ stop i rest
-    stopped = tabled .left ∙ ap (prepend (tabled .words)) (next-read b ∙ words-stop (byteAt v 0) (n - (w + 1)) (drop at v) i rest (sym e))
+    stopped =
+        ap (λ j. readWords (byteAt v 0) j (drop 2 v)) (sym one-more)
+        ∙ row-stopped (λ s. readWord (byteAt v 0)) (λ s x. s) tt w (drop 2 v) (tabled .words) (drop at v) (tabled .read) (n - (w + 1)) i rest (sym e)
 
     stopped-words : recordsIn v n ≡ tabled .words
-    stopped-words =
-        tabled .upTo ∙ ap (λ l. tabled .words ++ l) (next-words b ∙ up-to-stop (byteAt v 0) (n - (w + 1)) (drop at v) i rest (sym e))
-        ∙ append-nil (tabled .words)
+    stopped-words = ap (recordsIn v) (sym one-more) ∙ up-to .1 (n - (w + 1)) i rest (sym e)
 
   laid-as : recordsIn v n ≡ tabled .words → Laid v (recordsIn v n) o₀ r₀ m₀ o r m
   laid-as e = rw e (tabled .holds)
@@ -177,14 +144,14 @@ module _ (v : List ℕ) (n w at : ℕ) (o₀ r₀ m₀ o r m : List ℕ) (tabled
   tabled-unknown q b read = loaded-refused (R.NoSuchKind q) (unknown-reply q b read) (laid-as (stopped-words 4 (drop q v) b (read .reads)))
 
   module _ (h : n ≤ w) where
-    none-left : n - w ≡ 0
-    none-left = omega arith
+    done : w ≡ n
+    done = omega (arith, tabled .passed)
 
     all : readWords (byteAt v 0) n (drop 2 v) ≡ got (tabled .words) (drop at v)
-    all = tabled .left ∙ rw (none-left, append-nil)
+    all = ap (λ j. readWords (byteAt v 0) j (drop 2 v)) (sym done) ∙ tabled .read
 
     all-words : recordsIn v n ≡ tabled .words
-    all-words = tabled .upTo ∙ rw (none-left, append-nil)
+    all-words = ap (recordsIn v) (sym done) ∙ up-to .0
 
     continues-reply : at < length v → vocabularyRefused (R.Continues at) ≡ checksReply v n
     continues-reply b = rw (all, drop-cons v at 0 b) (ap (refused 5 0) (omega (arith, length-drop (suc at) v)))
@@ -193,13 +160,11 @@ module _ (v : List ℕ) (n w at : ℕ) (o₀ r₀ m₀ o r m : List ℕ) (tabled
     tabled-continues b = loaded-refused (R.Continues at) (continues-reply b) (laid-as all-words)
 
     filled : length v ≤ at → Filled v n o r m
-    filled b =
-        let e : n ≡ w = omega (arith, tabled .passed) in
-        record {
-          read = rw all-words (all ∙ rw (drop-of-length-le v b));
-          count = rw all-words (tabled .count ∙ sym e);
-          entries = λ f c. rw all-words (tabled .entries f (omega arith));
-        }
+    filled b = record {
+      read = rw all-words (all ∙ rw (drop-of-length-le v b));
+      count = rw all-words (tabled .count ∙ done);
+      entries = λ f c. rw all-words (tabled .entries f (omega arith));
+    }
 
     pub tabled-filled : length v ≤ at → WordsLoaded v n o₀ r₀ m₀ o r m Accepted
     tabled-filled b = loaded-filled (filled b) (laid-as all-words)
@@ -286,17 +251,10 @@ module _ (v : List ℕ) (n w at : ℕ) (o₀ r₀ m₀ o r m : List ℕ) (tabled
           sym (ap (recordAt v) (add-one w) ∙ record-behind v w ∙ ap (behind v) (sym (tabled .start))
           ∙ behind-is v at p (places-there v at p (read .inside .0) (read .inside .1)));
       count = rw length-append (omega (arith, tabled .count));
-      left =
-          tabled .left
-          ∙ ap (prepend (tabled .words))
-          (next-read b ∙ words-step (byteAt v 0) (n - (w + 1)) (drop at v) (wordAt v at p) (drop (at + 2 + p) v) (sym (read .reads)))
-          ∙ prepend-more (tabled .words) (wordAt v at p) (readWords (byteAt v 0) (n - (w + 1)) (drop (at + 2 + p) v));
+      read =
+          row-last (λ s. readWord (byteAt v 0)) (λ s x. s) tt w (drop 2 v) (tabled .words) (drop at v) (tabled .read)
+          (wordAt v at p) (drop (at + 2 + p) v) (sym (read .reads));
       entries = next-entries;
-      upTo =
-          tabled .upTo
-          ∙ ap (λ l. tabled .words ++ l)
-          (next-words b ∙ up-to-step (byteAt v 0) (n - (w + 1)) (drop at v) (wordAt v at p) (drop (at + 2 + p) v) (sym (read .reads)))
-          ∙ sym (append-assoc (tabled .words) (wordAt v at p ∷ []) (wordsUpTo (byteAt v 0) (n - (w + 1)) (drop (at + 2 + p) v)));
       holds = next-laid;
       sameOffsets = length-set o w at ∙ tabled .sameOffsets;
       sameResults = length-set r w (byteAt v at) ∙ tabled .sameResults;

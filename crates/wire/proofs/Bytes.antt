@@ -1,10 +1,11 @@
 -- Bytes: what some bytes hold at an offset, read off their rest from there.
-use mathlib.Core.Path.{_≡_}
-use mathlib.Core.List.{List, [], _∷_}
+use mathlib.Core.Path.{_≡_, subst}
+use mathlib.Core.List.{List, [], _∷_, _++_}
 use Prim.Native.Nat.{ℕ, zero, suc, _<_, _≤_}
 use native.Mathlib.Omega.{arith}
 use lib.Dec.{lit<}
 use lib.ListN.{length, drop, length-drop}
+use Rattle.terms.proofs.All.{all-right}
 use Rattle.wire.specs.Reply.{IsBytes}
 use Rattle.wire.specs.Parser.{offset}
 use Rattle.wire.specs.VocabularyLines.{byteAt}
@@ -41,3 +42,7 @@ byte-small (x ∷ b) (suc i) h = byte-small b i (h .1)
 pub bytes-of : (l : List ℕ) → ((i : ℕ) → byteAt l i < 256) → IsBytes l
 bytes-of [] h = tt
 bytes-of (b ∷ l) h = (h 0, bytes-of l (λ i. h (suc i)))
+
+-- Bytes that are left behind some bytes.
+pub rest-bytes : (l a r : List ℕ) → l ≡ a ++ r → IsBytes l → IsBytes r
+rest-bytes l a r e h = all-right (λ b. b < 256) a r (subst IsBytes e h)

@@ -9,10 +9,12 @@ pub mod Seen
 pub mod Words
 -- On vocabularies: where their records stand, how they are read and refused.
 pub mod Bytes
-pub mod WordsSteps
+pub mod Inverse
+pub mod Row
+pub mod WordsInverse
 pub mod VocabularyWritten
-pub mod Records
 pub mod Parts
+pub mod Records
 pub mod WordsRead
 pub mod VocabularyRead
 pub mod VocabulariesInverse

@@ -7,12 +7,13 @@ use native.Mathlib.Omega.{arith}
 use Rattle.terms.specs.Lists.{All}
 use Rattle.terms.specs.Signature.{arguments}
 use Rattle.terms.specs.Term.{Term, any, var, app, Terms, Sorted, SortedAll, Occurrence, occurrences, occurrencesAll, Consistent, names, namesAll}
-use Rattle.terms.proofs.All.{all-append, all-right}
+use Rattle.terms.proofs.All.{all-append}
 use Rattle.wire.specs.Reply.{IsBytes}
 use Rattle.wire.specs.Map.{mapBits, writeMap, flags, number, Slot, isOpen}
 use Rattle.wire.specs.Vocabulary.{Vocabulary, InOrder, signature, word, mapOf}
 use Rattle.wire.specs.TermBytes.{nameByte, writtenMap, encodeAt, encodeAll, encodeRoot, levelsAll, deepest, nameCount, wholeByte}
 use Rattle.wire.specs.Parser.{Got, got, stop, andThen, Node, wordHere, nameHere, wholeHere, fault, node, Read, ReadAll, withFirst, readSlots, fromNode, readTerm}
+use Rattle.wire.proofs.Bytes.{rest-bytes}
 use Rattle.wire.proofs.Map.{number-flags, length-flagsIn, read-map-lt, sorts, Marked, sorts-slots, written-marked}
 use Rattle.wire.proofs.Seen.{clash-consistent}
 use Rattle.wire.proofs.Words.{length-symbols, result-word, arguments-word, word-in-order}
@@ -87,10 +88,6 @@ module _ (W : Vocabulary) (left : ℕ) (k : Slot) (ks : List Slot) (seen : List 
     agrees = λ c. g .agrees (h .agrees c);
     deep = let d = h .deep in let d′ = g .deep in omega arith;
   }
-
--- Bytes that are left behind some bytes.
-pub rest-bytes : (l a r : List ℕ) → l ≡ a ++ r → IsBytes l → IsBytes r
-rest-bytes l a r e h = all-right (λ b. b < 256) a r (subst IsBytes e h)
 
 module _ (W : Vocabulary) (left : ℕ) (reader : ℕ → List Occurrence → List ℕ → Got Read)
     (good : (s : ℕ) (seen : List Occurrence) (l : List ℕ) → IsBytes l → Reads W left false s seen l (reader s seen l)) where

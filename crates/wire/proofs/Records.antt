@@ -1,7 +1,7 @@
 -- Records: a vocabulary's records one behind the other, from any offset on, and where their kind bytes stand.
 use mathlib.Core.Path.{_≡_, refl, sym, ap, _∙_}
 use mathlib.Core.List.{List, _∷_}
-use mathlib.Core.Logic.{_⊎_, inl, inr, _≢_}
+use mathlib.Core.Logic.{inl, inr, _≢_}
 use Prim.Native.Nat.{ℕ, zero, suc, _+_, _-_, _<_, _≤_}
 use native.Mathlib.Numerals.{add-one}
 use native.Mathlib.Omega.{arith}
@@ -9,6 +9,7 @@ use native.Mathlib.Decide.{ℕ-discrete}
 use lib.ListN.{drop}
 use Rattle.wire.specs.Map.{mapBytes, flags, ones}
 use Rattle.wire.specs.VocabularyLines.{placesOf, recordAt, wordsOf, KindByte, ofResult, ofPlace}
+use Rattle.wire.proofs.Parts.{behindParts, InParts}
 
 -- The offset behind the record at offset i.
 unfoldable pub behind : List ℕ → ℕ → ℕ
@@ -16,8 +17,7 @@ behind b i = i + 1 + mapBytes + placesOf b i
 
 -- The offset behind n records, of which the first stands at offset i.
 abbrev pub after : List ℕ → ℕ → ℕ → ℕ
-after b zero i = i
-after b (suc n) i = after b n (behind b i)
+after b n i = behindParts (behind b) n i
 
 -- The record at offset i has a kind byte at q: its result kind, or one behind its map.
 pub record KindIn (b : List ℕ) (i q : ℕ) : Type 0 where
@@ -27,8 +27,7 @@ pub record KindIn (b : List ℕ) (i q : ℕ) : Type 0 where
 
 -- One of the n records from offset i on has a kind byte at q.
 abbrev pub KindFrom : List ℕ → ℕ → ℕ → ℕ → Type 0
-KindFrom b zero i q = ⊥
-KindFrom b (suc n) i q = KindIn b i q ⊎ KindFrom b n (behind b i) q
+KindFrom b n i q = InParts (behind b) (KindIn b) n i q
 
 -- The places of the record at offset i, by its map m.
 pub places-at : (b : List ℕ) (i m : ℕ) (l : List ℕ) → drop (suc i) b ≡ m ∷ l → placesOf b i ≡ ones (flags m)
@@ -43,15 +42,6 @@ behind-beyond b i = go (placesOf b i) refl
   where
     go : (p : ℕ) → placesOf b i ≡ p → i + 2 ≤ behind b i
     go p e = rw (behind-is b i p e) (omega arith)
-
-pub after-from : (b : List ℕ) (n i : ℕ) → i ≤ after b n i
-after-from b zero i = omega arith
-after-from b (suc n) i = omega (arith, after-from b n (behind b i), behind-beyond b i)
-
-pub kind-from : (b : List ℕ) (n i q : ℕ) → KindFrom b n i q → i ≤ q
-kind-from b zero i q h = absurd h
-kind-from b (suc n) i q (inl h) = h .from
-kind-from b (suc n) i q (inr h) = omega (arith, kind-from b n (behind b i) q h, behind-beyond b i)
 
 -- One record more, at either end.
 pub after-last : (b : List ℕ) (n i : ℕ) → after b (suc n) i ≡ behind b (after b n i)

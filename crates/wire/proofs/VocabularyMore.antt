@@ -1,5 +1,5 @@
 -- VocabularyMore: a vocabulary of more than 962 bytes is refused, and bytes put behind it change neither number nor place.
-use mathlib.Core.Path.{_≡_, refl, sym, ap, subst, _∙_}
+use mathlib.Core.Path.{_≡_, refl, ap, _∙_}
 use mathlib.Core.Bool.{Bool, true, false, cond}
 use mathlib.Core.List.{List, [], _∷_, _++_}
 use Prim.Native.Nat.{ℕ, zero, suc, _+_, _*_, _/_, _%_, _<_, _≤_}
@@ -7,36 +7,27 @@ use native.Mathlib.Omega.{arith}
 use lib.Dec.{eqb, ltb}
 use lib.ListN.{length, length-append}
 use borrow.Author.Tests.{ltb-true, ltb-false}
-use Rattle.wire.specs.Parser.{Reading, accept, refuse, Got, got, stop, andThen, offset, readKinds, readWord, readWords, lines5and6, readVocabulary}
+use Rattle.wire.specs.Parser.{Reading, accept, refuse, Got, got, stop, andThen, offset, readKind, readKinds, readWord, readWords, lines5and6, readVocabulary}
 use Rattle.wire.specs.Reply.{outside}
 use Rattle.wire.specs.Map.{mapBits, flagsIn, flags, bit, ones}
 use Rattle.wire.specs.Vocabulary.{Word, Vocabulary, mostKinds, mostWords}
 use Rattle.wire.specs.Laws.{mostVocabulary, AcceptedIsShort}
+use Rattle.wire.proofs.Row.{Same, then-same, row-same}
 use Rattle.wire.proofs.VocabulariesInverse.{vocabularies-inverse}
 use Rattle.wire.proofs.Outside.{outside-false}
 
 -- ---- what is read off a front does not depend on the bytes x behind it
 
--- The second reading is the first with x behind the rest, of which at least n bytes are left.
-abbrev Same : {A : Type 0} → ℕ → List ℕ → Got A → Got A → Type 0
-Same n x (got a r) g = (n ≤ length r) × (g ≡ got a (r ++ x))
-Same n x (stop m r) g = g ≡ stop m (r ++ x)
-
-then-same : {A B : Type 0} (n m : ℕ) (x : List ℕ) (k : A → List ℕ → Got B) (g h : Got A) → Same n x g h →
-    ((a : A) (r : List ℕ) → n ≤ length r → Same m x (k a r) (k a (r ++ x))) → Same m x (andThen g k) (andThen h k)
-then-same n m x k (got a r) h (left, e) more = subst (λ z. Same m x (k a r) (andThen z k)) (sym e) (more a r left)
-then-same n m x k (stop i r) h e more = ap (λ z. andThen z k) e
+kind-same : (k j : ℕ) (l x : List ℕ) → 1 + j ≤ length l → Same j x (readKind k l) (readKind k (l ++ x))
+kind-same k j [] x h = absurd (omega arith)
+kind-same k j (b ∷ l) x h = go (ltb b k)
+  where
+    go : (t : Bool) → Same j x (cond t (got b l) (stop 4 (b ∷ l))) (cond t (got b (l ++ x)) (stop 4 (b ∷ (l ++ x))))
+    go true = (omega arith, refl)
+    go false = refl
 
 kinds-same : (k n j : ℕ) (l x : List ℕ) → n + j ≤ length l → Same j x (readKinds k n l) (readKinds k n (l ++ x))
-kinds-same k zero j l x h = (omega arith, refl)
-kinds-same k (suc n) j [] x h = absurd (omega arith)
-kinds-same k (suc n) j (b ∷ l) x h = go (ltb b k) (kinds-same k n j l x (omega arith))
-  where
-    go : (t : Bool) → Same j x (readKinds k n l) (readKinds k n (l ++ x)) →
-        Same j x (cond t (andThen (readKinds k n l) (λ ks r. got (b ∷ ks) r)) (stop 4 (b ∷ l)))
-        (cond t (andThen (readKinds k n (l ++ x)) (λ ks r. got (b ∷ ks) r)) (stop 4 (b ∷ (l ++ x))))
-    go true same = then-same j j x (λ ks r. got (b ∷ ks) r) (readKinds k n l) (readKinds k n (l ++ x)) same (λ ks r left. (left, refl))
-    go false same = refl
+kinds-same k n j l x h = row-same (λ s. readKind k) (λ s a. s) 1 x (λ s j l. kind-same k j l x) tt n j l (omega arith)
 
 ones-few : (d m : ℕ) → ones (flagsIn d m) ≤ d
 ones-few zero m = omega arith
@@ -63,13 +54,7 @@ word-same k j (b ∷ m ∷ l) x h = go (ltb b k) (ones (flags m)) (ones-few mapB
     go false p few = refl
 
 words-same : (k n j : ℕ) (l x : List ℕ) → 10 * n + j ≤ length l → Same j x (readWords k n l) (readWords k n (l ++ x))
-words-same k zero j l x h = (omega arith, refl)
-words-same k (suc n) j l x h =
-    then-same (10 * n + j) j x (λ w r. andThen (readWords k n r) (λ ws r′. got (w ∷ ws) r′)) (readWord k l) (readWord k (l ++ x))
-    (word-same k (10 * n + j) l x (omega arith))
-    (λ w r left.
-    then-same j j x (λ ws r′. got (w ∷ ws) r′) (readWords k n r) (readWords k n (r ++ x)) (words-same k n j r x left)
-    (λ ws r′ left′. (left′, refl)))
+words-same k n j l x h = row-same (λ s. readWord k) (λ s a. s) 10 x (λ s j l. word-same k j l x) tt n j l h
 
 -- ---- vocabularies
 

@@ -9,21 +9,24 @@ use native.Mathlib.Omega.{arith}
 use lib.Dec.{ltb, lit<}
 use lib.ListN.{length, drop}
 use borrow.Author.Tests.{ltb-true, ltb-false}
+use Rattle.terms.specs.Lists.{All}
 use Rattle.terms.specs.Inhabited.{LeastEmpty}
 use Rattle.terms.specs.Emptiness.{firstEmpty, FirstEmptyExact}
 use Rattle.terms.proofs.Theorems.{first-empty-is-exact}
 use Rattle.wire.specs.Parser.{Reading, accept, refuse, Got, got, stop, offset, readWords, line6, lines5and6, readVocabulary}
 use Rattle.wire.specs.Reply.{IsBytes, outside, Outside}
-use Rattle.wire.specs.Vocabulary.{Word, Vocabulary, signature, InOrder, encodeWords, encodeVocabulary, mostKinds, mostWords, GoodVocabulary}
+use Rattle.wire.specs.Vocabulary.{Word, Vocabulary, signature, WordInOrder, InOrder, encodeWords, encodeVocabulary, mostKinds, mostWords, GoodVocabulary}
 use Rattle.wire.specs.Refusals.{Sooner, Decides}
 use Rattle.wire.specs.VocabularyLines.{byteAt, recordAt, wordsOf, VocabularyLine, head, count, ends, kind, more, empty}
 use Rattle.wire.proofs.Bytes.{drop-begins, drop-ends, offset-drop}
 use Rattle.wire.proofs.Outside.{outside-true, outside-false, no-outside}
 use Rattle.wire.proofs.Words.{in-order-well-formed}
+use Rattle.wire.proofs.Inverse.{ReadOff}
+use Rattle.wire.proofs.WordsInverse.{words-inverse}
 use Rattle.wire.proofs.VocabularyWritten.{encode-front}
 use Rattle.wire.proofs.Records.{after, record-after, KindFrom, kind-byte-from, kind-byte}
-use Rattle.wire.proofs.Parts.{Why, Stopped}
-use Rattle.wire.proofs.WordsRead.{WordsRead, words-read}
+use Rattle.wire.proofs.Parts.{Why, Stopped, Came}
+use Rattle.wire.proofs.WordsRead.{words-read}
 
 -- What readVocabulary has to give of the bytes b.
 pub record Accepted (b : List ℕ) (W : Vocabulary) : Type 0 where
@@ -170,14 +173,15 @@ module _ (b : List ℕ) (headed : Headed b) where
       }
 
 -- What is left to judge once lines 1 and 2 do not fit.
-lines5and6-read : (b : List ℕ) → Headed b → (g : Got (List Word)) →
-    WordsRead b (byteAt b 0) (wordsOf b) 2 g → b ≡ byteAt b 0 ∷ wordsOf b ∷ drop 2 b → VocabularyRead b (lines5and6 b (byteAt b 0) g)
-lines5and6-read b headed (stop n r) s whole = stopped-decides b headed n r (rw (record-after b (wordsOf b)) s)
-lines5and6-read b headed (got ws (x ∷ r)) (bytes, number, wordsInOrder, passed) whole =
+lines5and6-read : (b : List ℕ) → Headed b → (g : Got (List Word)) → b ≡ byteAt b 0 ∷ wordsOf b ∷ drop 2 b →
+    ReadOff encodeWords (λ ws. (length ws ≡ wordsOf b) × All (WordInOrder (byteAt b 0)) ws) (drop 2 b) g →
+    Came b (byteAt b 0) (after b (wordsOf b) 2) (KindFrom b (wordsOf b) 2) g → VocabularyRead b (lines5and6 b (byteAt b 0) g)
+lines5and6-read b headed (stop n r) whole off s = stopped-decides b headed n r (rw (record-after b (wordsOf b)) s)
+lines5and6-read b headed (got ws (x ∷ r)) whole off passed =
     more-decides b headed (x ∷ r) (rw (record-after b (wordsOf b)) (passed .rest))
     (rw (record-after b (wordsOf b)) (drop-begins b (after b (wordsOf b) 2) x r (sym (passed .rest)) .inside))
     (passed .clean)
-lines5and6-read b headed (got ws []) (bytes, number, wordsInOrder, passed) whole =
+lines5and6-read b headed (got ws []) whole ((number, wordsInOrder), bytes) passed =
     line6-read b headed (record { kinds = byteAt b 0; words = ws })
     (record {
       someKind = headed .someKind;
@@ -209,4 +213,4 @@ vocabulary-read (k ∷ n ∷ l) bytes = go (outside 1 mostKinds k) refl (outside
         let j = outside-false 1 mostWords n v in
         lines5and6-read b
         (record { long = omega arith; someKind = h .0; fewKinds = h .1; someWord = j .0; fewWords = j .1 })
-        (readWords k n l) (words-read b bytes k n 2 l refl (omega arith)) refl
+        (readWords k n l) refl (words-inverse k n .read l (bytes .1 .1)) (words-read b k n 2 l refl (omega arith))

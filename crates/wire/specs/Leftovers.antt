@@ -9,7 +9,7 @@
 --   ListPromise              what list promises of its reply and the lent slice
 --
 use mathlib.Core.Path.{_≡_}
-use mathlib.Core.List.{List, [], _∷_, _++_, map}
+use mathlib.Core.List.{List, [], _∷_, map}
 use mathlib.Core.Logic.{_↔_}
 use Prim.Native.Nat.{ℕ, _<_, _≤_}
 use lib.ListN.{length, take, drop}
@@ -19,6 +19,7 @@ use Rattle.terms.specs.Substitution.{withVariables}
 use Rattle.terms.specs.Instance.{Represents}
 use Rattle.terms.specs.Listing.{listing, FitsExactlyOne, Needed}
 use Rattle.wire.specs.Reply.{Reply, accepted, refused, Kinded, kinded}
+use Rattle.wire.specs.Row.{writeRow}
 use Rattle.wire.specs.Vocabulary.{Vocabulary, signature, HoldsVocabulary}
 use Rattle.wire.specs.TermBytes.{encodeTerm, GoodTerm, HoldsTerm}
 use Rattle.wire.specs.Refusals.{Decides}
@@ -33,8 +34,7 @@ pub record HoldsPattern (v p : List ℕ) (W : Vocabulary) (s : ℕ) (t : Term) :
 
 -- "Each entry is a whole pattern with its kind byte, written directly behind the one before it."
 abbrev pub entriesBytes : Vocabulary → List Kinded → List ℕ
-entriesBytes W [] = []
-entriesBytes W (k ∷ l) = encodeTerm W (k .kind) (k .term) ++ entriesBytes W l
+entriesBytes W l = writeRow (λ k. encodeTerm W (k .kind) (k .term)) l
 
 abbrev pub entriesOf : Vocabulary → ℕ → Term → List Kinded
 entriesOf W s t = map (kinded s) (listing (signature W) t)

@@ -3,6 +3,7 @@
 -- What has to be believed: the writings ..
 pub mod Reply
 pub mod Map
+pub mod Row
 pub mod Vocabulary
 pub mod TermBytes
 -- .. the refusal list ..

@@ -13,7 +13,7 @@
 use mathlib.Core.Bool.{true, cond}
 use mathlib.Core.List.{List, [], _∷_, _++_}
 use mathlib.Core.Option.{Option, some, none}
-use Prim.Native.Nat.{ℕ, zero, suc}
+use Prim.Native.Nat.{ℕ}
 use lib.Dec.{leb, ltb}
 use lib.ListN.{length, drop}
 use Rattle.terms.specs.Lists.{occurs}
@@ -22,7 +22,7 @@ use Rattle.wire.specs.Vocabulary.{Vocabulary}
 use Rattle.wire.specs.PatternLines.{Sighting, sightings}
 use Rattle.wire.specs.Leftovers.{entriesBytes, entriesOf}
 use Rattle.wire.specs.Effect.{Effect}
-use Rattle.wire.specs.Parser.{Reading, accept, refuse, Got, got, stop, andThen, readTerm, readVocabulary}
+use Rattle.wire.specs.Parser.{Reading, accept, refuse, Got, got, stop, andThen, readAlike, readTerm, readVocabulary}
 use Rattle.wire.specs.CheckComputed.{checkedTerm}
 
 abbrev pub repeatedIn : List ℕ → List Sighting → Option ℕ
@@ -68,6 +68,4 @@ readEntry W (s ∷ l) =
 
 -- n whole patterns, one behind the other.
 abbrev pub readEntries : Vocabulary → ℕ → List ℕ → Got (List Kinded)
-readEntries W zero b = got [] b
-readEntries W (suc n) b =
-    andThen (readEntry W b) (λ k r. andThen (readEntries W n r) (λ ks r′. got (k ∷ ks) r′))
+readEntries W n b = readAlike (readEntry W) n b

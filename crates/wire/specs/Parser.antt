@@ -8,7 +8,10 @@
 --                             or a refusal's number and the bytes from the offending one on
 --   andThen r k               k goes on behind r
 --   offset whole rest         where the bytes rest begin in the bytes whole
---   readKinds k n l           n kind bytes, each below the kind count k
+--   readRow reader next s n l  n things, one behind the other, where what is read may depend on what was read before it
+--   readAlike reader n l      n things, one behind the other, each read alike
+--   readKind k l              a kind byte, below the kind count k
+--   readKinds k n l           n kind bytes
 --   readPlaces k r m          what follows a record's result kind r: its map, which was read as m, and its kinds
 --   readWord k l              a record
 --   readWords k n l           n records
@@ -60,11 +63,21 @@ andThen (stop n r) k = stop n r
 abbrev pub offset : List ℕ → List ℕ → ℕ
 offset whole rest = length whole - length rest
 
+-- Each thing is read under a state: s for the first, and behind a thing the one that `next` gives.
+abbrev pub readRow : {S A : Type 0} → (S → List ℕ → Got A) → (S → A → S) → S → ℕ → List ℕ → Got (List A)
+readRow reader next s zero l = got [] l
+readRow reader next s (suc n) l =
+    andThen (reader s l) (λ a r. andThen (readRow reader next (next s a) n r) (λ rest r′. got (a ∷ rest) r′))
+
+abbrev pub readAlike : {A : Type 0} → (List ℕ → Got A) → ℕ → List ℕ → Got (List A)
+readAlike reader n l = readRow (λ (s : Unit {0}). reader) (λ s a. s) tt n l
+
+abbrev pub readKind : ℕ → List ℕ → Got ℕ
+readKind k [] = stop 3 []
+readKind k (b ∷ l) = cond (ltb b k) (got b l) (stop 4 (b ∷ l))
+
 abbrev pub readKinds : ℕ → ℕ → List ℕ → Got (List ℕ)
-readKinds k zero l = got [] l
-readKinds k (suc n) [] = stop 3 []
-readKinds k (suc n) (b ∷ l) =
-    cond (ltb b k) (andThen (readKinds k n l) (λ ks r. got (b ∷ ks) r)) (stop 4 (b ∷ l))
+readKinds k n l = readAlike (readKind k) n l
 
 abbrev pub readPlaces : ℕ → ℕ → MapRead → Got Word
 readPlaces k r (mapMissing l) = stop 3 l
@@ -76,8 +89,7 @@ readWord k [] = stop 3 []
 readWord k (r ∷ l) = cond (ltb r k) (readPlaces k r (readMap l)) (stop 4 (r ∷ l))
 
 abbrev pub readWords : ℕ → ℕ → List ℕ → Got (List Word)
-readWords k zero l = got [] l
-readWords k (suc n) l = andThen (readWord k l) (λ w r. andThen (readWords k n r) (λ ws r′. got (w ∷ ws) r′))
+readWords k n l = readAlike (readWord k) n l
 
 -- Line 6: a kind without complete situations.
 abbrev pub line6 : Vocabulary → Option ℕ → Reading Vocabulary

@@ -23,6 +23,7 @@ use Rattle.terms.specs.Lists.{All}
 use Rattle.terms.specs.Signature.{Symbol, Signature}
 use Rattle.terms.specs.Inhabited.{Inhabited}
 use Rattle.wire.specs.Map.{mapBits, writeMap, flags, ones}
+use Rattle.wire.specs.Row.{writeRow}
 
 pub record Word : Type 0 where
   pub result : ℕ
@@ -74,8 +75,7 @@ abbrev pub encodeWord : Word → List ℕ
 encodeWord w = w .result ∷ (writeMap (w .placeMap) ++ w .kinds)
 
 abbrev pub encodeWords : List Word → List ℕ
-encodeWords [] = []
-encodeWords (w ∷ ws) = encodeWord w ++ encodeWords ws
+encodeWords ws = writeRow encodeWord ws
 
 -- "Nothing follows the last record."
 abbrev pub encodeVocabulary : Vocabulary → List ℕ

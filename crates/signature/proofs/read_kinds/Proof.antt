@@ -23,7 +23,8 @@ add-if1 c = search needs
 returns : tie.Need-returns Inv-loop μ-loop
 returns c =
     let turn = c .before in
-    kinds-read-ends _ _ _ _ _ (turn .loop-test .taken) (c .if1 .taken) (turn .before .before .pre) (turn .before .loop .inv .2)
+    let inv = turn .before .loop .inv in
+    kinds-read-ends _ _ _ _ _ (turn .loop-test .taken) (c .if1 .taken) (inv .1) (inv .2)
 
 add-if2 : tie.Need-add-if2 Inv-loop μ-loop
 add-if2 c = search needs

@@ -32,7 +32,7 @@ shared-slice-read-map c = search needs
 returns-4 : tie.Need-returns-4
 returns-4 c =
     let known = c .before in
-    record-bare _ _ _ (omega arith) (known .before .before .if2 .left) (known .shared-slice-known3 .given _ .fits) (c .if4 .taken)
+    record-bare _ _ _ (λ i. known .shared-slice-known3 .given i .fits) (omega arith) (known .before .before .if2 .left) (c .if4 .taken)
 
 add-read-kinds : tie.Need-add-read-kinds
 add-read-kinds c = search needs
@@ -49,7 +49,7 @@ read-kinds-requires c κs = search needs
 returns-5 : tie.Need-returns-5
 returns-5 c =
     let known = c .before .before in
-    record-kinds _ _ _ (omega arith) (known .before .before .if2 .left) (known .shared-slice-known3 .given _ .fits) _ (c .read-kinds .ensures)
+    record-kinds _ _ _ (λ i. known .shared-slice-known3 .given i .fits) (omega arith) (known .before .before .if2 .left) _ (c .read-kinds .ensures)
 
 pub read-word-spec : {M : Type 1} → statement M
 read-word-spec =
