@@ -118,8 +118,7 @@ fn told_place(vocabulary: &[u8], sought: &[u8], entries: &[u8]) {
 
 // Lists into the lent slice, and tells the answer and what the line asks of the slice.
 fn asked(key: u8, vocabulary: &[u8], pattern: &[u8], sought: &[u8], out: &mut [u8]) {
-    let mut given = [0u64; 3];
-    pheasantry::pheasantry_list(vocabulary, pattern, out, &mut given);
+    let given = numbers::list_numbers(complement::list(vocabulary, pattern, out));
     say::reply(given[0], given[1], given[2]);
     let n = written(given[0], given[2]);
     if key == b'l' {

@@ -17,8 +17,12 @@ fn answer(line: u64, one: u64, other: u64) {
 
 // Matches with the lent table, and tells the answer and the table.
 fn asked(vocabulary: &[u8], pattern: &[u8], situation: &[u8], table: &mut [u16]) {
-    let mut given = [0u64; 3];
-    pheasantry::pheasantry_match(vocabulary, pattern, situation, table, &mut given);
+    let given = numbers::match_numbers(matcher::match_pattern(
+        vocabulary,
+        pattern,
+        situation,
+        table,
+    ));
     answer(given[0], given[1], given[2]);
     lent::contents(table);
 }

@@ -54,8 +54,7 @@ pub(crate) fn reply(line: u64, one: u64, other: u64) {
 
 // Checks a vocabulary and prints the reply.
 pub(crate) fn vocabulary(vocabulary: &[u8]) {
-    let mut given = [0u64; 3];
-    pheasantry::pheasantry_check_vocabulary(vocabulary, &mut given);
+    let given = numbers::vocabulary_numbers(signature::check_vocabulary(vocabulary));
     if given[0] == 0 {
         text(b"accepted\n");
         return;
@@ -66,8 +65,7 @@ pub(crate) fn vocabulary(vocabulary: &[u8]) {
 
 // Checks a term under a vocabulary and prints the reply.
 pub(crate) fn term(vocabulary: &[u8], term: &[u8]) {
-    let mut given = [0u64; 3];
-    pheasantry::pheasantry_check_term(vocabulary, term, &mut given);
+    let given = numbers::term_numbers(reader::check_term(vocabulary, term));
     reply(given[0], given[1], given[2]);
     text(b"\n");
 }

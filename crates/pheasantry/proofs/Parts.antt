@@ -5,13 +5,15 @@ use mathlib.Core.Logic.{_⊎_, inl, inr}
 use Prim.Native.Nat.{ℕ, _+_, _*_, _<_}
 use native.Mathlib.Omega.{arith}
 use lib.ListN.{getD, replicate, getD-replicate}
+use Rattle.wire.specs.Reply.{accepted}
 use Rattle.wire.specs.TermBytes.{nameCount}
 use Rattle.wire.specs.Matching.{tableLength, Span, noSpan, spanIn, yes, cutOut, PartPromise}
 use Rattle.wire.specs.MatchComputed.{matched, partSpan}
 use Rattle.wire.proofs.Matching.{yes-or-kept, part-keeps}
 use Rattle.wire.proofs.PartTable.{part-is-table}
 use Rattle.matcher.proofs.Calls.{Lent}
-use Rattle.pheasantry.specs.Replies.{spanSaid, PartReplied}
+use Rattle.numbers.specs.Numbers.{replyNumbers, spanSaid}
+use Rattle.pheasantry.specs.Replies.{PartReplied}
 
 -- The table as it is lent to match.
 abbrev pub blank : List ℕ
@@ -27,8 +29,10 @@ module _ {v p s : List ℕ} (lent : Lent v p s) (n : ℕ) where
   abbrev Ensured : List ℕ → Type 0
   Ensured numbers = PartReplied v p s n numbers × (spanSaid numbers ≡ partSpan v p s n)
 
-  replied : (x : Span) → x ≡ partSpan v p s n → Ensured (0 ∷ x .offset ∷ x .bytes ∷ [])
-  replied x e = (
+  -- The numbers of a span say it.
+  replied : {numbers : List ℕ} (x : Span) → numbers ≡ replyNumbers (accepted (x .offset ∷ x .bytes ∷ [])) → x ≡ partSpan v p s n →
+      Ensured numbers
+  replied x said e = subst Ensured (sym said) (
     record {
       form = refl;
       promise =
@@ -38,8 +42,8 @@ module _ {v p s : List ℕ} (lent : Lent v p s) (n : ℕ) where
     e,
   )
 
-  pub part-above : 63 < n → Ensured (0 ∷ 0 ∷ 0 ∷ [])
-  part-above l = replied noSpan (sym (part-is-table v p s blank n refl .1 (inr (omega arith))))
+  pub part-above : {numbers : List ℕ} → 63 < n → numbers ≡ replyNumbers (accepted (0 ∷ 0 ∷ [])) → Ensured numbers
+  part-above l said = replied noSpan said (sym (part-is-table v p s blank n refl .1 (inr (omega arith))))
 
   -- A table that match did not fill is still blank.
   table-part : n < nameCount → spanIn (matched v p s blank .after) n ≡ partSpan v p s n
@@ -50,8 +54,8 @@ module _ {v p s : List ℕ} (lent : Lent v p s) (n : ℕ) where
       go (inl e) = sym (part-is-table v p s blank n refl .0 e low)
       go (inr (e, kept)) = ap (λ t. spanIn t n) kept ∙ blank-span n low ∙ sym (part-is-table v p s blank n refl .1 (inl e))
 
-  pub part-matched : {table : List ℕ} {o l : ℕ} → n < nameCount → table ≡ matched v p s blank .after →
-      o ≡ getD table (2 * n) 0 → l ≡ getD table (2 * n + 1) 0 → Ensured (0 ∷ o ∷ l ∷ [])
-  part-matched {table} {o} {l} low t e h =
-      replied (record { offset = o; bytes = l })
+  pub part-matched : {table numbers : List ℕ} {o l : ℕ} → n < nameCount → table ≡ matched v p s blank .after →
+      o ≡ getD table (2 * n) 0 → l ≡ getD table (2 * n + 1) 0 → numbers ≡ replyNumbers (accepted (o ∷ l ∷ [])) → Ensured numbers
+  part-matched {o = o} {l = l} low t e h said =
+      replied (record { offset = o; bytes = l }) said
       (ap₂ {C = Span} (λ a b. record { offset = a; bytes = b }) e h ∙ ap (λ t. spanIn t n) t ∙ table-part low)

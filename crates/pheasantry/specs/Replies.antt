@@ -1,39 +1,22 @@
--- Replies: the three numbers in which other languages get a reply, and what each exported call promises of them.
+-- Replies: what each exported call promises of the numbers in which it replies.
 --
---   replyNumbers r         the three numbers of a reply
---   replyIn k numbers      the reply that three numbers say, where an accepted one has k values
---   spanSaid numbers       the span that three numbers say
 --   VocabularyReplied      what checking a vocabulary promises
 --   TermReplied            what checking a term promises
 --   MatchReplied           what match promises
 --   PartReplied            what part promises
 --   ListReplied            what list promises
 --
--- In each, `form` says that the numbers are three and are those of the reply that they say, and `promise` is what the call
+-- In each, `form` says that the numbers are those of the reply that they say, and `promise` is what the call
 -- promises of that reply.
 --
 use mathlib.Core.Path.{_≡_}
-use mathlib.Core.Bool.{cond}
 use mathlib.Core.List.{List, [], _∷_}
 use Prim.Native.Nat.{ℕ}
-use lib.Dec.{eqb}
-use lib.ListN.{getD, take, drop}
-use Rattle.wire.specs.Reply.{Reply, accepted, refused}
+use Rattle.wire.specs.Reply.{accepted}
 use Rattle.wire.specs.Checking.{VocabularyPromise, TermPromise}
-use Rattle.wire.specs.Matching.{Span, cutOut, MatchPromise, PartPromise}
+use Rattle.wire.specs.Matching.{cutOut, MatchPromise, PartPromise}
 use Rattle.wire.specs.Leftovers.{ListPromise}
-
--- Accepted: 0 and the values, 0 where there is none. Refused: number, input, place.
-abbrev pub replyNumbers : Reply → List ℕ
-replyNumbers (accepted l) = 0 ∷ getD l 0 0 ∷ getD l 1 0 ∷ []
-replyNumbers (refused n i q) = n ∷ i ∷ q ∷ []
-
--- No line of the refusal list has number 0.
-abbrev pub replyIn : ℕ → List ℕ → Reply
-replyIn k l = cond (eqb (getD l 0 0) 0) (accepted (take k (drop 1 l))) (refused (getD l 0 0) (getD l 1 0) (getD l 2 0))
-
-abbrev pub spanSaid : List ℕ → Span
-spanSaid numbers = record { offset = getD numbers 1 0; bytes = getD numbers 2 0 }
+use Rattle.numbers.specs.Numbers.{replyNumbers, replyIn, spanSaid}
 
 pub record VocabularyReplied (v numbers : List ℕ) : Type 0 where
   pub form : numbers ≡ replyNumbers (replyIn 0 numbers)

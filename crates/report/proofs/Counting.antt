@@ -7,14 +7,15 @@ use lib.Count
 use lib.ListN.{length, getD, drop, drop-of-length-le}
 use lib.Seq.{drop-cons}
 use Rattle.wire.specs.Map.{flags, ones}
+use Rattle.wire.specs.EntryCut.{dueSize, entrySize}
 use Rattle.wire.proofs.Map.{ones-count}
-use Rattle.wire.proofs.EntryCut.{span, span-none, span-name, span-word, entrySize}
+use Rattle.wire.proofs.EntryCut.{due-none, due-name, due-word}
 
 -- So far `at` bytes are passed, and `due` terms are due from there on.
 pub record Counting (l : List ℕ) (at due : ℕ) : Type 0 where
   pub inside : at ≤ length l
   pub few : due ≤ 1 + 8 * at
-  pub left : at + span (drop at l) due ≡ entrySize l
+  pub left : at + dueSize (drop at l) due ≡ entrySize l
 
 pub counting-begins : (l : List ℕ) → 0 < length l → Counting l 1 1
 counting-begins [] h = absurd (omega arith)
@@ -25,10 +26,10 @@ counting-empty [] h = refl
 counting-empty (s ∷ l) h = absurd (omega arith)
 
 pub counting-none : {l : List ℕ} {at due : ℕ} → Counting l at due → due ≡ 0 → at ≡ entrySize l
-counting-none {l} {at} h e = omega (arith, h .left, ap (span (drop at l)) e, span-none (drop at l))
+counting-none {l} {at} h e = omega (arith, h .left, ap (dueSize (drop at l)) e, due-none (drop at l))
 
 pub counting-ends : {l : List ℕ} {at due : ℕ} → Counting l at due → length l ≤ at → at ≡ entrySize l
-counting-ends {l} {at} {due} h e = omega (arith, h .left, ap (λ (r : List ℕ). span r due) (drop-of-length-le l e))
+counting-ends {l} {at} {due} h e = omega (arith, h .left, ap (λ (r : List ℕ). dueSize r due) (drop-of-length-le l e))
 
 module _ {l : List ℕ} {at due : ℕ} (h : Counting l at due) (more : at < length l) (some : 0 < due) where
   abbrev b : ℕ
@@ -37,14 +38,14 @@ module _ {l : List ℕ} {at due : ℕ} (h : Counting l at due) (more : at < leng
   here : drop at l ≡ b ∷ drop (at + 1) l
   here = drop-cons l at 0 more ∙ ap (λ (n : ℕ). b ∷ drop n l) (let e : suc at ≡ at + 1 = omega arith in e)
 
-  begun : span (drop at l) due ≡ span (b ∷ drop (at + 1) l) (suc (due - 1))
-  begun = ap₂ span here (let s = some in let e : due ≡ suc (due - 1) = omega arith in e)
+  begun : dueSize (drop at l) due ≡ dueSize (b ∷ drop (at + 1) l) (suc (due - 1))
+  begun = ap₂ dueSize here (let s = some in let e : due ≡ suc (due - 1) = omega arith in e)
 
   pub counting-name : 128 ≤ b → Counting l (at + 1) (due - 1)
   counting-name low = record {
     inside = let m = more in omega arith;
     few = let f = h .few in omega arith;
-    left = omega (arith, h .left, begun, span-name b (drop (at + 1) l) (due - 1) low);
+    left = omega (arith, h .left, begun, due-name b (drop (at + 1) l) (due - 1) low);
   }
 
   -- The listing ends where the map is due.
@@ -52,18 +53,18 @@ module _ {l : List ℕ} {at due : ℕ} (h : Counting l at due) (more : at < leng
   counting-last end = record {
     inside = let m = more in omega arith;
     few = let f = h .few in omega arith;
-    left = omega (arith, h .left, begun, last, ap (λ (r : List ℕ). span r (due - 1)) (drop-of-length-le l end));
+    left = omega (arith, h .left, begun, last, ap (λ (r : List ℕ). dueSize r (due - 1)) (drop-of-length-le l end));
   }
     where
-      last : span (b ∷ drop (at + 1) l) (suc (due - 1)) ≡ 1
-      last = ap (λ (r : List ℕ). span (b ∷ r) (suc (due - 1))) (drop-of-length-le l end)
+      last : dueSize (b ∷ drop (at + 1) l) (suc (due - 1)) ≡ 1
+      last = ap (λ (r : List ℕ). dueSize (b ∷ r) (suc (due - 1))) (drop-of-length-le l end)
 
   pub counting-word : b < 128 → at + 1 < length l → getD l (at + 1) 0 < 256 →
       Counting l (at + 1 + 1) (due - 1 + Count.ones (getD l (at + 1) 0))
   counting-word low inner byte = record {
     inside = omega arith;
     few = let f = h .few in let s = some in omega (arith, Count.ones-le 8 (getD l (at + 1) 0) byte);
-    left = omega (arith, h .left, begun, word, ap (span (drop (at + 1 + 1) l)) due-then);
+    left = omega (arith, h .left, begun, word, ap (dueSize (drop (at + 1 + 1) l)) due-then);
   }
     where
       m : ℕ
@@ -72,8 +73,8 @@ module _ {l : List ℕ} {at due : ℕ} (h : Counting l at due) (more : at < leng
       due-then : due - 1 + Count.ones m ≡ ones (flags m) + (due - 1)
       due-then = omega (arith, ones-count m byte)
 
-      word : span (b ∷ drop (at + 1) l) (suc (due - 1)) ≡ 2 + span (drop (at + 1 + 1) l) (ones (flags m) + (due - 1))
+      word : dueSize (b ∷ drop (at + 1) l) (suc (due - 1)) ≡ 2 + dueSize (drop (at + 1 + 1) l) (ones (flags m) + (due - 1))
       word =
-          ap (λ (r : List ℕ). span (b ∷ r) (suc (due - 1)))
+          ap (λ (r : List ℕ). dueSize (b ∷ r) (suc (due - 1)))
           (drop-cons l (at + 1) 0 inner ∙ ap (λ (n : ℕ). m ∷ drop n l) (let e : suc (at + 1) ≡ at + 1 + 1 = omega arith in e))
-          ∙ span-word b m (drop (at + 1 + 1) l) (due - 1) low ∙ omega arith
+          ∙ due-word b m (drop (at + 1 + 1) l) (due - 1) low ∙ omega arith

@@ -12,8 +12,9 @@ use lib.ListN.{length, take, drop, length-append, length-drop}
 use lib.Seq.{drop-drop}
 use Rattle.wire.specs.Text.{ascii, newline, decimal, hexadecimal}
 use Rattle.wire.specs.Printing.{entryLines, refusalText, entryLine}
+use Rattle.wire.specs.EntryCut.{entrySize, cutEntries}
 use Rattle.wire.proofs.Text.{decimal-short}
-use Rattle.wire.proofs.EntryCut.{entrySize, entry-within, cut, length-cut}
+use Rattle.wire.proofs.EntryCut.{entry-within, length-cut}
 use Rattle.report.specs.Putting.{Put, cutText}
 use Rattle.report.proofs.Putting.{first-room, rest-room, put-both, second-of-three, third-of-three, put-three, Printing, printing-none, printing-length, printing-next, printing-turn, printing-all}
 use Rattle.report.proofs.Parts.{to-end}
@@ -21,10 +22,10 @@ use Rattle.report.proofs.Parts.{to-end}
 pub line-is : (i : ℕ) (e : List ℕ) → entryLine i e ≡ (decimal i ++ ascii " ") ++ (hexadecimal e ++ newline)
 line-is i e = sym (append-assoc (decimal i) (ascii " ") (hexadecimal e ++ newline))
 
-pub listing-is : (n : ℕ) (l : List ℕ) → cutText n l ≡ ascii "leftovers " ++ ((decimal n ++ newline) ++ entryLines 1 (cut n l))
+pub listing-is : (n : ℕ) (l : List ℕ) → cutText n l ≡ ascii "leftovers " ++ ((decimal n ++ newline) ++ entryLines 1 (cutEntries n l))
 listing-is n l =
-    ap (λ (k : ℕ). ascii "leftovers " ++ (decimal k ++ (newline ++ entryLines 1 (cut n l)))) (length-cut n l)
-    ∙ ap (λ (t : List ℕ). ascii "leftovers " ++ t) (sym (append-assoc (decimal n) (newline) (entryLines 1 (cut n l))))
+    ap (λ (k : ℕ). ascii "leftovers " ++ (decimal k ++ (newline ++ entryLines 1 (cutEntries n l)))) (length-cut n l)
+    ∙ ap (λ (t : List ℕ). ascii "leftovers " ++ t) (sym (append-assoc (decimal n) (newline) (entryLines 1 (cutEntries n l))))
 
 -- ---- the line of a refusal
 
@@ -79,26 +80,26 @@ module _ (n i q : ℕ) (before : List ℕ) (small : (n < 2 ^ 64) × (i < 2 ^ 64)
 pub record Lines (l : List ℕ) (n : ℕ) (before : List ℕ) (start i from at : ℕ) (now : List ℕ) : Type 0 where
   pub below : i ≤ n
   pub inside : from ≤ length l
-  pub printing : Printing (entryLines 1 (cut n l)) (entryLines (suc i) (cut (n - i) (drop from l))) before start at now
+  pub printing : Printing (entryLines 1 (cutEntries n l)) (entryLines (suc i) (cutEntries (n - i) (drop from l))) before start at now
 
 pub lines-none : (l : List ℕ) (n : ℕ) (before : List ℕ) (start : ℕ) → Lines l n before start 0 0 start before
 lines-none l n before start = record {
   below = omega arith;
   inside = omega arith;
   printing =
-      subst (λ (k : ℕ). Printing (entryLines 1 (cut n l)) (entryLines 1 (cut k l)) before start start before)
-      (let e : n ≡ n - 0 = omega arith in e) (printing-none (entryLines 1 (cut n l)) before start);
+      subst (λ (k : ℕ). Printing (entryLines 1 (cutEntries n l)) (entryLines 1 (cutEntries k l)) before start start before)
+      (let e : n ≡ n - 0 = omega arith in e) (printing-none (entryLines 1 (cutEntries n l)) before start);
 }
 
 module _ {l : List ℕ} {n : ℕ} {before : List ℕ} {start i from at : ℕ} {now : List ℕ} (h : Lines l n before start i from at now)
-    (room : start + length (entryLines 1 (cut n l)) ≤ length before) where
+    (room : start + length (entryLines 1 (cutEntries n l)) ≤ length before) where
   pub lines-length : length now ≡ length before
   lines-length = printing-length (h .printing) room
 
-  pub lines-all : n ≤ i → Put (entryLines 1 (cut n l)) before start at now
+  pub lines-all : n ≤ i → Put (entryLines 1 (cutEntries n l)) before start at now
   lines-all e =
       let b = h .below in
-      printing-all (h .printing) room (ap (λ (k : ℕ). entryLines (suc i) (cut k (drop from l))) (let z : n - i ≡ 0 = omega arith in z))
+      printing-all (h .printing) room (ap (λ (k : ℕ). entryLines (suc i) (cutEntries k (drop from l))) (let z : n - i ≡ 0 = omega arith in z))
 
   -- The entry at the front of what is left has r bytes.
   module _ (more : i < n) {r : ℕ} (sized : r ≡ entrySize (take (length l - from) (drop from l))) where
@@ -111,13 +112,13 @@ module _ {l : List ℕ} {n : ℕ} {before : List ℕ} {start i from at : ℕ} {n
     pub entry-inside : from + r ≤ length l
     entry-inside = let k = h .inside in let s = size in omega (arith, entry-within (drop from l), length-drop from l)
 
-    next-line : entryLines (suc i) (cut (n - i) (drop from l))
-        ≡ entryLine (i + 1) entry ++ entryLines (suc (i + 1)) (cut (n - (i + 1)) (drop (from + r) l))
+    next-line : entryLines (suc i) (cutEntries (n - i) (drop from l))
+        ≡ entryLine (i + 1) entry ++ entryLines (suc (i + 1)) (cutEntries (n - (i + 1)) (drop (from + r) l))
     next-line =
-        ap (λ (k : ℕ). entryLines (suc i) (cut k (drop from l))) (let m = more in let e : n - i ≡ suc (n - (i + 1)) = omega arith in e)
-        ∙ ap (λ (k : ℕ). entryLine (suc i) (take k (drop from l)) ++ entryLines (suc (suc i)) (cut (n - (i + 1)) (drop k (drop from l)))) (sym size)
-        ∙ ap (λ (t : List ℕ). entryLine (suc i) (take r (drop from l)) ++ entryLines (suc (suc i)) (cut (n - (i + 1)) t)) (drop-drop r from l)
-        ∙ ap₂ (λ (j k : ℕ). entryLine j (take k (drop from l)) ++ entryLines (suc j) (cut (n - (i + 1)) (drop (from + r) l)))
+        ap (λ (k : ℕ). entryLines (suc i) (cutEntries k (drop from l))) (let m = more in let e : n - i ≡ suc (n - (i + 1)) = omega arith in e)
+        ∙ ap (λ (k : ℕ). entryLine (suc i) (take k (drop from l)) ++ entryLines (suc (suc i)) (cutEntries (n - (i + 1)) (drop k (drop from l)))) (sym size)
+        ∙ ap (λ (t : List ℕ). entryLine (suc i) (take r (drop from l)) ++ entryLines (suc (suc i)) (cutEntries (n - (i + 1)) t)) (drop-drop r from l)
+        ∙ ap₂ (λ (j k : ℕ). entryLine j (take k (drop from l)) ++ entryLines (suc j) (cutEntries (n - (i + 1)) (drop (from + r) l)))
         (let e : suc i ≡ i + 1 = omega arith in e) (let e : r ≡ from + r - from = omega arith in e)
 
     pub line-room : at + length (entryLine (i + 1) entry) ≤ length now

@@ -1,8 +1,15 @@
 -- Putting: texts are put at an offset one behind the other.
 --
---   put-then         a text, and one behind it
---   rest-room, put-both    the same, where both have room
---   Printing         of the whole text the rest is still to be put
+--   put-length                what is lent stays as long as it was
+--   put-then                  a text, and one behind it
+--   first-room, rest-room, put-both    the same, where both have room
+--   first-of-three, second-of-three, third-of-three, put-three    three texts, one behind the other
+--   put-one, put-two          one byte is stored, and two
+--   Printing                  of the whole text the rest is still to be put
+--   printing-none, printing-turn, printing-all       how that begins, goes on and ends
+--   printing-length, printing-next                   what is lent stays as long as it was, and has room for the rest
+--   byte-room, byte-turn      a byte a turn, as it is
+--   digits-room, digits-turn  a byte a turn, in hexadecimal
 --
 use mathlib.Core.Path.{_≡_, refl, sym, ap, ap₂, subst, _∙_}
 use mathlib.Core.List.{List, [], _∷_, _++_, append-nil, append-assoc}

@@ -1,5 +1,13 @@
 -- Reported: the text of list's answer, put together from the bytes in the lent slice, is the text that is printed, and it is
 -- never longer than what is lent for it.
+--
+--   total, lines-length, total-entries, entries-long    how long the lines are
+--   Shown r out text           the text for the reply r, with out in the lent slice, is the given one and has room
+--   listing-shown, pattern-shown, vocabulary-shown, shown    it is for each reply that list computes
+--   answer-put, answer-room    what is put for list's answer is what is printed, and has room
+--   taken-put                  the vocabulary and the pattern are the two parts of the input
+--   prints                     what is put keeps the promise of print
+--
 use mathlib.Core.Path.{_≡_, refl, sym, ap, subst, subst₂, _∙_}
 use mathlib.Core.Bool.{Bool, true, false, cond}
 use mathlib.Core.List.{List, [], _∷_, _++_, map}

@@ -11,14 +11,14 @@ use Prim.Native.Nat.{ℕ, _+_, _≤_}
 use lib.ListN.{length, take, drop}
 use Rattle.wire.specs.Reply.{Reply, accepted, refused}
 use Rattle.wire.specs.Printing.{listingText, refusalText}
-use Rattle.wire.proofs.EntryCut.{cut}
+use Rattle.wire.specs.EntryCut.{cutEntries}
 
 pub record Put (bytes before : List ℕ) (at next : ℕ) (after : List ℕ) : Type 0 where
   pub behind : next ≡ at + length bytes
   pub same : after ≡ take at before ++ (bytes ++ drop next before)
 
 abbrev pub cutText : ℕ → List ℕ → List ℕ
-cutText n l = listingText (cut n l)
+cutText n l = listingText (cutEntries n l)
 
 abbrev pub answerText : Reply → List ℕ → List ℕ
 answerText (refused n i q) l = refusalText n i q

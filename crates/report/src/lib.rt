@@ -6,10 +6,11 @@ ghost use lib.ListN.{length, take};
 ghost use Rattle.wire.specs.Text.{decimal, hexadecimal, digit as Text·digit};
 ghost use Rattle.wire.specs.Printing.{vocabularyLength, vocabularyPart, patternPart, entryLines, refusalText, entryLine};
 ghost use Rattle.wire.specs.PrintComputed.{printedFrom, printed};
-ghost use Rattle.wire.proofs.EntryCut.{cut, entrySize};
-ghost use Rattle.pheasantry.specs.Replies.{replyIn};
+ghost use Rattle.wire.specs.EntryCut.{entrySize, cutEntries};
+ghost use Rattle.complement.specs.Answers.{listNumbers};
 ghost use Rattle.report.specs.Prints.{Prints};
 ghost use Rattle.report.specs.Putting.{Put, cutText, answerText, TextFits};
+use complement::ListAnswer;
 
 fn wide(b: u8) -> usize
     ensures { λ r. ⌜ r ≡ b ⌝ }
@@ -116,8 +117,8 @@ fn entry_size(listing: &[u8]) -> usize
 // Puts a line for each of the n entries that stand at the front of a listing.
 fn put_lines(listing: &[u8], n: u64, text: &mut [u8], at: usize) -> usize
     requires { ⌜ length (now listing) ≤ 65536 ⌝ }
-    requires { ⌜ at + length (entryLines 1 (cut n (now listing))) ≤ length (now text) ⌝ }
-    ensures { λ r. ⌜ Put (entryLines 1 (cut n (now (listing .entry)))) (now (text .entry)) at r (now (text .exit)) ⌝ }
+    requires { ⌜ at + length (entryLines 1 (cutEntries n (now listing))) ≤ length (now text) ⌝ }
+    ensures { λ r. ⌜ Put (entryLines 1 (cutEntries n (now (listing .entry)))) (now (text .entry)) at r (now (text .exit)) ⌝ }
 {
     let mut i = 0;
     let mut from = 0;
@@ -153,18 +154,18 @@ fn put_refusal(line: u64, input: u64, place: u64, text: &mut [u8]) -> usize
     put_number(place, b"\n", text, c)
 }
 
-// Puts the text for a reply of list, with the entries in the lent slice.
-fn put_reply(reply: &[u64; 3], listing: &[u8], text: &mut [u8]) -> usize
+// Puts the text for an answer of list, with the entries in the lent slice.
+fn put_answer(answer: ListAnswer, listing: &[u8], text: &mut [u8]) -> usize
     requires { ⌜ length (now listing) ≤ 65536 ⌝ }
     requires { ⌜ 128 ≤ length (now text) ⌝ }
-    requires { ⌜ length (now reply) ≡ 3 ⌝ }
-    requires { ⌜ TextFits (replyIn 2 (now reply)) (now listing) (length (now text)) ⌝ }
-    ensures { λ r. ⌜ Put (answerText (replyIn 2 (now (reply .entry))) (now (listing .entry))) (now (text .entry)) 0 r (now (text .exit)) ⌝ }
+    requires { ⌜ TextFits (listNumbers answer) (now listing) (length (now text)) ⌝ }
+    ensures { λ r. ⌜ Put (answerText (listNumbers answer) (now (listing .entry))) (now (text .entry)) 0 r (now (text .exit)) ⌝ }
 {
-    if reply[0] == 0 {
-        return put_listing(listing, reply[1], text);
+    let said = numbers::list_numbers(answer);
+    if said[0] == 0 {
+        return put_listing(listing, said[1], text);
     }
-    put_refusal(reply[0], reply[1], reply[2], text)
+    put_refusal(said[0], said[1], said[2], text)
 }
 
 // Puts the text for a vocabulary and a pattern.
@@ -173,9 +174,8 @@ fn print_from(vocabulary: &[u8], pattern: &[u8], text: &mut [u8]) -> usize
     ensures { λ r. ⌜ Put (printedFrom (now (vocabulary .entry)) (now (pattern .entry))) (now (text .entry)) 0 r (now (text .exit)) ⌝ }
 {
     let mut space = [0u8; 65536];
-    let mut reply = [0u64; 3];
-    pheasantry::pheasantry_list(vocabulary, pattern, &mut space, &mut reply);
-    put_reply(&reply, &space, text)
+    let answer = complement::list(vocabulary, pattern, &mut space);
+    put_answer(answer, &space, text)
 }
 
 // The length that the first two bytes give, the high byte first.

@@ -27,6 +27,8 @@ pub mod Scan
 pub mod MatchComputed
 pub mod ListComputed
 pub mod PrintComputed
+-- Where an entry of a listing ends, without the vocabulary:
+pub mod EntryCut
 -- What is proved of all of it, and the starred cases:
 pub mod Laws
 pub mod Starred

@@ -15,8 +15,11 @@ lent c = record {
   situation = bytes-of (c .before .before .before .args .situation .now) (λ i. c .shared-slice-known3 .given i .fits);
 }
 
+accepted-requires : tie.Need-accepted-requires
+accepted-requires c κs = search needs
+
 returns : tie.Need-returns
-returns c = part-above (lent (c .before .before)) (c .before .before .before .before .before .args .name) (c .before .if1 .taken)
+returns c = part-above (lent (c .before .before)) (c .before .before .before .before .before .args .name) (c .before .if1 .taken) (c .accepted .ensures)
 
 slice-aggregate-match-pattern : tie.Need-slice-aggregate-match-pattern
 slice-aggregate-match-pattern c = search needs
@@ -51,15 +54,19 @@ array-read-wide-2 c = search needs
 wide-requires-2 : tie.Need-wide-requires-2
 wide-requires-2 c κs = search needs
 
+accepted-requires-2 : tie.Need-accepted-requires-2
+accepted-requires-2 c κs = search needs
+
 returns-2 : tie.Need-returns-2
 returns-2 c =
     part-matched (lent (c .before .before .before .before .before .before .before)) (c .before .before .before .before .before .before .before .before .before .before .args .name) (let low = c .before .before .before .before .before .before .if1 .left in omega arith)
-    (c .before .before .before .before .match-pattern .ensures .1 .after) (c .before .before .wide .ensures) (c .before .wide2 .ensures)
+    (c .before .before .before .before .match-pattern .ensures .1 .after) (c .before .before .wide .ensures) (c .before .wide2 .ensures) (c .accepted2 .ensures)
 
 pub pheasantry-part-spec : {M : Type 1} → statement M
 pheasantry-part-spec =
     tie.close
     (tie.spec
+    accepted-requires
     returns
     slice-aggregate-match-pattern
     match-pattern-requires
@@ -72,4 +79,5 @@ pheasantry-part-spec =
     mul-wide-4
     array-read-wide-2
     wide-requires-2
+    accepted-requires-2
     returns-2)

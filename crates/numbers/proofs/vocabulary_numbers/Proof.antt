@@ -1,13 +1,16 @@
--- `pheasantry::vocabulary_numbers` meets its contract.
+-- `numbers::vocabulary_numbers` meets its contract.
 use mathlib.Core.Path.{sym, ap, _∙_}
-use borrow.Author.Needs.{needs}
 use Rattle.signature.specs.Answers.{vocabularyNumbers}
-use Rattle.pheasantry.specs.Replies.{replyNumbers}
-use Rattle.pheasantry.proofs.vocabulary_numbers.Statement.{statement}
-use Rattle.pheasantry.proofs.vocabulary_numbers.Tie as tie
+use Rattle.numbers.specs.Numbers.{replyNumbers}
+use borrow.Author.Needs.{needs}
+use Rattle.numbers.proofs.vocabulary_numbers.Statement.{statement}
+use Rattle.numbers.proofs.vocabulary_numbers.Tie as tie
 
 enum-told : tie.Need-enum-told
 enum-told c = search needs
+
+accepted-requires : tie.Need-accepted-requires
+accepted-requires c κs = search needs
 
 enum-known-answer : tie.Need-enum-known-answer
 enum-known-answer c = search needs
@@ -16,11 +19,18 @@ vocabulary-refused-requires : tie.Need-vocabulary-refused-requires
 vocabulary-refused-requires c κs = search needs
 
 returns : tie.Need-returns
-returns c = sym (ap (λ w. replyNumbers (vocabularyNumbers w)) (c .enum-told .given .1))
+returns c = c .accepted .ensures ∙ sym (ap (λ w. replyNumbers (vocabularyNumbers w)) (c .before .enum-told .given .1))
 
 returns-2 : tie.Need-returns-2
 returns-2 c = c .vocabulary-refused .ensures ∙ sym (ap (λ w. replyNumbers (vocabularyNumbers w)) (c .before .before .answer .given .1))
 
 pub vocabulary-numbers-spec : {M : Type 1} → statement M
 vocabulary-numbers-spec =
-    tie.close (tie.spec enum-told enum-known-answer vocabulary-refused-requires returns returns-2)
+    tie.close
+    (tie.spec
+    enum-told
+    accepted-requires
+    enum-known-answer
+    vocabulary-refused-requires
+    returns
+    returns-2)

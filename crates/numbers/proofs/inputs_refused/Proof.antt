@@ -1,10 +1,10 @@
--- `pheasantry::inputs_refused` meets its contract.
+-- `numbers::inputs_refused` meets its contract.
 use mathlib.Core.Path.{sym, ap, _∙_}
-use borrow.Author.Needs.{needs}
 use Rattle.inputs.specs.Answers.{inputsRefused}
-use Rattle.pheasantry.specs.Replies.{replyNumbers}
-use Rattle.pheasantry.proofs.inputs_refused.Statement.{statement}
-use Rattle.pheasantry.proofs.inputs_refused.Tie as tie
+use Rattle.numbers.specs.Numbers.{replyNumbers}
+use borrow.Author.Needs.{needs}
+use Rattle.numbers.proofs.inputs_refused.Statement.{statement}
+use Rattle.numbers.proofs.inputs_refused.Tie as tie
 
 enum-known-why : tie.Need-enum-known-why
 enum-known-why c = search needs
@@ -27,8 +27,14 @@ term-refused-requires-2 c κs = search needs
 enum-known-why-4 : tie.Need-enum-known-why-4
 enum-known-why-4 c = search needs
 
+refused-requires : tie.Need-refused-requires
+refused-requires c κs = search needs
+
 enum-told : tie.Need-enum-told
 enum-told c = search needs
+
+refused-requires-2 : tie.Need-refused-requires-2
+refused-requires-2 c κs = search needs
 
 returns : tie.Need-returns
 returns c = c .vocabulary-refused .ensures ∙ sym (ap (λ w. replyNumbers (inputsRefused w)) (c .before .before .why .given .1))
@@ -40,10 +46,10 @@ returns-3 : tie.Need-returns-3
 returns-3 c = c .term-refused2 .ensures ∙ sym (ap (λ w. replyNumbers (inputsRefused w)) (c .before .before .why3 .given .1))
 
 returns-4 : tie.Need-returns-4
-returns-4 c = sym (ap (λ w. replyNumbers (inputsRefused w)) (c .before .why4 .given .1))
+returns-4 c = c .refused .ensures ∙ sym (ap (λ w. replyNumbers (inputsRefused w)) (c .before .before .why4 .given .1))
 
 returns-5 : tie.Need-returns-5
-returns-5 c = sym (ap (λ w. replyNumbers (inputsRefused w)) (c .enum-told .given .1))
+returns-5 c = c .refused2 .ensures ∙ sym (ap (λ w. replyNumbers (inputsRefused w)) (c .before .enum-told .given .1))
 
 pub inputs-refused-spec : {M : Type 1} → statement M
 inputs-refused-spec =
@@ -56,7 +62,9 @@ inputs-refused-spec =
     enum-known-why-3
     term-refused-requires-2
     enum-known-why-4
+    refused-requires
     enum-told
+    refused-requires-2
     returns
     returns-2
     returns-3

@@ -1,0 +1,109 @@
+-- Said: the numbers of an answer say which reply it is.
+--
+--   vocabulary-said, term-said, match-said, list-said    the reply read back from the numbers of an answer
+--   accepted-said, refused-said                          which one with two values it is, by the first number
+--
+use mathlib.Core.Path.{_≡_, refl, sym, ap, subst, _∙_}
+use mathlib.Core.Bool.{Bool, true, false, cond}
+use mathlib.Core.List.{List, [], _∷_}
+use Prim.Native.Nat.{ℕ}
+use lib.Dec.{eqb}
+use lib.ListN.{getD, take, drop}
+use borrow.Author.Tests.{eq-eqb, ne-eqb}
+use Rattle.wire.specs.Reply.{Reply, accepted, refused}
+use Rattle.signature.specs.Answers.{vocabularyRefused, vocabularyNumbers}
+use Rattle.signature.specs.declared.VocabularyRefusal.{VocabularyRefusal}
+use Rattle.signature.specs.declared.VocabularyRefusal.the-variants as W
+use Rattle.signature.specs.declared.VocabularyAnswer.{VocabularyAnswer}
+use Rattle.signature.specs.declared.VocabularyAnswer.the-variants as C
+use Rattle.reader.specs.Answers.{termRefused, termNumbers}
+use Rattle.reader.specs.declared.TermRefusal.{TermRefusal}
+use Rattle.reader.specs.declared.TermRefusal.the-variants as T
+use Rattle.reader.specs.declared.TermAnswer.{TermAnswer}
+use Rattle.reader.specs.declared.TermAnswer.the-variants as A
+use Rattle.inputs.specs.Answers.{inputsRefused}
+use Rattle.inputs.specs.declared.InputsRefusal.{InputsRefusal}
+use Rattle.inputs.specs.declared.InputsRefusal.the-variants as I
+use Rattle.matcher.specs.Answers.{matchNumbers}
+use Rattle.matcher.specs.declared.MatchAnswer.{MatchAnswer}
+use Rattle.matcher.specs.declared.MatchAnswer.the-variants as M
+use Rattle.complement.specs.Answers.{listNumbers}
+use Rattle.complement.specs.declared.ListAnswer.{ListAnswer}
+use Rattle.complement.specs.declared.ListAnswer.the-variants as L
+use Rattle.numbers.specs.Numbers.{replyNumbers, replyIn}
+
+-- ---- refusals
+
+module _ (k : ℕ) where
+  vocabulary-refused-said : (why : VocabularyRefusal) → replyIn k (replyNumbers (vocabularyRefused why)) ≡ vocabularyRefused why
+  vocabulary-refused-said W.Head = refl
+  vocabulary-refused-said W.WordCount = refl
+  vocabulary-refused-said (W.Ends q) = refl
+  vocabulary-refused-said (W.NoSuchKind q) = refl
+  vocabulary-refused-said (W.Continues q) = refl
+  vocabulary-refused-said (W.EmptyKind q) = refl
+
+  term-refused-said : (i : ℕ) (why : TermRefusal) → replyIn k (replyNumbers (termRefused i why)) ≡ termRefused i why
+  term-refused-said i T.Size = refl
+  term-refused-said i T.NoSuchKind = refl
+  term-refused-said i (T.Ends q) = refl
+  term-refused-said i (T.TooDeep q) = refl
+  term-refused-said i (T.NoWordOrName q) = refl
+  term-refused-said i (T.WrongKind q) = refl
+  term-refused-said i (T.Clashes q) = refl
+  term-refused-said i (T.StrayBit q) = refl
+  term-refused-said i (T.Continues q) = refl
+
+  inputs-refused-said : (why : InputsRefusal) → replyIn k (replyNumbers (inputsRefused why)) ≡ inputsRefused why
+  inputs-refused-said (I.Vocabulary why) = vocabulary-refused-said why
+  inputs-refused-said (I.Pattern why) = term-refused-said 1 why
+  inputs-refused-said (I.Situation why) = term-refused-said 2 why
+  inputs-refused-said (I.Incomplete q) = refl
+  inputs-refused-said I.KindsDiffer = refl
+
+-- ---- answers
+
+pub vocabulary-said : (a : VocabularyAnswer) → replyIn 0 (replyNumbers (vocabularyNumbers a)) ≡ vocabularyNumbers a
+vocabulary-said C.Accepted = refl
+vocabulary-said (C.Refused why) = vocabulary-refused-said 0 why
+
+pub term-said : (a : TermAnswer) → replyIn 2 (replyNumbers (termNumbers a)) ≡ termNumbers a
+term-said (A.Accepted n d) = refl
+term-said (A.Vocabulary why) = vocabulary-refused-said 2 why
+term-said (A.Term why) = term-refused-said 2 1 why
+
+pub match-said : (a : MatchAnswer) → replyIn 1 (replyNumbers (matchNumbers a)) ≡ matchNumbers a
+match-said M.Yes = refl
+match-said M.No = refl
+match-said (M.Inputs why) = inputs-refused-said 1 why
+match-said M.TableLength = refl
+
+pub list-said : (a : ListAnswer) → replyIn 2 (replyNumbers (listNumbers a)) ≡ listNumbers a
+list-said (L.Listed n m) = refl
+list-said (L.Vocabulary why) = vocabulary-refused-said 2 why
+list-said (L.Pattern why) = term-refused-said 2 1 why
+list-said (L.Repeated q) = refl
+list-said (L.NoRoom m) = refl
+
+-- ---- by the first number
+
+module _ {numbers : List ℕ} (r : Reply) (e : numbers ≡ replyNumbers r) (said : replyIn 2 (replyNumbers r) ≡ r) where
+  -- The reply of such numbers, where b tells whether the first of them is 0.
+  abbrev told : List ℕ → Bool → Reply
+  told l b = cond b (accepted (take 2 (drop 1 l))) (refused (getD l 0 0) (getD l 1 0) (getD l 2 0))
+
+  by-first : (b : Bool) → eqb (getD numbers 0 0) 0 ≡ b → r ≡ told numbers b
+  by-first b h = sym said ∙ ap (replyIn 2) (sym e) ∙ ap (told numbers) h
+
+  values : take 2 (drop 1 numbers) ≡ getD numbers 1 0 ∷ getD numbers 2 0 ∷ []
+  values = subst (λ l. take 2 (drop 1 l) ≡ getD l 1 0 ∷ getD l 2 0 ∷ []) (sym e) (go r)
+    where
+      go : (r : Reply) → take 2 (drop 1 (replyNumbers r)) ≡ getD (replyNumbers r) 1 0 ∷ getD (replyNumbers r) 2 0 ∷ []
+      go (accepted l) = refl
+      go (refused n i q) = refl
+
+  pub accepted-said : getD numbers 0 0 ≡ 0 → r ≡ accepted (getD numbers 1 0 ∷ getD numbers 2 0 ∷ [])
+  accepted-said zero = by-first true (eq-eqb (getD numbers 0 0) 0 zero) ∙ ap accepted values
+
+  pub refused-said : (getD numbers 0 0 ≡ 0 → ⊥) → r ≡ refused (getD numbers 0 0) (getD numbers 1 0) (getD numbers 2 0)
+  refused-said some = by-first false (ne-eqb (getD numbers 0 0) 0 some)

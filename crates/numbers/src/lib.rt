@@ -1,0 +1,125 @@
+// The numbers of document 01's replies. Accepted: 0 and the values, 0 where there is none. Refused: number, input
+// and place.
+ghost use mathlib.Core.Path.{_≡_};
+ghost use mathlib.Core.List.{[], _∷_};
+ghost use Rattle.wire.specs.Reply.{accepted as Reply·accepted, refused as Reply·refused};
+ghost use Rattle.signature.specs.Answers.{vocabularyRefused, vocabularyNumbers};
+ghost use Rattle.reader.specs.Answers.{termRefused, termNumbers};
+ghost use Rattle.inputs.specs.Answers.{inputsRefused};
+ghost use Rattle.matcher.specs.Answers.{matchNumbers};
+ghost use Rattle.complement.specs.Answers.{listNumbers};
+ghost use Rattle.numbers.specs.Numbers.{replyNumbers};
+use complement::ListAnswer;
+use inputs::InputsRefusal;
+use matcher::MatchAnswer;
+use reader::TermAnswer;
+use reader::TermRefusal;
+use signature::VocabularyAnswer;
+use signature::VocabularyRefusal;
+
+// How many they are stands here, in `accepted` and `refused`, and in `replyNumbers`.
+pub type Numbers = [u64; 3];
+
+// The numbers of a reply that accepts, with its values.
+pub fn accepted(one: u64, other: u64) -> Numbers
+    ensures { λ r. ⌜ r ≡ replyNumbers (Reply·accepted (one ∷ other ∷ [])) ⌝ }
+{
+    [0, one, other]
+}
+
+// The numbers of a reply that refuses.
+fn refused(number: u64, input: u64, place: u64) -> Numbers
+    ensures { λ r. ⌜ r ≡ replyNumbers (Reply·refused number input place) ⌝ }
+{
+    [number, input, place]
+}
+
+// Lines 1 to 6.
+fn vocabulary_refused(why: VocabularyRefusal) -> Numbers
+    ensures { λ r. ⌜ r ≡ replyNumbers (vocabularyRefused why) ⌝ }
+{
+    match why {
+        VocabularyRefusal::Head => refused(1, 0, 0),
+        VocabularyRefusal::WordCount => refused(2, 0, 1),
+        VocabularyRefusal::Ends(q) => refused(3, 0, q as u64),
+        VocabularyRefusal::NoSuchKind(q) => refused(4, 0, q as u64),
+        VocabularyRefusal::Continues(q) => refused(5, 0, q as u64),
+        VocabularyRefusal::EmptyKind(k) => refused(6, 0, k as u64),
+    }
+}
+
+// Lines 7 to 15, of the given input.
+fn term_refused(input: u64, why: TermRefusal) -> Numbers
+    ensures { λ r. ⌜ r ≡ replyNumbers (termRefused input why) ⌝ }
+{
+    match why {
+        TermRefusal::Size => refused(7, input, 0),
+        TermRefusal::NoSuchKind => refused(8, input, 0),
+        TermRefusal::Ends(q) => refused(9, input, q as u64),
+        TermRefusal::TooDeep(q) => refused(10, input, q as u64),
+        TermRefusal::NoWordOrName(q) => refused(11, input, q as u64),
+        TermRefusal::WrongKind(q) => refused(12, input, q as u64),
+        TermRefusal::Clashes(q) => refused(13, input, q as u64),
+        TermRefusal::StrayBit(q) => refused(14, input, q as u64),
+        TermRefusal::Continues(q) => refused(15, input, q as u64),
+    }
+}
+
+// Lines 1 to 17.
+fn inputs_refused(why: InputsRefusal) -> Numbers
+    ensures { λ r. ⌜ r ≡ replyNumbers (inputsRefused why) ⌝ }
+{
+    match why {
+        InputsRefusal::Vocabulary(why) => vocabulary_refused(why),
+        InputsRefusal::Pattern(why) => term_refused(1, why),
+        InputsRefusal::Situation(why) => term_refused(2, why),
+        InputsRefusal::Incomplete(q) => refused(16, 2, q as u64),
+        InputsRefusal::KindsDiffer => refused(17, 2, 0),
+    }
+}
+
+// No values.
+pub fn vocabulary_numbers(answer: VocabularyAnswer) -> Numbers
+    ensures { λ r. ⌜ r ≡ replyNumbers (vocabularyNumbers answer) ⌝ }
+{
+    match answer {
+        VocabularyAnswer::Accepted => accepted(0, 0),
+        VocabularyAnswer::Refused(why) => vocabulary_refused(why),
+    }
+}
+
+// The values are the number of words and the deepest level.
+pub fn term_numbers(answer: TermAnswer) -> Numbers
+    ensures { λ r. ⌜ r ≡ replyNumbers (termNumbers answer) ⌝ }
+{
+    match answer {
+        TermAnswer::Accepted(words, deepest) => accepted(words as u64, deepest as u64),
+        TermAnswer::Vocabulary(why) => vocabulary_refused(why),
+        TermAnswer::Term(why) => term_refused(1, why),
+    }
+}
+
+// The value is 1 for yes and 0 for no.
+pub fn match_numbers(answer: MatchAnswer) -> Numbers
+    ensures { λ r. ⌜ r ≡ replyNumbers (matchNumbers answer) ⌝ }
+{
+    match answer {
+        MatchAnswer::Yes => accepted(1, 0),
+        MatchAnswer::No => accepted(0, 0),
+        MatchAnswer::Inputs(why) => inputs_refused(why),
+        MatchAnswer::TableLength => refused(19, 3, 0),
+    }
+}
+
+// The values are the number of entries and of bytes.
+pub fn list_numbers(answer: ListAnswer) -> Numbers
+    ensures { λ r. ⌜ r ≡ replyNumbers (listNumbers answer) ⌝ }
+{
+    match answer {
+        ListAnswer::Listed(entries, bytes) => accepted(entries as u64, bytes as u64),
+        ListAnswer::Vocabulary(why) => vocabulary_refused(why),
+        ListAnswer::Pattern(why) => term_refused(1, why),
+        ListAnswer::Repeated(q) => refused(18, 1, q as u64),
+        ListAnswer::NoRoom(bytes) => refused(20, 3, bytes as u64),
+    }
+}
