@@ -1,11 +1,11 @@
 -- Places: how the loop over the nodes of a term goes on, and the root.
 --
---   Onward                    what holds at each turn: the reading from there on gives what it gave from the beginning on
---   onward-none, onward-passed, onward-node    the beginning, full words that are passed, and a node that is read
---   NodeTurn, node-turn, node-under    a turn at a node that is due at the first place of the cursor's frame
---   onward-ends, onward-refused    the end
+--   AtNode, Onward            what holds before a node and behind it: the reading from there on gives what it gave at first
+--   node-first, node-under, node-follows, node-refused    before a node
+--   onward-passed, onward-ends, onward-node               behind it
+--   node-less                 the measure
 --   whole-ends, whole-tested  whether 255 stands at an offset
---   root-begins, root-whole, root-under, root-refused, root-read    a term from its first byte on
+--   root-begins, root-whole, root-at, root-read    a term from its first byte on
 --
 use mathlib.Core.Path.{_≡_, refl, sym, ap, ap₂, subst, _∙_}
 use mathlib.Core.Bool.{true, false, false≢true}
@@ -29,7 +29,7 @@ use Rattle.signature.specs.Tables.{Tables, vocabularyIn}
 use Rattle.reader.specs.Frames.{runIn, kindsIn, FrameIn}
 use Rattle.reader.specs.Names.{Named}
 use Rattle.reader.specs.Cursors.{started, pastLeaf, atFrame, gapLeft, tallyAt, openDue, restRun, Going}
-use Rattle.reader.specs.Terms.{Passed, nodeDue, nodeRun, Leads, Refuses, Follows, Under, Ends, Answers, PlacesRead, WholeAt}
+use Rattle.reader.specs.Terms.{Passed, nodeDue, nodeRun, Leads, Refuses, Follows, Under, Ends, Answers, NodesRead, WholeAt}
 use Rattle.reader.specs.declared.TermRefusal.{TermRefusal}
 use Rattle.reader.specs.declared.cursor.Cursor.{Cursor}
 use Rattle.reader.specs.declared.term.Reading.{Reading}
@@ -39,19 +39,53 @@ use Rattle.reader.proofs.Levels.{first-reaches}
 use Rattle.reader.proofs.Nodes.{node-root, node-whole}
 use Rattle.reader.proofs.Cursors.{gap-new, going-onto, run-place}
 
-pub record Onward (v t names₀ frames₀ : List ℕ) (c₀ : Cursor) (names frames : List ℕ) (c : Cursor) : Type 0 where
+-- What the whole reading gives, by the names seen before it.
+abbrev Whole : Type 0
+Whole = List Occurrence → Got Scanned
+
+-- What is due from the cursor on leads there.
+pub record Onward (v t names₀ : List ℕ) (whole : Whole) (names frames : List ℕ) (c : Cursor) : Type 0 where
   pub going : Going v t frames c
   pub entries : length names ≡ 64
-  pub leads : (seen : List Occurrence) → Named names₀ seen → Leads v t names frames c (restRun (vocabularyIn v) v t frames₀ seen c₀)
+  pub leads : (seen : List Occurrence) → Named names₀ seen → Leads v t names frames c (whole seen)
 
-pub onward-none : {v t names frames : List ℕ} {c : Cursor} → length names ≡ 64 → Going v t frames c → Onward v t names frames c names frames c
-onward-none size g = record { going = g; entries = size; leads = λ seen named. record { seen = seen; named = named; same = refl } }
+-- The node of kind k that is due at the cursor, and what is due behind it, lead there.
+pub record AtNode (v t names₀ : List ℕ) (whole : Whole) (names frames : List ℕ) (c : Cursor) (k : ℕ) : Type 0 where
+  pub going : Going v t frames c
+  pub entries : length names ≡ 64
+  pub small : k < 256
+  pub seen : (before : List Occurrence) → Named names₀ before → List Occurrence
+  pub named : (before : List Occurrence) (n : Named names₀ before) → Named names (seen before n)
+  pub same : (before : List Occurrence) (n : Named names₀ before) → nodeRun (vocabularyIn v) v t frames (seen before n) false k c ≡ whole before
 
-module _ {v t names₀ frames₀ : List ℕ} {c₀ : Cursor} {names frames : List ℕ} {c : Cursor} (x : Onward v t names₀ frames₀ c₀ names frames c) where
+pub node-first : {v t names frames : List ℕ} {c : Cursor} (k : ℕ) → k < 256 → length names ≡ 64 → Going v t frames c →
+    AtNode v t names (λ seen. nodeRun (vocabularyIn v) v t frames seen false k c) names frames c k
+node-first k small size g = record { going = g; entries = size; small = small; seen = λ before n. before; named = λ before n. n; same = λ before n. refl }
+
+module _ {v t names₀ : List ℕ} {whole : Whole} {names frames : List ℕ} {c : Cursor} {k : ℕ} (x : AtNode v t names₀ whole names frames c k) where
+  pub node-under : {n : ℕ} {offsets results maps : List ℕ} → Tables v n offsets results maps → ((i : ℕ) → getD v i 0 < 256) → Under v t n offsets results maps frames c
+  node-under tables bytes = record { tables = tables; bytes = bytes; going = x .going }
+
+  pub node-follows : {c′ : Cursor} {names′ frames′ : List ℕ} → Follows v t k c names frames names′ frames′ c′ → Onward v t names₀ whole names′ frames′ c′
+  node-follows f = record {
+    going = f .going;
+    entries = f .entries ∙ x .entries;
+    leads = λ before n.
+        let m = f .leads (x .seen before n) (x .named before n) in
+        record { seen = m .seen; named = m .named; same = m .same ∙ x .same before n };
+  }
+
+  pub node-refused : {why : TermRefusal} → ((seen : List Occurrence) → Named names seen → Refuses t why (nodeRun (vocabularyIn v) v t frames seen false k c)) →
+      (before : List Occurrence) → Named names₀ before → Refuses t why (whole before)
+  node-refused f before n =
+      let m = f (x .seen before n) (x .named before n) in
+      record { inside = m .inside; same = m .same ∙ x .same before n }
+
+module _ {v t names₀ : List ℕ} {whole : Whole} {names frames : List ℕ} {c : Cursor} (x : Onward v t names₀ whole names frames c) where
   abbrev W : Vocabulary
   W = vocabularyIn v
 
-  pub onward-passed : {frames′ : List ℕ} {c′ : Cursor} → Passed v t frames c frames′ c′ → Onward v t names₀ frames₀ c₀ names frames′ c′
+  pub onward-passed : {frames′ : List ℕ} {c′ : Cursor} → Passed v t frames c frames′ c′ → Onward v t names₀ whole names frames′ c′
   onward-passed p = record {
     going = p .going;
     entries = x .entries;
@@ -61,7 +95,7 @@ module _ {v t names₀ frames₀ : List ℕ} {c₀ : Cursor} {names frames : Lis
   }
 
   -- Nothing is due any more.
-  pub onward-ends : c .depth ≡ 0 → (seen : List Occurrence) → Named names₀ seen → Answers t names (restRun W v t frames₀ seen c₀) (R.Read c)
+  pub onward-ends : c .depth ≡ 0 → (seen : List Occurrence) → Named names₀ seen → Answers t names (whole seen) (R.Read c)
   onward-ends e seen named =
       let l = x .leads seen named in
       record {
@@ -75,83 +109,32 @@ module _ {v t names₀ frames₀ : List ℕ} {c₀ : Cursor} {names frames : Lis
         gapless = x .going .gapless;
       }
 
--- A turn at the node of kind k that is due at the first place of the frame; d is the cursor behind the place.
-pub record NodeTurn (v t names₀ frames₀ : List ℕ) (c₀ : Cursor) (names frames : List ℕ) (c d : Cursor) (k n : ℕ) (offsets results maps : List ℕ) : Type 0 where
-  pub onward : Onward v t names₀ frames₀ c₀ names frames c
-  pub frame : ℕ
-  pub behind : Behind (c .due) frame
-  pub first : 0 < runIn (c .due)
-  pub low : 0 < c .depth
-  pub next : d ≡ atFrame frame c
-  pub kind : k ≡ getD v (kindsIn (c .due)) 0
-  pub tables : Tables v n offsets results maps
-  pub bytes : (i : ℕ) → getD v i 0 < 256
+  -- The first place of the frame is the next node; d is the cursor behind it.
+  pub onward-node : {y j : ℕ} {d : Cursor} → 0 < c .depth → 0 < runIn (c .due) → Behind (c .due) y → d ≡ atFrame y c → j ≡ kindsIn (c .due) → getD v j 0 < 256 →
+      AtNode v t names₀ whole names frames d (getD v j 0)
+  onward-node {y} {j} {d} low first behind e h small = record {
+    going = subst (Going v t frames) (sym e) (going-onto (x .going) low (frame-behind v (c .due) y (x .going .due) behind first));
+    entries = x .entries;
+    small = small;
+    seen = λ before n. x .leads before n .seen;
+    named = λ before n. x .leads before n .named;
+    same = λ before n.
+        ap₂ (λ k d. nodeRun W v t frames (x .leads before n .seen) false k d) (ap (λ j. getD v j 0) h) e
+        ∙ sym (run-place W v t frames (x .leads before n .seen) c y behind first)
+        ∙ x .leads before n .same;
+  }
 
 pub positive : (d : ℕ) → (d ≡ 0 → ⊥) → 0 < d
 positive d other = let some : 0 < d = omega (arith, other) in some
 
-pub node-turn : {v t names₀ frames₀ : List ℕ} {c₀ : Cursor} {names frames frames′ : List ℕ} {c c′ d : Cursor} {y j n : ℕ} {offsets results maps : List ℕ} →
-    Onward v t names₀ frames₀ c₀ names frames c → Passed v t frames c frames′ c′ → (c′ .depth ≡ 0 → ⊥) → Behind (c′ .due) y → d ≡ atFrame y c′ → j ≡ kindsIn (c′ .due) →
-    Tables v n offsets results maps → ((i : ℕ) → getD v i 0 < 256) → NodeTurn v t names₀ frames₀ c₀ names frames′ c′ d (getD v j 0) n offsets results maps
-node-turn {v} {c′ = c′} {y = y} x p other b e h tables bytes = record {
-  onward = onward-passed x p;
-  frame = y;
-  behind = b;
-  first = p .due (positive (c′ .depth) other);
-  low = positive (c′ .depth) other;
-  next = e;
-  kind = ap (λ j. getD v j 0) h;
-  tables = tables;
-  bytes = bytes;
-}
-
-module _ {v t names₀ frames₀ : List ℕ} {c₀ : Cursor} {names frames : List ℕ} {c d : Cursor} {k n : ℕ} {offsets results maps : List ℕ}
-    (x : NodeTurn v t names₀ frames₀ c₀ names frames c d k n offsets results maps) where
-  abbrev N : Vocabulary
-  N = vocabularyIn v
-
-  pub node-under : Under v t n offsets results maps frames d
-  node-under = record {
-    tables = x .tables;
-    bytes = x .bytes;
-    going =
-        subst (Going v t frames) (sym (x .next))
-        (going-onto (x .onward .going) (x .low) (frame-behind v (c .due) (x .frame) (x .onward .going .due) (x .behind) (x .first)));
-  }
-
-  -- Reading the node is reading on from the cursor.
-  node-same : (seen : List Occurrence) → nodeRun N v t frames seen false k d ≡ restRun N v t frames seen c
-  node-same seen = ap₂ (λ k d. nodeRun N v t frames seen false k d) (x .kind) (x .next) ∙ sym (run-place N v t frames seen c (x .frame) (x .behind) (x .first))
-
-  pub onward-node : {c′ : Cursor} {names′ frames′ : List ℕ} → Follows v t k d names frames names′ frames′ c′ → Onward v t names₀ frames₀ c₀ names′ frames′ c′
-  onward-node f = record {
-    going = f .going;
-    entries = f .entries ∙ x .onward .entries;
-    leads = λ seen named.
-        let l = x .onward .leads seen named in
-        let m = f .leads (l .seen) (l .named) in
-        record { seen = m .seen; named = m .named; same = m .same ∙ node-same (l .seen) ∙ l .same };
-  }
-
-  pub onward-less : {c′ : Cursor} {names′ frames′ : List ℕ} → Follows v t k d names frames names′ frames′ c′ → length t - c′ .at < length t - c .at
-  onward-less f =
-      let further = f .further in
-      let inside = f .going .inside in
-      omega (arith, ap (λ (d : Cursor). d .at) (x .next))
-
-  pub onward-refused : {why : TermRefusal} → ((seen : List Occurrence) → Named names seen → Refuses t why (nodeRun N v t frames seen false k d)) →
-      (seen : List Occurrence) → Named names₀ seen → Refuses t why (restRun N v t frames₀ seen c₀)
-  onward-refused f seen named =
-      let l = x .onward .leads seen named in
-      let m = f (l .seen) (l .named) in
-      record { inside = m .inside; same = m .same ∙ node-same (l .seen) ∙ l .same }
-
--- Full words that are passed take nothing from what is left.
-pub less-from : (t : List ℕ) {v frames frames′ : List ℕ} {c c′ : Cursor} {m : ℕ} → Passed v t frames c frames′ c′ → m < length t - c′ .at → m < length t - c .at
-less-from t p h = let further = p .further in omega arith
-
-pub zero-left : (d : ℕ) → d ≤ 0 → d ≡ 0
-zero-left d h = omega arith
+-- A node that is read and full words that are passed leave fewer bytes.
+pub node-less : (t : List ℕ) {v names frames names′ frames′ frames″ : List ℕ} {k : ℕ} {c c′ c″ : Cursor} (y : ℕ) (d : Cursor) → Follows v t k c names frames names′ frames′ c′ →
+    Passed v t frames′ c′ frames″ c″ → d ≡ atFrame y c″ → length t - d .at < length t - c .at
+node-less t y d f p e =
+    let further = f .further in
+    let beyond = p .further in
+    let inside = p .going .inside in
+    omega (arith, ap (λ (d : Cursor). d .at) e)
 
 pub ends-as : {t names : List ℕ} {g : Got Scanned} {c d : Cursor} → d ≡ c → Ends t names c g → Ends t names d g
 ends-as {t} {names} {g} e x = subst (λ c. Ends t names c g) (sym e) x
@@ -234,22 +217,10 @@ module _ (v t : List ℕ) (from k : ℕ) (inside : from ≤ length t) where
           ∙ ap some (let e : length t - from ≡ suc (length (drop 1 (drop from t))) = omega (arith, length-drop from t, length-drop 1 (drop from t)) in e)
 
   module _ {d : Cursor} (e : d ≡ started from (length t)) where
-    pub root-under : {n : ℕ} {offsets results maps : List ℕ} → Tables v n offsets results maps → ((i : ℕ) → getD v i 0 < 256) →
-        Under v t n offsets results maps (replicate 32 0) d
-    root-under tables bytes = record { tables = tables; bytes = bytes; going = subst (Going v t (replicate 32 0)) (sym e) root-going }
+    pub root-at : Going v t (replicate 32 0) d
+    root-at = subst (Going v t (replicate 32 0)) (sym e) root-going
 
-    module _ (other : getD (drop from t) 0 0 ≡ 255 → ⊥) where
-      root-same : (seen : List Occurrence) → nodeRun U v t (replicate 32 0) seen false k d ≡ run U (rootDue k ∷ []) seen noTally (drop from t)
-      root-same seen = ap (nodeRun U v t (replicate 32 0) seen false k) e ∙ root-begins other seen
-
-      pub root-refused : (names : List ℕ) {why : TermRefusal} →
-          ((seen : List Occurrence) → Named names seen → Refuses t why (nodeRun U v t (replicate 32 0) seen false k d)) →
-          (seen : List Occurrence) → Named names seen → Refuses t why (run U (rootDue k ∷ []) seen noTally (drop from t))
-      root-refused names f seen named = let m = f seen named in record { inside = m .inside; same = m .same ∙ root-same seen }
-
-      pub root-read : {names names′ frames′ : List ℕ} {c′ : Cursor} (names″ : List ℕ) (r : Reading) → Follows v t k d names (replicate 32 0) names′ frames′ c′ →
-          PlacesRead v t names′ frames′ c′ names″ r → (seen : List Occurrence) → Named names seen →
-          Answers t names″ (run U (rootDue k ∷ []) seen noTally (drop from t)) r
-      root-read names″ r f h seen named =
-          let l = f .leads seen named in
-          subst (λ g. Answers t names″ g r) (l .same ∙ root-same seen) (h (l .seen) (l .named))
+    pub root-read : (names names′ : List ℕ) (r : Reading) → (getD (drop from t) 0 0 ≡ 255 → ⊥) → NodesRead v t names d k names′ r →
+        (seen : List Occurrence) → Named names seen → Answers t names′ (run U (rootDue k ∷ []) seen noTally (drop from t)) r
+    root-read names names′ r other h seen named =
+        subst (λ g. Answers t names′ g r) (ap (nodeRun U v t (replicate 32 0) seen false k) e ∙ root-begins other seen) (h seen named)

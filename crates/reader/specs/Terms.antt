@@ -10,7 +10,7 @@
 --   Follows, NodeAnswers    what reading the node that stands at a cursor gives, under a vocabulary
 --   Under, NodeRead         the same under every vocabulary whose tables are those
 --   Ends, Answers           what reading a whole term gives
---   PlacesRead              what reading all that is due from a cursor on gives
+--   NodesRead               what reading the node at a cursor and all that is due behind it gives
 --   WholeAt                 255 stands at an offset of t
 --   TermRead                what reading the term of kind k that stands at an offset of t gives
 --
@@ -18,7 +18,7 @@ use mathlib.Core.Path.{_≡_}
 use mathlib.Core.Bool.{Bool, true, false}
 use mathlib.Core.List.{List, [], _∷_}
 use Prim.Native.Nat.{ℕ, suc, _+_, _<_, _≤_}
-use lib.ListN.{length, getD, drop}
+use lib.ListN.{length, getD, drop, replicate}
 use Rattle.terms.specs.Term.{Occurrence}
 use Rattle.wire.specs.Map.{mapBytes}
 use Rattle.wire.specs.Vocabulary.{Vocabulary}
@@ -99,9 +99,9 @@ abbrev pub Answers : List ℕ → List ℕ → Got Scanned → Reading → Type 
 Answers t names g (R.Read c) = Ends t names c g
 Answers t names g (R.Fault why) = Refuses t why g
 
-abbrev pub PlacesRead : List ℕ → List ℕ → List ℕ → List ℕ → Cursor → List ℕ → Reading → Type 0
-PlacesRead v t names frames c names′ r =
-    (seen : List Occurrence) → Named names seen → Answers t names′ (restRun (vocabularyIn v) v t frames seen c) r
+abbrev pub NodesRead : List ℕ → List ℕ → List ℕ → Cursor → ℕ → List ℕ → Reading → Type 0
+NodesRead v t names c k names′ r =
+    (seen : List Occurrence) → Named names seen → Answers t names′ (nodeRun (vocabularyIn v) v t (replicate 32 0) seen false k c) r
 
 pub record WholeAt (t : List ℕ) (at : ℕ) (r : Bool) : Type 0 where
   pub there : r ≡ true → (at < length t) × (getD t at 0 ≡ wholeByte)

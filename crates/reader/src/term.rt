@@ -2,11 +2,11 @@
 ghost use mathlib.Core.Path.{_≡_};
 ghost use mathlib.Core.Bool.{true};
 ghost use Prim.Native.Nat.{_+_, _<_, _≤_};
-ghost use lib.ListN.{length};
+ghost use lib.ListN.{length, replicate};
 ghost use Rattle.signature.specs.Tables.{Tables};
 ghost use Rattle.reader.specs.Frames.{runIn};
 ghost use Rattle.reader.specs.Cursors.{Going};
-ghost use Rattle.reader.specs.Terms.{FullWord, Passed, NodeRead, PlacesRead, WholeAt, TermRead};
+ghost use Rattle.reader.specs.Terms.{FullWord, Passed, NodeRead, NodesRead, WholeAt, TermRead};
 use crate::TermRefusal;
 use crate::cursor;
 use crate::cursor::Cursor;
@@ -138,41 +138,51 @@ fn read_node<'a>(
     }
 }
 
-// Reads what is due from a cursor on.
-fn read_places<'a>(
+// Reads the node of a kind that is due at a cursor, and all that is due behind it.
+fn read_nodes<'a>(
     v: &[u8],
     t: &[u8],
     names: &mut [u16; 64],
-    frames: &mut [u64; 32],
     from: Cursor,
+    first: u8,
     words: usize,
     offsets: &'a [u16; 96],
     results: &'a [u8; 96],
     maps: &'a [u8; 96],
 ) -> Reading
     requires { ⌜ Tables (now v) words (now offsets) (now results) (now maps) ⌝ }
-    requires { ⌜ (length (now names) ≡ 64) × Going (now v) (now t) (now frames) from ⌝ }
-    ensures { λ r. ⌜ PlacesRead (now (v .entry)) (now (t .entry)) (now (names .entry)) (now (frames .entry)) from (now (names .exit)) r ⌝ }
+    requires { ⌜ (length (now names) ≡ 64) × Going (now v) (now t) (replicate 32 0) from ⌝ }
+    ensures { λ r. ⌜ NodesRead (now (v .entry)) (now (t .entry)) (now (names .entry)) from first (now (names .exit)) r ⌝ }
 {
+    let mut frames = [0u64; 32];
     let mut c = from;
-    while 0 < c.depth {
-        c = full_words(v, t, frames, c, words, offsets, results, maps);
-        let due = c.due;
-        if c.depth == 0 {
-            return Reading::Read(c);
-        }
-        let kind = v[frame::kinds(due)];
-        let next = c.onto(frame::passed(due));
-        match read_node(t, names, frames, next, kind, words, offsets, results, maps) {
+    let mut kind = first;
+    loop {
+        match read_node(
+            t,
+            names,
+            &mut frames,
+            c,
+            kind,
+            words,
+            offsets,
+            results,
+            maps,
+        ) {
             Step::Fault(why) => {
                 return Reading::Fault(why);
             }
             Step::Went(x) => {
-                c = x;
+                let past = full_words(v, t, &mut frames, x, words, offsets, results, maps);
+                let due = past.due;
+                if past.depth == 0 {
+                    return Reading::Read(past);
+                }
+                kind = v[frame::kinds(due)];
+                c = past.onto(frame::passed(due));
             }
         }
     }
-    Reading::Read(c)
 }
 
 // Whether 255 stands at an offset.
@@ -206,19 +216,5 @@ pub(crate) fn read_term<'a>(
     if whole_at(t, from) {
         return Reading::Read(c.leaf());
     }
-    let mut frames = [0u64; 32];
-    match read_node(
-        t,
-        names,
-        &mut frames,
-        c,
-        kind,
-        words,
-        offsets,
-        results,
-        maps,
-    ) {
-        Step::Fault(why) => Reading::Fault(why),
-        Step::Went(x) => read_places(v, t, names, &mut frames, x, words, offsets, results, maps),
-    }
+    read_nodes(v, t, names, c, kind, words, offsets, results, maps)
 }
