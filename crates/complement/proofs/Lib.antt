@@ -2,8 +2,6 @@
 pub mod Answers
 -- Bytes written into a lent slice; the entries at one word.
 pub mod Powers
-pub mod Copying
-pub mod Moving
 pub mod Writing
 pub mod Others
 pub mod Siblings

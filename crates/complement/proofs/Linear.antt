@@ -6,8 +6,7 @@ use Prim.Native.Nat.{ℕ, _+_, _<_, _≤_}
 use native.Mathlib.Nat.{le-max-right}
 use native.Mathlib.Omega.{arith}
 use lib.Dec.{leb}
-use lib.ListN.{length, take, drop}
-use lib.Seq.{take-length}
+use lib.ListN.{length, drop}
 use borrow.Author.Tests.{le-leb, lt-leb}
 use Rattle.terms.specs.Term.{Term, any, var, app}
 use Rattle.wire.specs.Reply.{accepted, refused}
@@ -102,7 +101,7 @@ module _ {p : List ℕ} {words : ℕ} {results : List ℕ} (h : Patterned p word
   root-same (app f ts) e = refl
 
   -- The root in a copy of the pattern.
-  module _ (copy : List ℕ) {copied : List ℕ} (c : copied ≡ take (length p) p ++ drop (length p) copy) (size : length copied ≤ mostBytes) (before : List ℕ)
+  module _ (copy : List ℕ) {copied : List ℕ} (c : copied ≡ p ++ drop (length p) copy) (size : length copied ≤ mostBytes) (before : List ℕ)
       (room : (0 < length entryBytes) × (length entryBytes ≤ length before)) where
     closed : isOpen t ≡ false
     closed = not-open t (λ e. let k = room .0 in omega arith)
@@ -121,7 +120,7 @@ module _ {p : List ℕ} {words : ℕ} {results : List ℕ} (h : Patterned p word
       sorted = h .held .good .sorted .sorted;
       closed = closed;
       stands =
-          c ∙ ap (λ l. l ++ drop (length p) copy) (take-length p ∙ h .held .written ∙ ap (λ l. s ∷ l) (root-same t closed));
+          c ∙ ap (λ l. l ++ drop (length p) copy) (h .held .written ∙ ap (λ l. s ∷ l) (root-same t closed));
       deep = omega (arith, h .held .limits .levels, le-max-right 1 (levels t));
       fits = let k = room .1 in omega (arith, ap length (entries-bytes W s t));
     }

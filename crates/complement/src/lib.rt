@@ -3,7 +3,6 @@ ghost use mathlib.Core.Path.{_≡_};
 ghost use mathlib.Core.List.{[], _∷_, _++_};
 ghost use Prim.Native.Nat.{_+_, _≤_, _<_, _%_, _^_, suc};
 ghost use lib.ListN.{length, take, drop, replicate};
-ghost use lib.Seq.{paste};
 ghost use Rattle.wire.specs.Map.{writeMap};
 ghost use Rattle.wire.specs.Leftovers.{ListPromise};
 ghost use Rattle.wire.specs.Effect.{HasEffect};
@@ -39,88 +38,13 @@ fn kept(map: u8, b: usize) -> u8
     (wide(map) % (2usize << b)) as u8
 }
 
-// Writes the first n bytes of the copy, one by one.
-fn copy_bytes(copy: &[u8], n: usize, out: &mut [u8])
-    requires { ⌜ n ≤ length (now copy) ⌝ }
-    requires { ⌜ n ≤ length (now out) ⌝ }
-    ensures { λ _. ⌜ now (out .exit) ≡ take n (now (copy .entry)) ++ drop n (now (out .entry)) ⌝ }
-{
-    let mut i = 0;
-    while i < n {
-        out[i] = copy[i];
-        i += 1;
-    }
-}
-
-// Writes n bytes of the copy to where they stand in it. All are read before the first is written, so that they go as
-// one block: the compiler leaves no array between them.
-fn move_block(copy: &[u8], at: usize, n: usize, out: &mut [u8])
-    requires { ⌜ at + n ≤ length (now copy) ⌝ }
-    requires { ⌜ n ≤ 4096 ⌝ }
-    requires { ⌜ at + n ≤ length (now out) ⌝ }
-    ensures { λ _. ⌜ now (out .exit) ≡ paste (now (out .entry)) at (drop at (now (copy .entry))) n ⌝ }
-{
-    let mut block = [0u8; 4096];
-    let mut k = 0;
-    while k < n {
-        block[k] = copy[at + k];
-        k += 1;
-    }
-    let mut j = 0;
-    while j < n {
-        out[at + j] = block[j];
-        j += 1;
-    }
-}
-
-// Writes the first n bytes of the copy, fewer than 16. The blocks may overlap: what is written twice is the same.
-fn copy_few(copy: &[u8], n: usize, out: &mut [u8])
-    requires { ⌜ n ≤ length (now copy) ⌝ }
-    requires { ⌜ n < 16 ⌝ }
-    requires { ⌜ n ≤ length (now out) ⌝ }
-    ensures { λ _. ⌜ now (out .exit) ≡ take n (now (copy .entry)) ++ drop n (now (out .entry)) ⌝ }
-{
-    if n < 8 {
-        copy_bytes(copy, n, out);
-        return;
-    }
-    move_block(copy, 0, 8, out);
-    move_block(copy, n - 8, 8, out);
-}
-
-// Writes the first n bytes of the copy: where they are not many, the last ones as blocks that may overlap.
-fn copy_front(copy: &[u8], n: usize, out: &mut [u8])
-    requires { ⌜ n ≤ length (now copy) ⌝ }
-    requires { ⌜ n ≤ 4096 ⌝ }
-    requires { ⌜ n ≤ length (now out) ⌝ }
-    ensures { λ _. ⌜ now (out .exit) ≡ take n (now (copy .entry)) ++ drop n (now (out .entry)) ⌝ }
-{
-    if n < 16 {
-        copy_few(copy, n, out);
-        return;
-    }
-    if 128 < n {
-        move_block(copy, 0, n, out);
-        return;
-    }
-    let whole = n / 32 * 32;
-    copy_bytes(copy, whole, out);
-    if n - whole < 16 {
-        move_block(copy, n - 16, 16, out);
-        return;
-    }
-    move_block(copy, whole, 16, out);
-    move_block(copy, n - 16, 16, out);
-}
-
 // Writes the first n bytes of the copy, a word's number and an empty map.
 fn write_entry(copy: &[u8], n: usize, word: u8, out: &mut [u8])
     requires { ⌜ n ≤ length (now copy) ⌝ }
-    requires { ⌜ n ≤ 4096 ⌝ }
     requires { ⌜ n + 2 ≤ length (now out) ⌝ }
     ensures { λ _. ⌜ now (out .exit) ≡ (take n (now (copy .entry)) ++ (word ∷ writeMap 0)) ++ drop (n + 2) (now (out .entry)) ⌝ }
 {
-    copy_front(copy, n, out);
+    slices::copy(&copy[..n], out);
     out[n] = word;
     out[n + 1] = 0;
 }
@@ -388,7 +312,7 @@ fn list_in(copy: &mut [u8], pattern: &[u8], words: usize, results: &[u8; 96], ou
     let mut firsts = [255u8; 16];
     let mut nexts = [255u8; 96];
     chain(words, results, &mut firsts, &mut nexts);
-    copy_bytes(pattern, pattern.len(), copy);
+    slices::copy(pattern, copy);
     let _ = list_term(copy, 1, words, results, &firsts, &nexts, 32, out);
 }
 

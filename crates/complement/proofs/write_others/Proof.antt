@@ -60,7 +60,7 @@ write-entry-requires c κs =
     let at-loop-test = at-if1 .before .before .before in
     let at-loop = at-loop-test .before in
     let start = at-loop .before .before .before .before .before .before .before in
-    (start .pre .0, (start .pre .1 .0, followed-room (at-loop .loop .inv) (at-loop-test .loop-test .taken) (at-if1 .if1 .taken) (length-take-le (start .args .at) (now (start .args .copy)) (omega arith))))
+    (start .pre .0, followed-room (at-loop .loop .inv) (at-loop-test .loop-test .taken) (at-if1 .if1 .taken) (length-take-le (start .args .at) (now (start .args .copy)) (omega arith)))
 
 add-n : tie.Need-add-n Inv-loop μ-loop
 add-n c = search needs

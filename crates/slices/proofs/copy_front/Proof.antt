@@ -1,12 +1,12 @@
--- `complement::copy_front` meets its contract: after each block the first bytes up to its end are the copy's.
+-- `slices::copy_front` meets its contract: after each block the first bytes up to its end are copied.
 use mathlib.Core.Path.{refl}
 use denote.Ref.{now}
 use Prim.Native.Nat.{_+_, _-_, _*_, _/_}
 use native.Mathlib.Omega.{arith}
-use Rattle.complement.proofs.Moving.{moved-on}
+use Rattle.slices.proofs.Moving.{moved-on}
 use borrow.Author.Needs.{needs}
-use Rattle.complement.proofs.copy_front.Statement.{statement}
-use Rattle.complement.proofs.copy_front.Tie as tie
+use Rattle.slices.proofs.copy_front.Statement.{statement}
+use Rattle.slices.proofs.copy_front.Tie as tie
 
 copy-few-requires : tie.Need-copy-few-requires
 copy-few-requires c κs = search needs
@@ -27,7 +27,7 @@ returns-2 : tie.Need-returns-2
 returns-2 c =
     let start = c .before .before .before .before .before .before .before .before in
     let n = start .args .n in
-    moved-on (now (start .args .copy)) (now (start .args .out)) n (omega arith) 0 0 n refl (c .before .before .move-block .ensures) (omega arith) (omega arith) (omega arith)
+    moved-on (now (start .args .from)) (now (start .args .to)) n (omega arith) 0 0 n refl (c .before .before .move-block .ensures) (omega arith) (omega arith) (omega arith)
 
 mul-whole : tie.Need-mul-whole
 mul-whole c = search needs
@@ -54,7 +54,7 @@ returns-3 c =
     let large = at-if1 .if1 .left in
     let start = at-if1 .before .before .before in
     let n = start .args .n in
-    moved-on (now (start .args .copy)) (now (start .args .out)) n (omega arith) (n / 32 * 32) (n - 16) 16 (at-whole .copy-bytes .ensures) (at-last .move-block2 .ensures) (omega arith) (omega arith) (omega arith)
+    moved-on (now (start .args .from)) (now (start .args .to)) n (omega arith) (n / 32 * 32) (n - 16) 16 (at-whole .copy-bytes .ensures) (at-last .move-block2 .ensures) (omega arith) (omega arith) (omega arith)
 
 move-block-requires-3 : tie.Need-move-block-requires-3
 move-block-requires-3 c κs = search needs
@@ -73,12 +73,12 @@ returns-4 c =
     let far = at-if3 .if3 .left in
     let at-whole = at-if3 .before .before .before in
     let start = at-whole .before .before .before .before .before .before in
-    let copy = now (start .args .copy) in
-    let out = now (start .args .out) in
+    let from = now (start .args .from) in
+    let to = now (start .args .to) in
     let n = start .args .n in
     let whole = n / 32 * 32 in
-    let first = moved-on copy out (whole + 16) (omega arith) whole whole 16 (at-whole .copy-bytes .ensures) (at-first .move-block3 .ensures) (omega arith) (omega arith) refl in
-    moved-on copy out n (omega arith) (whole + 16) (n - 16) 16 first (at-last .move-block4 .ensures) (omega arith) (omega arith) (omega arith)
+    let first = moved-on from to (whole + 16) (omega arith) whole whole 16 (at-whole .copy-bytes .ensures) (at-first .move-block3 .ensures) (omega arith) (omega arith) refl in
+    moved-on from to n (omega arith) (whole + 16) (n - 16) 16 first (at-last .move-block4 .ensures) (omega arith) (omega arith) (omega arith)
 
 pub copy-front-spec : {M : Type 1} → statement M
 copy-front-spec =

@@ -1,25 +1,25 @@
--- `complement::copy_bytes` meets its contract. The loop's invariant: the first i bytes are the copy's. The measure is what is left to copy.
+-- `slices::copy_bytes` meets its contract. The loop's invariant: the first i bytes are copied. The measure is what is left to copy.
 use borrow.Author.Needs.{needs}
 use Prim.Native.Nat.{_-_}
 use native.Mathlib.Omega.{arith}
-use Rattle.complement.proofs.Copying.{Copied, copied-none, copied-turn, copied-done}
-use Rattle.complement.proofs.copy_bytes.Statement.{statement}
-use Rattle.complement.proofs.copy_bytes.Tie as tie
+use Rattle.slices.proofs.Copying.{Copying, copied-none, copied-turn, copied-done}
+use Rattle.slices.proofs.copy_bytes.Statement.{statement}
+use Rattle.slices.proofs.copy_bytes.Tie as tie
 
 abbrev Inv-loop : tie.InvT-loop
-Inv-loop copy n out₀ i₀ out i = Copied copy out₀ n i out
+Inv-loop from n out₀ i₀ to i = Copying from out₀ n i to
 
 abbrev μ-loop : tie.MeasureT-loop
-μ-loop copy n out₀ i₀ out i = n - i
+μ-loop from n out₀ i₀ to i = n - i
 
 loop-holds : tie.Need-loop-holds Inv-loop μ-loop
 loop-holds c = copied-none (omega arith) (omega arith)
 
-shared-slice-read-out : tie.Need-shared-slice-read-out Inv-loop μ-loop
-shared-slice-read-out c = search needs
+shared-slice-read-to : tie.Need-shared-slice-read-to Inv-loop μ-loop
+shared-slice-read-to c = search needs
 
-slice-write-out : tie.Need-slice-write-out Inv-loop μ-loop
-slice-write-out c = let i = c .before .before .loop .inv .size in omega arith
+slice-write-to : tie.Need-slice-write-to Inv-loop μ-loop
+slice-write-to c = let i = c .before .before .loop .inv .size in omega arith
 
 add-i : tie.Need-add-i Inv-loop μ-loop
 add-i c = search needs
@@ -43,8 +43,8 @@ copy-bytes-spec =
     Inv-loop
     μ-loop
     loop-holds
-    shared-slice-read-out
-    slice-write-out
+    shared-slice-read-to
+    slice-write-to
     add-i
     loop-less
     loop-again

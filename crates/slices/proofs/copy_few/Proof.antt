@@ -1,12 +1,12 @@
--- `complement::copy_few` meets its contract: after each block the first bytes up to its end are the copy's.
+-- `slices::copy_few` meets its contract: after each block the first bytes up to its end are copied.
 use mathlib.Core.Path.{refl}
 use denote.Ref.{now}
 use Prim.Native.Nat.{_-_}
 use native.Mathlib.Omega.{arith}
-use Rattle.complement.proofs.Moving.{moved-on}
+use Rattle.slices.proofs.Moving.{moved-on}
 use borrow.Author.Needs.{needs}
-use Rattle.complement.proofs.copy_few.Statement.{statement}
-use Rattle.complement.proofs.copy_few.Tie as tie
+use Rattle.slices.proofs.copy_few.Statement.{statement}
+use Rattle.slices.proofs.copy_few.Tie as tie
 
 copy-bytes-requires : tie.Need-copy-bytes-requires
 copy-bytes-requires c κs = search needs
@@ -33,11 +33,11 @@ returns-2 c =
     let at-if1 = at-first .before .before in
     let large = at-if1 .if1 .left in
     let start = at-if1 .before .before .before in
-    let copy = now (start .args .copy) in
-    let out = now (start .args .out) in
+    let from = now (start .args .from) in
+    let to = now (start .args .to) in
     let n = start .args .n in
-    let first = moved-on copy out 8 (omega arith) 0 0 8 refl (at-first .move-block .ensures) (omega arith) (omega arith) refl in
-    moved-on copy out n (omega arith) 8 (n - 8) 8 first (at-second .move-block2 .ensures) (omega arith) large (omega arith)
+    let first = moved-on from to 8 (omega arith) 0 0 8 refl (at-first .move-block .ensures) (omega arith) (omega arith) refl in
+    moved-on from to n (omega arith) 8 (n - 8) 8 first (at-second .move-block2 .ensures) (omega arith) large (omega arith)
 
 pub copy-few-spec : {M : Type 1} → statement M
 copy-few-spec =

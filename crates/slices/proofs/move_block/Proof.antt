@@ -1,29 +1,29 @@
--- `complement::move_block` meets its contract. The invariants: the first k bytes of the block are the copy's from the offset on; the first j bytes of the
+-- `slices::move_block` meets its contract. The invariants: the first k bytes of the block are those at the offset; the first j bytes of the
 -- block are written. The measures are what is left to read and to write.
 use borrow.Author.Needs.{needs}
 use denote.Ref.{now}
 use Prim.Native.Nat.{_-_}
 use native.Mathlib.Omega.{arith}
 use lib.ListN.{drop, replicate}
-use Rattle.complement.proofs.Copying.{Copied, copied-none, copied-all}
-use Rattle.complement.proofs.Moving.{within, read-turn, Moved, moved-none, moved-turn, moved-done}
-use Rattle.complement.proofs.move_block.Statement.{statement}
-use Rattle.complement.proofs.move_block.Tie as tie
+use Rattle.slices.proofs.Copying.{Copying, copied-none, copied-all}
+use Rattle.slices.proofs.Moving.{within, read-turn, Moved, moved-none, moved-turn, moved-done}
+use Rattle.slices.proofs.move_block.Statement.{statement}
+use Rattle.slices.proofs.move_block.Tie as tie
 
 abbrev Inv-loop : tie.InvT-loop
-Inv-loop copy from n out block₀ k₀ block k = Copied (drop from copy) (replicate 4096 0) n k block
+Inv-loop from at n to block₀ k₀ block k = Copying (drop at from) (replicate 4096 0) n k block
 
 abbrev μ-loop : tie.MeasureT-loop
-μ-loop copy from n out block₀ k₀ block k = n - k
+μ-loop from at n to block₀ k₀ block k = n - k
 
 abbrev Inv-loop2 : tie.InvT-loop2
-Inv-loop2 copy from n out₀ block k j₀ out j = Moved block out₀ from n j out
+Inv-loop2 from at n out₀ block k j₀ to j = Moved block out₀ at n j to
 
 abbrev μ-loop2 : tie.MeasureT-loop2
-μ-loop2 copy from n out₀ block k j₀ out j = n - j
+μ-loop2 from at n out₀ block k j₀ to j = n - j
 
 loop-holds : tie.Need-loop-holds Inv-loop μ-loop Inv-loop2 μ-loop2
-loop-holds c = copied-none (within (now (c .args .copy)) (c .args .at) _ (omega arith)) (omega arith)
+loop-holds c = copied-none (within (now (c .args .from)) (c .args .at) _ (omega arith)) (omega arith)
 
 add-block : tie.Need-add-block Inv-loop μ-loop Inv-loop2 μ-loop2
 add-block c = search needs
@@ -43,19 +43,19 @@ loop-less c = search needs
 loop-again : tie.Need-loop-again Inv-loop μ-loop Inv-loop2 μ-loop2
 loop-again c =
     let start = c .before .before .before in
-    read-turn (now (start .args .copy)) (start .args .at) (omega arith) (omega arith) (c .before .before .loop .inv) (c .before .loop-test .taken)
+    read-turn (now (start .args .from)) (start .args .at) (omega arith) (omega arith) (c .before .before .loop .inv) (c .before .loop-test .taken)
 
 loop2-holds : tie.Need-loop2-holds Inv-loop μ-loop Inv-loop2 μ-loop2
 loop2-holds c = moved-none
 
-array-read-out : tie.Need-array-read-out Inv-loop μ-loop Inv-loop2 μ-loop2
-array-read-out c = search needs
+array-read-to : tie.Need-array-read-to Inv-loop μ-loop Inv-loop2 μ-loop2
+array-read-to c = search needs
 
-add-out : tie.Need-add-out Inv-loop μ-loop Inv-loop2 μ-loop2
-add-out c = search needs
+add-to : tie.Need-add-to Inv-loop μ-loop Inv-loop2 μ-loop2
+add-to c = search needs
 
-slice-write-out : tie.Need-slice-write-out Inv-loop μ-loop Inv-loop2 μ-loop2
-slice-write-out c = let i = c .before .loop2 .inv .size in omega arith
+slice-write-to : tie.Need-slice-write-to Inv-loop μ-loop Inv-loop2 μ-loop2
+slice-write-to c = let i = c .before .loop2 .inv .size in omega arith
 
 add-j : tie.Need-add-j Inv-loop μ-loop Inv-loop2 μ-loop2
 add-j c = search needs
@@ -73,9 +73,9 @@ returns : tie.Need-returns Inv-loop μ-loop Inv-loop2 μ-loop2
 returns c =
     let at-read = c .before .before in
     let start = at-read .before .before in
-    let copy = now (start .args .copy) in
-    let from = start .args .at in
-    moved-done (drop from copy) (c .before .loop2 .inv) (c .loop2-test .left) (copied-all (within copy from (start .args .n) (omega arith)) (omega arith) (at-read .before .loop .inv) (at-read .loop-test .left))
+    let from = now (start .args .from) in
+    let at = start .args .at in
+    moved-done (drop at from) (c .before .loop2 .inv) (c .loop2-test .left) (copied-all (within from at (start .args .n) (omega arith)) (omega arith) (at-read .before .loop .inv) (at-read .loop-test .left))
 
 pub move-block-spec : {M : Type 1} → statement M
 move-block-spec =
@@ -93,9 +93,9 @@ move-block-spec =
     loop-less
     loop-again
     loop2-holds
-    array-read-out
-    add-out
-    slice-write-out
+    array-read-to
+    add-to
+    slice-write-to
     add-j
     loop2-less
     loop2-again
