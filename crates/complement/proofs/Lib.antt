@@ -12,6 +12,5 @@ pub mod Terms
 -- The passes over the pattern's bytes that come first, and the whole call.
 pub mod Tallying
 pub mod Measuring
-pub mod Repeating
 pub mod Linear
 pub mod Calls

@@ -10,9 +10,6 @@
 --   Chained n results firsts nexts   firsts has the lowest word of each result kind, nexts for each word the next of its kind
 --   Tallied n results counts   counts says how many of the first n words have each result kind, by the table
 --   Measures p n results e m   the listing of the pattern p has e entries and m bytes, where the table is a vocabulary's
---   sightingsIn n skip l at       the names of the bytes l at an offset with theirs, where n numbers are words' and the first
---                              `skip` bytes are not looked at
---   repeatOf r                 where a name stands again, as an Option
 --   Written bytes before n after   n bytes are written into the lent slice, and those behind them are as before
 --   TermAt                     a term stands at an offset of the copy, at most `left` levels deep, and its entries have room
 --   TermListed, ListsTerm      what list_term does to such a copy and the lent slice
@@ -20,27 +17,22 @@
 --   PlacesListed, ListsPlaces  what list_places does to such a copy and the lent slice
 --
 use mathlib.Core.Path.{_≡_}
-use mathlib.Core.Bool.{Bool, false, not, _&&_, cond}
+use mathlib.Core.Bool.{Bool, false, not, _&&_}
 use mathlib.Core.List.{List, [], _∷_, _++_}
-use mathlib.Core.Option.{Option, some, none}
-use Prim.Native.Nat.{ℕ, zero, suc, _+_, _-_, _<_, _≤_}
-use lib.Dec.{eqb, ltb}
+use Prim.Native.Nat.{ℕ, suc, _+_, _-_, _<_, _≤_}
+use lib.Dec.{eqb}
 use lib.ListN.{length, getD, drop}
 use Rattle.terms.specs.Lists.{range, keep}
 use Rattle.terms.specs.Term.{Term, Terms, Sorted}
 use Rattle.terms.proofs.Count.{count}
 use Rattle.wire.specs.Map.{mapBytes, writeMap, flags, isOpen}
 use Rattle.wire.specs.Vocabulary.{Vocabulary, mostKinds, InOrder, signature}
-use Rattle.wire.specs.TermBytes.{firstNameByte, encodeAt, encodeAll, levels, levelsAll, mostBytes}
-use Rattle.wire.specs.Parser.{isName}
-use Rattle.wire.specs.PatternLines.{Sighting}
+use Rattle.wire.specs.TermBytes.{encodeAt, encodeAll, levels, levelsAll, mostBytes}
 use Rattle.wire.proofs.EntrySizes.{countAt, sizeAt, summedIn}
 use Rattle.wire.proofs.EntryBytes.{spots, spotsBytes}
 use Rattle.wire.proofs.EntryMaps.{bitSpots}
 use Rattle.wire.proofs.EntryWalk.{Stands}
 use Rattle.signature.specs.Tables.{Tabled}
-use Rattle.complement.specs.declared.Repeat.{Repeat}
-use Rattle.complement.specs.declared.Repeat.the-variants.{At, Nothing}
 
 pub record Byte (b n : ℕ) : Type 0 where
   pub same : n ≡ b
@@ -72,17 +64,6 @@ pub record Tallied (n : ℕ) (results counts : List ℕ) : Type 0 where
 abbrev pub Measures : List ℕ → ℕ → List ℕ → ℕ → ℕ → Type 0
 Measures p n results entries bytes =
     (W : Vocabulary) → Tabled W n results → (entries ≡ summedIn W (countAt W) 1 p 0) × (bytes ≡ summedIn W (sizeAt W) 1 p 0)
-
-abbrev pub sightingsIn : ℕ → ℕ → List ℕ → ℕ → List Sighting
-sightingsIn n skip [] at = []
-sightingsIn n (suc skip) (b ∷ l) at = sightingsIn n skip l (at + 1)
-sightingsIn n zero (b ∷ l) at =
-    cond (ltb b n) (sightingsIn n mapBytes l (at + 1))
-    (cond (isName b) (record { name = b - firstNameByte; offset = at } ∷ sightingsIn n zero l (at + 1)) (sightingsIn n zero l (at + 1)))
-
-abbrev pub repeatOf : Repeat → Option ℕ
-repeatOf (At q) = some q
-repeatOf Nothing = none
 
 pub record Written (bytes before : List ℕ) (n : ℕ) (after : List ℕ) : Type 0 where
   pub count : n ≡ length bytes

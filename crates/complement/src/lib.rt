@@ -6,13 +6,14 @@ ghost use lib.ListN.{length, take, drop, replicate};
 ghost use Rattle.wire.specs.Map.{writeMap};
 ghost use Rattle.wire.specs.Leftovers.{ListPromise};
 ghost use Rattle.wire.specs.Effect.{HasEffect};
-ghost use Rattle.wire.specs.ListComputed.{repeatedIn, listed};
+ghost use Rattle.wire.specs.ListComputed.{listed};
 ghost use Rattle.wire.proofs.EntryBytes.{othersBytes};
 ghost use Rattle.complement.specs.Answers.{listNumbers};
 ghost use Rattle.complement.specs.Calls.{Patterned, HasRoom, WritesEntries, ListsLinear, ListsPattern};
-ghost use Rattle.complement.specs.Entering.{KindsFew, Byte, Tallied, Measures, sightingsIn, repeatOf, othersIn, Chained, Written, TermAt, ListsTerm, PlacesAt, ListsPlaces};
+ghost use Rattle.complement.specs.Entering.{KindsFew, Byte, Tallied, Measures, othersIn, Chained, Written, TermAt, ListsTerm, PlacesAt, ListsPlaces};
 use reader::TermAnswer;
 use reader::TermRefusal;
+use repeats::Repeat;
 use signature::VocabularyRefusal;
 
 // The number of entries and of bytes, or why there is no listing: document 01, lines 1 to 15, 18 and 20.
@@ -266,41 +267,6 @@ fn measure(p: &[u8], words: usize, results: &[u8; 96]) -> Size
     Size { entries, bytes }
 }
 
-// Where a name stands for the second time.
-enum Repeat {
-    At(usize),
-    Nothing,
-}
-
-// The earliest byte at which a name stands for the second time, in one pass over the pattern.
-fn first_repeat(p: &[u8], words: usize) -> Repeat
-    requires { ⌜ length (now p) ≤ 4096 ⌝ }
-    ensures { λ r. ⌜ repeatOf r ≡ repeatedIn [] (sightingsIn words 1 (now (p .entry)) 0) ⌝ }
-{
-    let mut seen = [0u8; 64];
-    let mut at = 1;
-    while at < p.len() {
-        let b = wide(p[at]);
-        let here = at;
-        if b < words {
-            at = here + 2;
-        } else {
-            at = here + 1;
-            if 128 <= b {
-                if b < 192 {
-                    let n = b - 128;
-                    let mark = seen[n];
-                    if mark != 0 {
-                        return Repeat::At(here);
-                    }
-                    seen[n] = 1;
-                }
-            }
-        }
-    }
-    Repeat::Nothing
-}
-
 // Lists a pattern by a copy of it, into a lent slice with room for the entries.
 fn list_in(copy: &mut [u8], pattern: &[u8], words: usize, results: &[u8; 96], out: &mut [u8])
     requires { ⌜ length (now pattern) ≤ length (now copy) ⌝ }
@@ -346,7 +312,7 @@ fn list_pattern(pattern: &[u8], words: usize, results: &[u8; 96], out: &mut [u8]
     requires { ⌜ Patterned (now pattern) words (now results) ⌝ }
     ensures { λ r. ⌜ ListsPattern (now (pattern .entry)) words (now (results .entry)) (now (out .entry)) (now (out .exit)) (listNumbers r) ⌝ }
 {
-    match first_repeat(pattern, words) {
+    match repeats::first_repeat(pattern, words) {
         Repeat::At(q) => ListAnswer::Repeated(q),
         Repeat::Nothing => list_linear(pattern, words, results, out),
     }
