@@ -19,9 +19,8 @@ use Rattle.wire.specs.Leftovers.{entriesBytes, entriesOf}
 use Rattle.wire.proofs.Cond.{cond-true, cond-false}
 use Rattle.wire.proofs.EntryBytes.{entries-bytes}
 use Rattle.wire.proofs.EntrySizes.{countAt, sizeAt, summedIn, pattern-count, pattern-length}
-use Rattle.complement.specs.Entering.{KindsFew, Measures, TermAt, TermListed}
+use Rattle.complement.specs.Entering.{Measures, TermAt, TermListed}
 use Rattle.complement.specs.Calls.{Patterned, bytesOf}
-use Rattle.complement.proofs.Tallying.{kinds-few}
 
 -- ---- what listedInto shows
 
@@ -69,9 +68,6 @@ module _ {p : List ℕ} {words : ℕ} {results : List ℕ} (h : Patterned p word
 
   pub few-words : words ≤ 96
   few-words = omega (arith, h .tabled .words, h .inOrder .fewWords)
-
-  pub few-kinds : KindsFew words results
-  few-kinds = kinds-few (h .inOrder) (h .tabled)
 
   pub most-bytes : length p ≤ 4096
   most-bytes = h .held .limits .most

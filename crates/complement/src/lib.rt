@@ -2,15 +2,16 @@
 ghost use mathlib.Core.Path.{_≡_};
 ghost use mathlib.Core.List.{[], _∷_, _++_};
 ghost use Prim.Native.Nat.{_+_, _≤_, _<_, _%_, _^_, suc};
-ghost use lib.ListN.{length, take, drop, replicate};
+ghost use lib.ListN.{length, take, drop};
 ghost use Rattle.wire.specs.Map.{writeMap};
 ghost use Rattle.wire.specs.Leftovers.{ListPromise};
 ghost use Rattle.wire.specs.Effect.{HasEffect};
 ghost use Rattle.wire.specs.ListComputed.{listed};
 ghost use Rattle.wire.proofs.EntryBytes.{othersBytes};
+ghost use Rattle.kinds.specs.Kinds.{Tallied, Chained};
 ghost use Rattle.complement.specs.Answers.{listNumbers};
 ghost use Rattle.complement.specs.Calls.{Patterned, HasRoom, WritesEntries, ListsLinear, ListsPattern};
-ghost use Rattle.complement.specs.Entering.{KindsFew, Byte, Tallied, Measures, othersIn, Chained, Written, TermAt, ListsTerm, PlacesAt, ListsPlaces};
+ghost use Rattle.complement.specs.Entering.{Byte, Measures, othersIn, Written, TermAt, ListsTerm, PlacesAt, ListsPlaces};
 use reader::TermAnswer;
 use reader::TermRefusal;
 use repeats::Repeat;
@@ -50,24 +51,6 @@ fn write_entry(copy: &[u8], n: usize, word: u8, out: &mut [u8])
     out[n + 1] = 0;
 }
 
-// Gives each result kind its lowest word and each word the next one of its kind, from the last word to the first; 255
-// where there is none.
-fn chain(words: usize, results: &[u8; 96], firsts: &mut [u8; 16], nexts: &mut [u8; 96])
-    requires { ⌜ words ≤ 96 ⌝ }
-    requires { ⌜ now firsts ≡ replicate 16 255 ⌝ }
-    requires { ⌜ length (now nexts) ≡ 96 ⌝ }
-    requires { ⌜ KindsFew words (now results) ⌝ }
-    ensures { λ _. ⌜ Chained words (now (results .entry)) (now (firsts .exit)) (now (nexts .exit)) ⌝ }
-{
-    let mut h = words;
-    while 0 < h {
-        h -= 1;
-        let kind = wide(results[h]);
-        nexts[h] = firsts[kind];
-        firsts[kind] = h as u8;
-    }
-}
-
 // An entry for every other word of the result kind of f, each into the rest of the lent slice behind the one before it.
 fn write_others(
     copy: &[u8],
@@ -75,7 +58,7 @@ fn write_others(
     f: usize,
     words: usize,
     results: &[u8; 96],
-    firsts: &[u8; 16],
+    firsts: &[u8; 256],
     nexts: &[u8; 96],
     out: &mut [u8],
 ) -> usize
@@ -85,7 +68,6 @@ fn write_others(
     requires { ⌜ f < words ⌝ }
     requires { ⌜ Chained words (now results) (now firsts) (now nexts) ⌝ }
     requires { ⌜ length (othersBytes (take at (now copy)) (othersIn words (now results) f)) ≤ length (now out) ⌝ }
-    requires { ⌜ KindsFew words (now results) ⌝ }
     ensures { λ r. ⌜ Written (othersBytes (take at (now (copy .entry))) (othersIn words (now (results .entry)) f)) (now (out .entry)) r (now (out .exit)) ⌝ }
 {
     let mut n = 0;
@@ -109,13 +91,13 @@ struct Progress {
 
 // The listing of the term at an offset of the copy, with so many levels left. The maps of the words above it
 // keep only the bits up to this term.
-fn list_term(
+fn list_term<'a>(
     copy: &mut [u8],
     at: usize,
     words: usize,
     results: &[u8; 96],
-    firsts: &[u8; 16],
-    nexts: &[u8; 96],
+    firsts: &'a [u8; 256],
+    nexts: &'a [u8; 96],
     left: usize,
     out: &mut [u8],
 ) -> Progress
@@ -159,14 +141,14 @@ fn list_term(
 
 // The listing of the terms of a word's written bits, the lowest first, each into the rest of the lent slice behind
 // the one before it. The word's map keeps only the bits up to each term in turn; at the end it is the pattern's again.
-fn list_places(
+fn list_places<'a>(
     copy: &mut [u8],
     at: usize,
     map: u8,
     words: usize,
     results: &[u8; 96],
-    firsts: &[u8; 16],
-    nexts: &[u8; 96],
+    firsts: &'a [u8; 256],
+    nexts: &'a [u8; 96],
     left: usize,
     out: &mut [u8],
 ) -> Progress
@@ -206,29 +188,11 @@ fn list_places(
     }
 }
 
-// How many words have each result kind.
-fn tally(words: usize, results: &[u8; 96]) -> [u8; 16]
-    requires { ⌜ words ≤ 96 ⌝ }
-    requires { ⌜ KindsFew words (now results) ⌝ }
-    ensures { λ r. ⌜ Tallied words (now (results .entry)) r ⌝ }
-{
-    let mut counts = [0u8; 16];
-    let mut h = 0;
-    while h < words {
-        let kind = wide(results[h]);
-        let n = counts[kind];
-        counts[kind] = n + 1;
-        h += 1;
-    }
-    counts
-}
-
 // How many other words have the result kind of f: all that the tally has of this kind but f.
-fn sibling_count(f: usize, words: usize, results: &[u8; 96], counts: &[u8; 16]) -> usize
+fn sibling_count(f: usize, words: usize, results: &[u8; 96], counts: &[u8; 256]) -> usize
     requires { ⌜ words ≤ 96 ⌝ }
     requires { ⌜ f < words ⌝ }
     requires { ⌜ Tallied words (now results) (now counts) ⌝ }
-    requires { ⌜ KindsFew words (now results) ⌝ }
     ensures { λ r. ⌜ r ≡ length (othersIn words (now (results .entry)) f) ⌝ }
 {
     let kind = wide(results[f]);
@@ -246,10 +210,9 @@ struct Size {
 fn measure(p: &[u8], words: usize, results: &[u8; 96]) -> Size
     requires { ⌜ words ≤ 96 ⌝ }
     requires { ⌜ length (now p) ≤ 4096 ⌝ }
-    requires { ⌜ KindsFew words (now results) ⌝ }
     ensures { λ r. ⌜ Measures (now (p .entry)) words (now (results .entry)) (r .entries) (r .bytes) ⌝ }
 {
-    let counts = tally(words, results);
+    let counts = kinds::tally(words, results);
     let mut entries = 0;
     let mut bytes = 0;
     let mut at = 1;
@@ -275,11 +238,18 @@ fn list_in(copy: &mut [u8], pattern: &[u8], words: usize, results: &[u8; 96], ou
     requires { ⌜ HasRoom (now pattern) words (now results) (length (now out)) ⌝ }
     ensures { λ _. ⌜ WritesEntries (now (pattern .entry)) words (now (results .entry)) (now (out .entry)) (now (out .exit)) ⌝ }
 {
-    let mut firsts = [255u8; 16];
-    let mut nexts = [255u8; 96];
-    chain(words, results, &mut firsts, &mut nexts);
+    let chains = kinds::chain(words, results);
     slices::copy(pattern, copy);
-    let _ = list_term(copy, 1, words, results, &firsts, &nexts, 32, out);
+    let _ = list_term(
+        copy,
+        1,
+        words,
+        results,
+        &chains.firsts,
+        &chains.nexts,
+        32,
+        out,
+    );
 }
 
 // The listing of a pattern that is accepted and in which no name stands twice. Most patterns are short, and a small

@@ -9,7 +9,6 @@ use denote.Ref.{now}
 use lib.ListN.{length, set}
 use Rattle.complement.specs.Entering.{TermAt, PlacesAt}
 use Rattle.complement.proofs.Places.{Reached, reached-none, copied-length, map-inside, out-length, done-inside, reached-all, is-bit, reached-clear, place-term, reached-term, both-inside}
-use Rattle.complement.proofs.Tallying.{kinds-few}
 use Rattle.complement.proofs.Terms.{Word, term-begun, term-word, name-listed, own-room, own-length, own-inside, word-places, word-listed, word-bare}
 use Rattle.complement.proofs.Writing.{part, written-length}
 use borrow.Fn.Kinds.{In}
@@ -26,26 +25,26 @@ use Rattle.complement.proofs.write_others.Reads as write-others-reads
 use Rattle.complement.proofs.+list_places+list_term.{statement}
 use Rattle.complement.proofs.+list_places+list_term.Tie.{close}
 
-abbrev μ-list-places : Measures 5 list-places-kinds.ps ℕ
+abbrev μ-list-places : Measures 4 list-places-kinds.ps ℕ
 μ-list-places κs a = 2 * (a .1 .1 .1 .1 .1 .1 .1 .0) - 1
 
-abbrev μ-list-term : Measures 5 list-term-kinds.ps ℕ
+abbrev μ-list-term : Measures 4 list-term-kinds.ps ℕ
 μ-list-term κs a = 2 * (a .1 .1 .1 .1 .1 .1 .0)
 
-abbrev list-places-at : ℕ → In 5 list-places-kinds.ps
+abbrev list-places-at : ℕ → In 4 list-places-kinds.ps
 list-places-at t =
-    and 5 list-places-kinds.ps (is 5 list-places-kinds.ps μ-list-places t) list-places.Pre
+    and 4 list-places-kinds.ps (is 4 list-places-kinds.ps μ-list-places t) list-places.Pre
 
-abbrev list-places-below : ℕ → In 5 list-places-kinds.ps
+abbrev list-places-below : ℕ → In 4 list-places-kinds.ps
 list-places-below t =
-    and 5 list-places-kinds.ps (falls 5 list-places-kinds.ps _<_ μ-list-places t) list-places.Pre
+    and 4 list-places-kinds.ps (falls 4 list-places-kinds.ps _<_ μ-list-places t) list-places.Pre
 
-abbrev list-term-at : ℕ → In 5 list-term-kinds.ps
-list-term-at t = and 5 list-term-kinds.ps (is 5 list-term-kinds.ps μ-list-term t) list-term.Pre
+abbrev list-term-at : ℕ → In 4 list-term-kinds.ps
+list-term-at t = and 4 list-term-kinds.ps (is 4 list-term-kinds.ps μ-list-term t) list-term.Pre
 
-abbrev list-term-below : ℕ → In 5 list-term-kinds.ps
+abbrev list-term-below : ℕ → In 4 list-term-kinds.ps
 list-term-below t =
-    and 5 list-term-kinds.ps (falls 5 list-term-kinds.ps _<_ μ-list-term t) list-term.Pre
+    and 4 list-term-kinds.ps (falls 4 list-term-kinds.ps _<_ μ-list-term t) list-term.Pre
 
 abbrev list-places-Inv-loop : list-places-lts.InvT-loop
 list-places-Inv-loop copy₀ at map words results firsts nexts left out₀ n₀ next₀ b₀ bits₀ copy out n next b bits =
@@ -208,7 +207,7 @@ list-term-write-others-requires t c κs =
     let h = start .pre .1 .1 in
     let w = term-word h (at-if1 .if1 .left) in
     let z = term-begun h in
-    (omega (arith, z .inside), (omega (arith, z .inside, h .size), (z .few, (omega (arith, w .known, at-wide .wide .ensures .same), (start .pre .1 .0, (own-room (now (start .args .out)) h w (at-wide .wide .ensures .same), kinds-few (h .inOrder) (h .tabled)))))))
+    (omega (arith, z .inside), (omega (arith, z .inside, h .size), (z .few, (omega (arith, w .known, at-wide .wide .ensures .same), (start .pre .1 .0, own-room (now (start .args .out)) h w (at-wide .wide .ensures .same))))))
 
 -- Where list_term has written a word's own entries.
 module _ (t : ℕ) (c : list-term-lts.After-write-others (term-claims t) (list-term-at t) list-term.Post) where

@@ -5,8 +5,7 @@ use native.Mathlib.Omega.{arith}
 use denote.Ref.{now}
 use lib.ListN.{take}
 use lib.Seq.{length-take-le}
-use Rattle.complement.proofs.Tallying.{kind-low}
-use Rattle.complement.proofs.Chaining.{Followed, followed-none, followed-less, followed-room, followed-taken, followed-left, followed-all}
+use Rattle.complement.proofs.Following.{Followed, followed-none, followed-less, followed-room, followed-taken, followed-left, followed-all}
 use Rattle.complement.proofs.write_others.Statement.{statement}
 use Rattle.complement.proofs.write_others.Tie as tie
 
@@ -23,9 +22,7 @@ wide-requires : tie.Need-wide-requires Inv-loop μ-loop
 wide-requires c κs = search needs
 
 element-copy-out-wide-2 : tie.Need-element-copy-out-wide-2 Inv-loop μ-loop
-element-copy-out-wide-2 c =
-    let start = c .before .before .before .before in
-    kind-low (start .pre .1 .1 .1 .1 .1 .1) (start .pre .1 .1 .1 .0) (c .wide .ensures .same)
+element-copy-out-wide-2 c = c .wide .ensures .small
 
 wide-requires-2 : tie.Need-wide-requires-2 Inv-loop μ-loop
 wide-requires-2 c κs = search needs
@@ -34,7 +31,7 @@ loop-holds : tie.Need-loop-holds Inv-loop μ-loop
 loop-holds c =
     let at-wide = c .before .before in
     let start = at-wide .before .before .before .before in
-    followed-none (start .pre .1 .1 .0) (start .pre .1 .1 .1 .1 .0) (start .pre .1 .1 .1 .1 .1 .0) _ _ (at-wide .wide .ensures .same) (kind-low (start .pre .1 .1 .1 .1 .1 .1) (start .pre .1 .1 .1 .0) (at-wide .wide .ensures .same)) (c .wide2 .ensures .same)
+    followed-none (start .pre .1 .1 .0) (start .pre .1 .1 .1 .1 .0) (start .pre .1 .1 .1 .1 .1) _ _ (at-wide .wide .ensures .same) (at-wide .wide .ensures .small) (c .wide2 .ensures .same)
 
 element-copy-out-wide-3 : tie.Need-element-copy-out-wide-3 Inv-loop μ-loop
 element-copy-out-wide-3 c = search needs

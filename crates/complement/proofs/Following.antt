@@ -1,20 +1,26 @@
--- Chaining: each word gets the next one of its result kind, and the others of a word's kind are found by going from one to the next.
+-- Following: the others of a word's result kind are found by going from one word of the kind to the next.
+--
+--   least-from, least-inside, least-outside   the lowest number of a range that passes a test
+--   Followed                  the loop: h is the next word of the kind, and the others before it have their entries
+--   followed-none, -all       it begins, and it ends
+--   followed-room, -less      the next entry has room, and the next word is a higher one
+--   followed-taken, -left     a turn, at another word and at the word itself
+--
 use mathlib.Core.Path.{_≡_, refl, sym, ap, ap₂, _∙_, subst}
 use mathlib.Core.Bool.{Bool, true, false, not, _&&_, cond, and-comm}
 use mathlib.Core.List.{List, [], _∷_, _++_}
 use Prim.Native.Nat.{ℕ, zero, suc, _+_, _-_, _<_, _≤_}
-use native.Mathlib.Decide.{ℕ-discrete}
 use native.Mathlib.Omega.{arith}
 use lib.Dec.{eqb}
-use lib.ListN.{length, getD, drop, set, replicate, length-set, getD-replicate}
-use lib.Seq.{getD-set-same, getD-set-other}
-use borrow.Author.Tests.{eq-eqb, ne-eqb, eqb-true, eqb-false}
+use lib.ListN.{length, getD, drop}
+use borrow.Author.Tests.{eq-eqb, ne-eqb, eqb-true}
 use Rattle.terms.specs.Lists.{range, keep}
 use Rattle.terms.proofs.Keep.{keep-keep, keep-same}
+use Rattle.wire.specs.Map.{writeMap}
 use Rattle.wire.proofs.Cond.{cond-true, cond-false}
 use Rattle.wire.proofs.EntryBytes.{othersBytes}
-use Rattle.wire.specs.Map.{writeMap}
-use Rattle.complement.specs.Entering.{isOther, othersIn, hasKind, lowest, Chained, Written}
+use Rattle.kinds.specs.Kinds.{hasKind, lowest, Chained}
+use Rattle.complement.specs.Entering.{isOther, othersIn, Written}
 use Rattle.complement.proofs.Siblings.{Listed, listed-none, listed-room, listed-taken, listed-all}
 use Rattle.complement.proofs.Writing.{part, back}
 
@@ -63,84 +69,6 @@ module _ (t : ℕ → Bool) where
           cond-false (t from) _ _ p
           ∙ rest (omega (arith, ap (λ l. getD l 0 255) (cond-false (t from) (from ∷ keep t (range (suc from) c)) (keep t (range (suc from) c)) p)))
 
-range-first : (n g : ℕ) → g < n → range g (n - g) ≡ g ∷ range (g + 1) (n - (g + 1))
-range-first n g k =
-    ap (range g) (let e : n - g ≡ suc (n - (g + 1)) = omega arith in e)
-    ∙ ap (λ i. g ∷ range i (n - (g + 1))) (let e : suc g ≡ g + 1 = omega arith in e)
-
-module _ (n : ℕ) (results : List ℕ) (k g : ℕ) (inside : g < n) where
-  lowest-here : hasKind results k g ≡ true → lowest n results k g ≡ g
-  lowest-here e =
-      ap (λ l. getD (keep (hasKind results k) l) 0 255) (range-first n g inside) ∙ ap (λ l. getD l 0 255) (cond-true (hasKind results k g) _ _ e)
-
-  lowest-behind : hasKind results k g ≡ false → lowest n results k g ≡ lowest n results k (g + 1)
-  lowest-behind e =
-      ap (λ l. getD (keep (hasKind results k) l) 0 255) (range-first n g inside) ∙ ap (λ l. getD l 0 255) (cond-false (hasKind results k g) _ _ e)
-
--- ---- the chain is made
-
--- The words from h on are chained.
-pub record ChainedFrom (n : ℕ) (results firsts nexts : List ℕ) (h : ℕ) : Type 0 where
-  pub below : h ≤ n
-  pub kinds : length firsts ≡ 16
-  pub words : length nexts ≡ 96
-  pub first : (k : ℕ) → k < 16 → getD firsts k 0 ≡ lowest n results k h
-  pub next : (g : ℕ) → h ≤ g → g < n → getD nexts g 0 ≡ lowest n results (getD results g 0) (g + 1)
-
-pub chained-none : {n : ℕ} {results firsts nexts : List ℕ} → firsts ≡ replicate 16 255 → length nexts ≡ 96 →
-    ChainedFrom n results firsts nexts n
-chained-none {n} {results} {firsts} {nexts} e s = record {
-  below = omega arith;
-  kinds = ap length e;
-  words = s;
-  first = λ k low.
-      ap (λ l. getD l k 0) e ∙ getD-replicate 16 k 255 0 low
-      ∙ ap (λ c. getD (keep (hasKind results k) (range n c)) 0 255) (let z : 0 ≡ n - n = omega arith in z);
-  next = λ g a b. absurd (omega arith);
-}
-
-pub chained-all : {n : ℕ} {results firsts nexts : List ℕ} {h : ℕ} → ChainedFrom n results firsts nexts h → h ≤ 0 →
-    Chained n results firsts nexts
-chained-all {n} {results} {firsts} {nexts} {h} c z = record {
-  first = λ k low. c .first k low ∙ ap (lowest n results k) (let e : h ≡ 0 = omega arith in e);
-  next = λ g b. c .next g (omega arith) b;
-}
-
-module _ {n : ℕ} {results firsts nexts : List ℕ} {h : ℕ} (small : n ≤ 96) (c : ChainedFrom n results firsts nexts h) (some : 0 < h)
-    (k : ℕ) (same : k ≡ getD results (h - 1) 0) (low : k < 16) where
-  abbrev g : ℕ
-  g = h - 1
-
-  first-more : (j : ℕ) → j < 16 → (b : Bool) → hasKind results j g ≡ b → getD (set firsts k g) j 0 ≡ lowest n results j g
-  first-more j l true e =
-      let here : j ≡ k = sym (eqb-true (getD results g 0) j e) ∙ sym same in
-      ap (λ i. getD (set firsts k g) i 0) here ∙ getD-set-same firsts k g 0 (let s = c .kinds in omega arith)
-      ∙ sym (lowest-here n results j g (let b = c .below in omega arith) e)
-  first-more j l false e =
-      getD-set-other firsts k j g 0 (λ z. eqb-false (getD results g 0) j e (sym same ∙ sym z))
-      ∙ c .first j l
-      ∙ ap (lowest n results j) (let z : h ≡ g + 1 = omega arith in z)
-      ∙ sym (lowest-behind n results j g (let b = c .below in omega arith) e)
-
-  pub chained-turn : ChainedFrom n results (set firsts k g) (set nexts g (getD firsts k 0)) g
-  chained-turn = record {
-    below = let b = c .below in omega arith;
-    kinds = length-set firsts k g ∙ c .kinds;
-    words = length-set nexts g (getD firsts k 0) ∙ c .words;
-    first = λ j l. first-more j l (hasKind results j g) refl;
-    next = λ i a b. elim (ℕ-discrete i g) [ yes e ↦ here i e | no e ↦ there i a b e ];
-  }
-    where
-      here : (i : ℕ) → i ≡ g → getD (set nexts g (getD firsts k 0)) i 0 ≡ lowest n results (getD results i 0) (i + 1)
-      here i e =
-          ap (λ i. getD (set nexts g (getD firsts k 0)) i 0) e
-          ∙ getD-set-same nexts g (getD firsts k 0) 0 (let b = c .below in let s = c .words in omega arith)
-          ∙ c .first k low
-          ∙ ap₂ (lowest n results) (same ∙ ap (λ i. getD results i 0) (sym e)) (let z : h ≡ i + 1 = omega arith in z)
-
-      there : (i : ℕ) → g ≤ i → i < n → (i ≡ g → ⊥) → getD (set nexts g (getD firsts k 0)) i 0 ≡ lowest n results (getD results i 0) (i + 1)
-      there i a b e = getD-set-other nexts g i (getD firsts k 0) 0 e ∙ c .next i (omega arith) b
-
 -- ---- the chain is followed
 
 abbrev isNot : ℕ → ℕ → Bool
@@ -174,7 +102,7 @@ pub record Followed (front : List ℕ) (words : ℕ) (results firsts nexts : Lis
 
 module _ {front : List ℕ} {words : ℕ} {results firsts nexts : List ℕ} {f : ℕ} {before : List ℕ} where
   pub followed-none : words ≤ 96 → Chained words results firsts nexts → length (othersBytes front (othersIn words results f)) ≤ length before →
-      (k h : ℕ) → k ≡ getD results f 0 → k < 16 → h ≡ getD firsts k 0 → Followed front words results firsts nexts f before h 0 before
+      (k h : ℕ) → k ≡ getD results f 0 → k < 256 → h ≡ getD firsts k 0 → Followed front words results firsts nexts f before h 0 before
   followed-none small c room k h e low s = record {
     small = small;
     chained = c;
@@ -217,7 +145,7 @@ module _ {front : List ℕ} {words : ℕ} {results firsts nexts : List ℕ} {f :
       module _ (m : ℕ) (step : m ≡ getD nexts h 0) where
         next-word : m ≡ lowest words results (getD results f 0) (h + 1)
         next-word =
-            step ∙ w .chained .next h inside
+            step ∙ w .chained .next h (let s = w .small in omega arith)
             ∙ ap (λ k. lowest words results k (h + 1)) (eqb-true (getD results h 0) (getD results f 0) (here .0))
 
         pub followed-less : h < m
