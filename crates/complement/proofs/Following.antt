@@ -17,8 +17,8 @@ use borrow.Author.Tests.{eq-eqb, ne-eqb, eqb-true}
 use Rattle.terms.specs.Lists.{range, keep}
 use Rattle.terms.proofs.Keep.{keep-keep, keep-same}
 use Rattle.wire.specs.Map.{writeMap}
+use Rattle.wire.specs.EntryBytes.{othersBytes}
 use Rattle.wire.proofs.Cond.{cond-true, cond-false}
-use Rattle.wire.proofs.EntryBytes.{othersBytes}
 use Rattle.kinds.specs.Kinds.{hasKind, lowest, Chained}
 use Rattle.complement.specs.Entering.{isOther, othersIn, Written}
 use Rattle.complement.proofs.Siblings.{Listed, listed-none, listed-room, listed-taken, listed-all}

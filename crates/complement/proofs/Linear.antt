@@ -16,9 +16,10 @@ use Rattle.wire.specs.TermBytes.{encodeAt, encodeRoot, levels, mostBytes}
 use Rattle.wire.specs.Effect.{Effect, HasEffect}
 use Rattle.wire.specs.ListComputed.{listedInto}
 use Rattle.wire.specs.Leftovers.{entriesBytes, entriesOf}
+use Rattle.wire.specs.EntrySizes.{countAt, sizeAt, summedIn}
 use Rattle.wire.proofs.Cond.{cond-true, cond-false}
 use Rattle.wire.proofs.EntryBytes.{entries-bytes}
-use Rattle.wire.proofs.EntrySizes.{countAt, sizeAt, summedIn, pattern-count, pattern-length}
+use Rattle.wire.proofs.EntrySizes.{pattern-count, pattern-length}
 use Rattle.complement.specs.Entering.{Measures, TermAt, TermListed}
 use Rattle.complement.specs.Calls.{Patterned, bytesOf}
 

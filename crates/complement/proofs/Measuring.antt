@@ -1,7 +1,7 @@
 -- Measuring: one pass over the pattern's bytes gives the number of entries and of bytes.
 use mathlib.Core.Path.{_≡_, refl, sym, ap, ap₂, _∙_, subst}
 use mathlib.Core.List.{List, [], _∷_}
-use Prim.Native.Nat.{ℕ, zero, suc, _+_, _*_, _<_, _≤_}
+use Prim.Native.Nat.{ℕ, suc, _+_, _*_, _<_, _≤_}
 use native.Mathlib.Nat.{mul-le-mul}
 use native.Mathlib.Numerals.{add-one}
 use native.Mathlib.Omega.{arith}
@@ -11,8 +11,8 @@ use borrow.Author.Tests.{lt-ltb, le-ltb}
 use Rattle.wire.specs.Map.{mapBytes}
 use Rattle.wire.specs.Vocabulary.{Vocabulary}
 use Rattle.wire.specs.Parser.{isWord}
+use Rattle.wire.specs.EntrySizes.{countAt, sizeAt, summedIn}
 use Rattle.wire.proofs.Cond.{cond-true, cond-false}
-use Rattle.wire.proofs.EntrySizes.{countAt, sizeAt, summedIn}
 use Rattle.signature.specs.Tables.{Tabled}
 use Rattle.complement.specs.Entering.{othersIn, Measures}
 use Rattle.complement.proofs.Others.{others-tabled}

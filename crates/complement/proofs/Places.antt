@@ -14,9 +14,10 @@ use Rattle.terms.specs.Term.{Term, Terms, nil, cons}
 use Rattle.wire.specs.Map.{mapBits, mapBytes, writeMap, flags}
 use Rattle.wire.specs.Vocabulary.{Vocabulary}
 use Rattle.wire.specs.TermBytes.{encodeAt, encodeAll, levels, levelsAll}
-use Rattle.wire.proofs.EntryBytes.{spots, spotsBytes, spots-bytes-append}
-use Rattle.wire.proofs.EntryMaps.{bitSpots}
-use Rattle.wire.proofs.EntryWalk.{Stands, flags-at, copy-patched}
+use Rattle.wire.specs.EntryBytes.{spots, spotsBytes}
+use Rattle.wire.specs.EntryMaps.{Stands, bitSpots}
+use Rattle.wire.proofs.EntryBytes.{spots-bytes-append}
+use Rattle.wire.proofs.EntryWalk.{flags-at, copy-patched}
 use Rattle.complement.specs.Entering.{Written, TermAt, TermListed, PlacesAt, PlacesListed}
 use Rattle.complement.proofs.Writing.{part, back, part-room, written-none, written-more, written-length}
 

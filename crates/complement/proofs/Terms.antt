@@ -13,9 +13,10 @@ use Rattle.wire.specs.Map.{writeMap, flags, isOpen}
 use Rattle.wire.specs.Vocabulary.{Vocabulary, signature}
 use Rattle.wire.specs.TermBytes.{nameByte, writtenMap, encodeAt, encodeAll, levels, levelsAll}
 use Rattle.wire.proofs.Words.{length-symbols}
-use Rattle.wire.proofs.EntryBytes.{othersBytes, spots, spotsBytes}
-use Rattle.wire.proofs.EntryMaps.{closed, closed-bytes, bitSpots, spots-by-bits}
-use Rattle.wire.proofs.EntryWalk.{Stands, closed-stands, word-bytes}
+use Rattle.wire.specs.EntryBytes.{othersBytes, spots, spotsBytes}
+use Rattle.wire.specs.EntryMaps.{closed, Stands, bitSpots}
+use Rattle.wire.proofs.EntryMaps.{closed-bytes, spots-by-bits}
+use Rattle.wire.proofs.EntryWalk.{closed-stands, word-bytes}
 use Rattle.complement.specs.Entering.{othersIn, Written, TermAt, TermListed, PlacesAt, PlacesListed}
 use Rattle.complement.proofs.Others.{others-tabled}
 use Rattle.complement.proofs.Places.{places-none}

@@ -13,7 +13,7 @@
 use mathlib.Core.Path.{_≡_}
 use mathlib.Core.Bool.{Bool, false, not, _&&_}
 use mathlib.Core.List.{List, [], _∷_, _++_}
-use Prim.Native.Nat.{ℕ, suc, _+_, _-_, _<_, _≤_}
+use Prim.Native.Nat.{ℕ, suc, _+_, _<_, _≤_}
 use lib.Dec.{eqb}
 use lib.ListN.{length, getD, drop}
 use Rattle.terms.specs.Lists.{range, keep}
@@ -21,10 +21,9 @@ use Rattle.terms.specs.Term.{Term, Terms, Sorted}
 use Rattle.wire.specs.Map.{mapBytes, writeMap, flags, isOpen}
 use Rattle.wire.specs.Vocabulary.{Vocabulary, InOrder, signature}
 use Rattle.wire.specs.TermBytes.{encodeAt, encodeAll, levels, levelsAll, mostBytes}
-use Rattle.wire.proofs.EntrySizes.{countAt, sizeAt, summedIn}
-use Rattle.wire.proofs.EntryBytes.{spots, spotsBytes}
-use Rattle.wire.proofs.EntryMaps.{bitSpots}
-use Rattle.wire.proofs.EntryWalk.{Stands}
+use Rattle.wire.specs.EntrySizes.{countAt, sizeAt, summedIn}
+use Rattle.wire.specs.EntryBytes.{spots, spotsBytes}
+use Rattle.wire.specs.EntryMaps.{Stands, bitSpots}
 use Rattle.signature.specs.Tables.{Tabled}
 
 pub record Byte (b n : ℕ) : Type 0 where

@@ -1,13 +1,13 @@
 // Document 01's call list: the leftovers of a pattern.
 ghost use mathlib.Core.Path.{_≡_};
-ghost use mathlib.Core.List.{[], _∷_, _++_};
+ghost use mathlib.Core.List.{_∷_, _++_};
 ghost use Prim.Native.Nat.{_+_, _≤_, _<_, _%_, _^_, suc};
 ghost use lib.ListN.{length, take, drop};
 ghost use Rattle.wire.specs.Map.{writeMap};
 ghost use Rattle.wire.specs.Leftovers.{ListPromise};
 ghost use Rattle.wire.specs.Effect.{HasEffect};
 ghost use Rattle.wire.specs.ListComputed.{listed};
-ghost use Rattle.wire.proofs.EntryBytes.{othersBytes};
+ghost use Rattle.wire.specs.EntryBytes.{othersBytes};
 ghost use Rattle.kinds.specs.Kinds.{Tallied, Chained};
 ghost use Rattle.complement.specs.Answers.{listNumbers};
 ghost use Rattle.complement.specs.Calls.{Patterned, HasRoom, WritesEntries, ListsLinear, ListsPattern};

@@ -24,6 +24,9 @@ pub mod CheckComputed
 pub mod SituationComputed
 pub mod MatchComputed
 pub mod ListComputed
+pub mod EntryBytes
+pub mod EntryMaps
+pub mod EntrySizes
 pub mod PrintComputed
 -- What is proved of all of it, and the starred cases:
 pub mod Laws
