@@ -89,9 +89,9 @@ left-all words results f =
     ∙ ap (λ c. keep (isNot f) (keep kept (range 0 c))) (let e : words ≡ words - 0 = omega arith in e)
 
 -- h is the next word of the kind of f, and the others before it have their entries.
-pub record Followed (front : List ℕ) (words : ℕ) (results firsts nexts : List ℕ) (f : ℕ) (before : List ℕ) (h n : ℕ) (out : List ℕ) : Type 0 where
+pub record Followed (front : List ℕ) (words : ℕ) (results chains : List ℕ) (f : ℕ) (before : List ℕ) (h n : ℕ) (out : List ℕ) : Type 0 where
   pub small : words ≤ 96
-  pub chained : Chained words results firsts nexts
+  pub chained : Chained words results chains
   pub room : length (othersBytes front (othersIn words results f)) ≤ length before
   pub from : ℕ
   pub below : from ≤ words
@@ -100,9 +100,9 @@ pub record Followed (front : List ℕ) (words : ℕ) (results firsts nexts : Lis
   pub inside : n ≤ length before
   pub listed : Listed front (othersIn words results f) before (left words results f from) n out
 
-module _ {front : List ℕ} {words : ℕ} {results firsts nexts : List ℕ} {f : ℕ} {before : List ℕ} where
-  pub followed-none : words ≤ 96 → Chained words results firsts nexts → length (othersBytes front (othersIn words results f)) ≤ length before →
-      (k h : ℕ) → k ≡ getD results f 0 → k < 256 → h ≡ getD firsts k 0 → Followed front words results firsts nexts f before h 0 before
+module _ {front : List ℕ} {words : ℕ} {results chains : List ℕ} {f : ℕ} {before : List ℕ} where
+  pub followed-none : words ≤ 96 → Chained words results chains → length (othersBytes front (othersIn words results f)) ≤ length before →
+      (k h : ℕ) → k ≡ getD results f 0 → k < 256 → h ≡ getD chains k 0 → Followed front words results chains f before h 0 before
   followed-none small c room k h e low s = record {
     small = small;
     chained = c;
@@ -116,7 +116,7 @@ module _ {front : List ℕ} {words : ℕ} {results firsts nexts : List ℕ} {f :
         (listed-none front (othersIn words results f) room);
   }
 
-  module _ {h n : ℕ} {out : List ℕ} (w : Followed front words results firsts nexts f before h n out) where
+  module _ {h n : ℕ} {out : List ℕ} (w : Followed front words results chains f before h n out) where
     pub followed-all : words ≤ h → Written (othersBytes front (othersIn words results f)) before n out
     followed-all k =
         let b = w .below in
@@ -142,7 +142,7 @@ module _ {front : List ℕ} {words : ℕ} {results firsts nexts : List ℕ} {f :
       pub followed-room : (h ≡ f → ⊥) → {at : ℕ} → length front ≡ at → at + 2 ≤ length (part n out)
       followed-room apart begins = listed-room front (othersIn words results f) (w .room) begins (next-listed apart)
 
-      module _ (m : ℕ) (step : m ≡ getD nexts h 0) where
+      module _ (m : ℕ) (step : m ≡ getD chains (256 + h) 0) where
         next-word : m ≡ lowest words results (getD results f 0) (h + 1)
         next-word =
             step ∙ w .chained .next h (let s = w .small in omega arith)
@@ -154,7 +154,7 @@ module _ {front : List ℕ} {words : ℕ} {results firsts nexts : List ℕ} {f :
             omega (arith, next-word, least-from (hasKind results (getD results f 0)) (words - (h + 1)) (h + 1) (omega arith))
 
         followed-on : {i : ℕ} {ys : List ℕ} → Listed front (othersIn words results f) before (left words results f (h + 1)) i ys →
-            Followed front words results firsts nexts f before m i ys
+            Followed front words results chains f before m i ys
         followed-on l = record {
           small = w .small;
           chained = w .chained;
@@ -170,12 +170,12 @@ module _ {front : List ℕ} {words : ℕ} {results firsts nexts : List ℕ} {f :
         -- The word is another.
         pub followed-taken : (h ≡ f → ⊥) → {at : ℕ} → length front ≡ at → {ys : List ℕ} →
             ys ≡ (front ++ (h ∷ writeMap 0)) ++ drop (at + 2) (part n out) →
-            Followed front words results firsts nexts f before m (n + at + 2) (back n out ys)
+            Followed front words results chains f before m (n + at + 2) (back n out ys)
         followed-taken apart begins y =
             followed-on (listed-taken front (othersIn words results f) (w .room) begins (next-listed apart) y)
 
         -- The word is f itself.
-        pub followed-left : h ≡ f → Followed front words results firsts nexts f before m n out
+        pub followed-left : h ≡ f → Followed front words results chains f before m n out
         followed-left e =
             let same : left words results f (w .from) ≡ left words results f (h + 1) =
             ap (keep (isNot f)) (here .1) ∙ cond-false (isNot f h) _ _ (ap not (eq-eqb h f e)) in

@@ -46,7 +46,7 @@ fn write_entry(copy: &[u8], n: usize, word: u8, out: &mut [u8])
     requires { ⌜ n + 2 ≤ length (now out) ⌝ }
     ensures { λ _. ⌜ now (out .exit) ≡ (take n (now (copy .entry)) ++ (word ∷ writeMap 0)) ++ drop (n + 2) (now (out .entry)) ⌝ }
 {
-    slices::copy(&copy[..n], out);
+    slices::copy(&copy[..n], &mut out[..n]);
     out[n] = word;
     out[n + 1] = 0;
 }
@@ -58,23 +58,22 @@ fn write_others(
     f: usize,
     words: usize,
     results: &[u8; 96],
-    firsts: &[u8; 256],
-    nexts: &[u8; 96],
+    chains: &[u8; 352],
     out: &mut [u8],
 ) -> usize
     requires { ⌜ at ≤ length (now copy) ⌝ }
     requires { ⌜ at ≤ 4096 ⌝ }
     requires { ⌜ words ≤ 96 ⌝ }
     requires { ⌜ f < words ⌝ }
-    requires { ⌜ Chained words (now results) (now firsts) (now nexts) ⌝ }
+    requires { ⌜ Chained words (now results) (now chains) ⌝ }
     requires { ⌜ length (othersBytes (take at (now copy)) (othersIn words (now results) f)) ≤ length (now out) ⌝ }
     ensures { λ r. ⌜ Written (othersBytes (take at (now (copy .entry))) (othersIn words (now (results .entry)) f)) (now (out .entry)) r (now (out .exit)) ⌝ }
 {
     let mut n = 0;
-    let mut h = wide(firsts[wide(results[f])]);
+    let mut h = wide(chains[wide(results[f])]);
     while h < words {
         let g = h;
-        h = wide(nexts[g]);
+        h = wide(chains[256 + g]);
         if g != f {
             write_entry(copy, at, g as u8, &mut out[n..]);
             n = n + at + 2;
@@ -91,68 +90,55 @@ struct Progress {
 
 // The listing of the term at an offset of the copy, with so many levels left. The maps of the words above it
 // keep only the bits up to this term.
-fn list_term<'a>(
+fn list_term(
     copy: &mut [u8],
     at: usize,
     words: usize,
     results: &[u8; 96],
-    firsts: &'a [u8; 256],
-    nexts: &'a [u8; 96],
+    chains: &[u8; 352],
     left: usize,
     out: &mut [u8],
 ) -> Progress
-    requires { ⌜ Chained words (now results) (now firsts) (now nexts) ⌝ }
+    requires { ⌜ Chained words (now results) (now chains) ⌝ }
     requires { ⌜ TermAt (now copy) at words (now results) left (length (now out)) ⌝ }
     ensures { λ r. ⌜ ListsTerm (now (copy .entry)) at words (now (results .entry)) left (now (out .entry)) (now (copy .exit)) (now (out .exit)) (r .at) (r .written) ⌝ }
 {
     let first = copy[at];
     if 127 < first {
+        let end = at + 1;
         return Progress {
-            at: at + 1,
+            at: end,
             written: 0,
         };
     }
     let map = copy[at + 1];
-    let n = write_others(copy, at, wide(first), words, results, firsts, nexts, out);
+    let n = write_others(copy, at, wide(first), words, results, chains, out);
     if map == 0 {
+        let end = at + 2;
         return Progress {
-            at: at + 2,
+            at: end,
             written: n,
         };
     }
-    let below = list_places(
-        copy,
-        at,
-        map,
-        words,
-        results,
-        firsts,
-        nexts,
-        left,
-        &mut out[n..],
-    );
+    let below = list_places(copy, at, map, words, results, chains, left, &mut out[n..]);
     let end = below.at;
-    let more = below.written;
-    Progress {
-        at: end,
-        written: n + more,
-    }
+    let written = n + below.written;
+    Progress { at: end, written }
 }
 
 // The listing of the terms of a word's written bits, the lowest first, each into the rest of the lent slice behind
 // the one before it. The word's map keeps only the bits up to each term in turn; at the end it is the pattern's again.
-fn list_places<'a>(
+fn list_places(
     copy: &mut [u8],
     at: usize,
     map: u8,
     words: usize,
     results: &[u8; 96],
-    firsts: &'a [u8; 256],
-    nexts: &'a [u8; 96],
+    chains: &[u8; 352],
     left: usize,
     out: &mut [u8],
 ) -> Progress
-    requires { ⌜ Chained words (now results) (now firsts) (now nexts) ⌝ }
+    requires { ⌜ Chained words (now results) (now chains) ⌝ }
     requires { ⌜ PlacesAt (now copy) at map words (now results) left (length (now out)) ⌝ }
     ensures { λ r. ⌜ ListsPlaces (now (copy .entry)) at map words (now (results .entry)) left (now (out .entry)) (now (copy .exit)) (now (out .exit)) (r .at) (r .written) ⌝ }
 {
@@ -167,16 +153,7 @@ fn list_places<'a>(
         bits = bits / 2;
         if bit == 1 {
             copy[at + 1] = kept(map, place);
-            let here = list_term(
-                copy,
-                next,
-                words,
-                results,
-                firsts,
-                nexts,
-                left - 1,
-                &mut out[n..],
-            );
+            let here = list_term(copy, next, words, results, chains, left - 1, &mut out[n..]);
             next = here.at;
             n = n + here.written;
         }
@@ -240,16 +217,7 @@ fn list_in(copy: &mut [u8], pattern: &[u8], words: usize, results: &[u8; 96], ou
 {
     let chains = kinds::chain(words, results);
     slices::copy(pattern, copy);
-    let _ = list_term(
-        copy,
-        1,
-        words,
-        results,
-        &chains.firsts,
-        &chains.nexts,
-        32,
-        out,
-    );
+    let _ = list_term(copy, 1, words, results, &chains, 32, out);
 }
 
 // The listing of a pattern that is accepted and in which no name stands twice. Most patterns are short, and a small

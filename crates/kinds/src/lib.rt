@@ -37,24 +37,18 @@ pub fn tally(words: usize, results: &[u8; 96]) -> [u8; 256]
     counts
 }
 
-// The lowest word of each result kind, and for each word the next one of its kind; 255 where there is none.
-pub struct Chains {
-    pub firsts: [u8; 256],
-    pub nexts: [u8; 96],
-}
-
-// Chains the first words, from the last to the first.
-pub fn chain(words: usize, results: &[u8; 96]) -> Chains
-    ensures { λ r. ⌜ Chained (min words mostWords) (now (results .entry)) (r .firsts) (r .nexts) ⌝ }
+// Chains the first words, from the last to the first: for each result kind its lowest word, and from 256 on for each word
+// the next one of its kind; 255 where there is none.
+pub fn chain(words: usize, results: &[u8; 96]) -> [u8; 352]
+    ensures { λ r. ⌜ Chained (min words mostWords) (now (results .entry)) r ⌝ }
 {
-    let mut firsts = [255u8; 256];
-    let mut nexts = [255u8; 96];
+    let mut chains = [255u8; 352];
     let mut h = tabled(words);
     while 0 < h {
         h -= 1;
         let kind = wide(results[h]);
-        nexts[h] = firsts[kind];
-        firsts[kind] = h as u8;
+        chains[256 + h] = chains[kind];
+        chains[kind] = h as u8;
     }
-    Chains { firsts, nexts }
+    chains
 }

@@ -95,31 +95,6 @@ fn copy_few(from: &[u8], n: usize, to: &mut [u8])
     move_block(from, n - 8, 8, to);
 }
 
-// Copies the first n bytes, at most 4096: where they are not many, the last ones as blocks that may overlap.
-fn copy_front(from: &[u8], n: usize, to: &mut [u8])
-    requires { ⌜ n ≤ length (now from) ⌝ }
-    requires { ⌜ n ≤ 4096 ⌝ }
-    requires { ⌜ n ≤ length (now to) ⌝ }
-    ensures { λ _. ⌜ now (to .exit) ≡ begun (now (from .entry)) (now (to .entry)) n ⌝ }
-{
-    if n < 16 {
-        copy_few(from, n, to);
-        return;
-    }
-    if 128 < n {
-        move_block(from, 0, n, to);
-        return;
-    }
-    let whole = n / 32 * 32;
-    copy_bytes(from, whole, to);
-    if n - whole < 16 {
-        move_block(from, n - 16, 16, to);
-        return;
-    }
-    move_block(from, whole, 16, to);
-    move_block(from, n - 16, 16, to);
-}
-
 // Copies the first n bytes in blocks of 4096, and what is left as one more.
 fn copy_blocks(from: &[u8], n: usize, to: &mut [u8])
     requires { ⌜ n ≤ length (now from) ⌝ }
@@ -134,14 +109,33 @@ fn copy_blocks(from: &[u8], n: usize, to: &mut [u8])
     move_block(from, at, n - at, to);
 }
 
+// Copies the first n bytes: where they are not many, the last ones as blocks that may overlap.
+fn copy_front(from: &[u8], n: usize, to: &mut [u8])
+    requires { ⌜ n ≤ length (now from) ⌝ }
+    requires { ⌜ n ≤ length (now to) ⌝ }
+    ensures { λ _. ⌜ now (to .exit) ≡ begun (now (from .entry)) (now (to .entry)) n ⌝ }
+{
+    if n < 16 {
+        copy_few(from, n, to);
+        return;
+    }
+    if 128 < n {
+        copy_blocks(from, n, to);
+        return;
+    }
+    let whole = n / 32 * 32;
+    copy_bytes(from, whole, to);
+    if n - whole < 16 {
+        move_block(from, n - 16, 16, to);
+        return;
+    }
+    move_block(from, whole, 16, to);
+    move_block(from, n - 16, 16, to);
+}
+
 // Copies the bytes of one slice to the front of another, as many as the shorter has. Those behind stay.
 pub fn copy(from: &[u8], to: &mut [u8])
     ensures { λ _. ⌜ now (to .exit) ≡ copied (now (from .entry)) (now (to .entry)) ⌝ }
 {
-    let n = shorter(from.len(), to.len());
-    if n <= 4096 {
-        copy_front(from, n, to);
-        return;
-    }
-    copy_blocks(from, n, to);
+    copy_front(from, shorter(from.len(), to.len()), to);
 }

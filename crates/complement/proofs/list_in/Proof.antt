@@ -18,11 +18,11 @@ copy-requires c κs = search needs
 
 list-term-requires : tie.Need-list-term-requires
 list-term-requires c κs =
-    let at-copy = c .before .before .before .before .before .before .before in
+    let at-copy = c .before .before .before .before .before in
     let at-chain = at-copy .before .before in
     let start = at-chain .before .before .before .before in
     let h = start .pre .1 .1 .0 in (
-      subst (λ n. Chained n (now (start .args .results)) (at-chain .chain .result .firsts) (at-chain .chain .result .nexts)) (min-eq-left (few-words h)) (at-chain .chain .ensures),
+      subst (λ n. Chained n (now (start .args .results)) (at-chain .chain .result)) (min-eq-left (few-words h)) (at-chain .chain .ensures),
       root-term h (now (start .args .copy)) (at-copy .copy .ensures ∙ copied-whole (now (start .args .pattern)) (now (start .args .copy)) (omega arith)) (omega arith) (now (start .args .out)) (start .pre .1 .1 .1 h),
     )
 
@@ -35,7 +35,7 @@ same-length-2 c = search needs
 returns : tie.Need-returns
 returns c =
     let at-list = c .before .before .before .before in
-    let at-copy = at-list .before .before .before .before .before .before .before .before in
+    let at-copy = at-list .before .before .before .before .before .before in
     let start = at-copy .before .before .before .before .before .before in
     λ h.
     let copied = at-copy .copy .ensures ∙ copied-whole (now (start .args .pattern)) (now (start .args .copy)) (omega arith) in

@@ -14,6 +14,14 @@ slice-aggregate-copy c =
     let start = c .before .before .before in
     sym (length-take-le (start .args .n) (now (start .args .copy)) (omega arith))
 
+slice-relend-prefix-copy : tie.Need-slice-relend-prefix-copy
+slice-relend-prefix-copy c = search needs
+
+slice-aggregate-copy-2 : tie.Need-slice-aggregate-copy-2
+slice-aggregate-copy-2 c =
+    let start = c .before .before .before .before in
+    sym (length-take-le (start .args .n) (now (start .args .out)) (omega arith))
+
 copy-requires : tie.Need-copy-requires
 copy-requires c κs = search needs
 
@@ -42,6 +50,8 @@ write-entry-spec =
     tie.close
     (tie.spec
     slice-aggregate-copy
+    slice-relend-prefix-copy
+    slice-aggregate-copy-2
     copy-requires
     slice-write-out
     add-out

@@ -10,10 +10,10 @@ use Rattle.complement.proofs.write_others.Statement.{statement}
 use Rattle.complement.proofs.write_others.Tie as tie
 
 abbrev Inv-loop : tie.InvT-loop
-Inv-loop copy at f words results firsts nexts out₀ n₀ h₀ out n h = Followed (take at copy) words results firsts nexts f out₀ h n out
+Inv-loop copy at f words results chains out₀ n₀ h₀ out n h = Followed (take at copy) words results chains f out₀ h n out
 
 abbrev μ-loop : tie.MeasureT-loop
-μ-loop copy at f words results firsts nexts out₀ n₀ h₀ out n h = words - h
+μ-loop copy at f words results chains out₀ n₀ h₀ out n h = words - h
 
 element-copy-out-wide : tie.Need-element-copy-out-wide Inv-loop μ-loop
 element-copy-out-wide c = search needs
@@ -22,7 +22,7 @@ wide-requires : tie.Need-wide-requires Inv-loop μ-loop
 wide-requires c κs = search needs
 
 element-copy-out-wide-2 : tie.Need-element-copy-out-wide-2 Inv-loop μ-loop
-element-copy-out-wide-2 c = c .wide .ensures .small
+element-copy-out-wide-2 c = search needs
 
 wide-requires-2 : tie.Need-wide-requires-2 Inv-loop μ-loop
 wide-requires-2 c κs = search needs
@@ -32,6 +32,9 @@ loop-holds c =
     let at-wide = c .before .before in
     let start = at-wide .before .before .before .before in
     followed-none (start .pre .1 .1 .0) (start .pre .1 .1 .1 .1 .0) (start .pre .1 .1 .1 .1 .1) _ _ (at-wide .wide .ensures .same) (at-wide .wide .ensures .small) (c .wide2 .ensures .same)
+
+add-wide : tie.Need-add-wide Inv-loop μ-loop
+add-wide c = search needs
 
 element-copy-out-wide-3 : tie.Need-element-copy-out-wide-3 Inv-loop μ-loop
 element-copy-out-wide-3 c = search needs
@@ -113,6 +116,7 @@ write-others-spec =
     element-copy-out-wide-2
     wide-requires-2
     loop-holds
+    add-wide
     element-copy-out-wide-3
     wide-requires-3
     cast-write-entry

@@ -17,17 +17,14 @@ same-length c = search needs
 returns : tie.Need-returns
 returns c = search needs
 
-move-block-requires : tie.Need-move-block-requires
-move-block-requires c κs = search needs
+copy-blocks-requires : tie.Need-copy-blocks-requires
+copy-blocks-requires c κs = search needs
 
 same-length-2 : tie.Need-same-length-2
 same-length-2 c = search needs
 
 returns-2 : tie.Need-returns-2
-returns-2 c =
-    let start = c .before .before .before .before .before .before .before .before in
-    let n = start .args .n in
-    moved-on (now (start .args .from)) (now (start .args .to)) n (omega arith) 0 0 n refl (c .before .before .move-block .ensures) (omega arith) (omega arith) (omega arith)
+returns-2 c = search needs
 
 mul-whole : tie.Need-mul-whole
 mul-whole c = search needs
@@ -38,8 +35,8 @@ copy-bytes-requires c κs = search needs
 sub-if3 : tie.Need-sub-if3
 sub-if3 c = search needs
 
-move-block-requires-2 : tie.Need-move-block-requires-2
-move-block-requires-2 c κs = search needs
+move-block-requires : tie.Need-move-block-requires
+move-block-requires c κs = search needs
 
 same-length-3 : tie.Need-same-length-3
 same-length-3 c = search needs
@@ -54,13 +51,13 @@ returns-3 c =
     let large = at-if1 .if1 .left in
     let start = at-if1 .before .before .before in
     let n = start .args .n in
-    moved-on (now (start .args .from)) (now (start .args .to)) n (omega arith) (n / 32 * 32) (n - 16) 16 (at-whole .copy-bytes .ensures) (at-last .move-block2 .ensures) (omega arith) (omega arith) (omega arith)
+    moved-on (now (start .args .from)) (now (start .args .to)) n (omega arith) (n / 32 * 32) (n - 16) 16 (at-whole .copy-bytes .ensures) (at-last .move-block .ensures) (omega arith) (omega arith) (omega arith)
+
+move-block-requires-2 : tie.Need-move-block-requires-2
+move-block-requires-2 c κs = search needs
 
 move-block-requires-3 : tie.Need-move-block-requires-3
 move-block-requires-3 c κs = search needs
-
-move-block-requires-4 : tie.Need-move-block-requires-4
-move-block-requires-4 c κs = search needs
 
 same-length-4 : tie.Need-same-length-4
 same-length-4 c = search needs
@@ -77,8 +74,8 @@ returns-4 c =
     let to = now (start .args .to) in
     let n = start .args .n in
     let whole = n / 32 * 32 in
-    let first = moved-on from to (whole + 16) (omega arith) whole whole 16 (at-whole .copy-bytes .ensures) (at-first .move-block3 .ensures) (omega arith) (omega arith) refl in
-    moved-on from to n (omega arith) (whole + 16) (n - 16) 16 first (at-last .move-block4 .ensures) (omega arith) (omega arith) (omega arith)
+    let first = moved-on from to (whole + 16) (omega arith) whole whole 16 (at-whole .copy-bytes .ensures) (at-first .move-block2 .ensures) (omega arith) (omega arith) refl in
+    moved-on from to n (omega arith) (whole + 16) (n - 16) 16 first (at-last .move-block3 .ensures) (omega arith) (omega arith) (omega arith)
 
 pub copy-front-spec : {M : Type 1} → statement M
 copy-front-spec =
@@ -87,16 +84,16 @@ copy-front-spec =
     copy-few-requires
     same-length
     returns
-    move-block-requires
+    copy-blocks-requires
     same-length-2
     returns-2
     mul-whole
     copy-bytes-requires
     sub-if3
-    move-block-requires-2
+    move-block-requires
     same-length-3
     returns-3
+    move-block-requires-2
     move-block-requires-3
-    move-block-requires-4
     same-length-4
     returns-4)
