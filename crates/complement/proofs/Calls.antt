@@ -1,4 +1,12 @@
 -- Calls: the whole call from its parts.
+--
+--   pattern-repeated, pattern-linear   an accepted pattern, where a name stands twice and where none does
+--   vocabulary-refuses, term-refuses   these answers are refusals
+--   refused-listed                     where the check of the term refuses, so does list, in the same way
+--   list-vocabulary, list-term         the two refusals of the call
+--   some-bytes                         an accepted vocabulary has a word count
+--   patterned, list-pattern            the call where both are accepted
+--
 use mathlib.Core.Path.{_≡_, refl, sym, ap, ap₂, _∙_, subst}
 use mathlib.Core.List.{List, []}
 use Prim.Native.Nat.{ℕ, _<_, _≤_}

@@ -1,4 +1,13 @@
 -- Terms: what list_term does at a name and at a word.
+--
+--   Shape, shape              a term that is no open place is a name or a word
+--   Begun, term-begun         what the first byte tells
+--   name-listed               a name has no entries
+--   Word, term-word           the word that stands there, with its map and terms
+--   own-room, own-length, own-inside   its own entries have room and are written
+--   word-places               the terms of its bits stand in the copy, and have room behind these entries
+--   word-listed, word-bare    the word is listed, with its terms and where it has none
+--
 use mathlib.Core.Path.{_≡_, refl, sym, ap, ap₂, _∙_, subst}
 use mathlib.Core.Bool.{true, false, true≢false}
 use mathlib.Core.List.{List, [], _∷_, _++_, append-assoc}

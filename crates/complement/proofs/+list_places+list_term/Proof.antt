@@ -99,7 +99,9 @@ module _ (t : ℕ) (c : InPlaces list-places-lts.At-loop t) where
 
   -- A word stands in the copy, with the terms of its written bits.
   abbrev Places : Type 0
-  Places = PlacesAt (now (start .args .copy)) (start .args .at) (start .args .map) (start .args .words) (now (start .args .results)) (start .args .left) (length before)
+  Places =
+      PlacesAt (now (start .args .copy)) (start .args .at) (start .args .map) (start .args .words) (now (start .args .results)) (start .args .left)
+      (length before)
 
   abbrev places : Places
   places = start .pre .1 .1
@@ -165,7 +167,9 @@ module _ (t : ℕ) (c : InPlaces list-places-lts.After-kept t) where
 
   -- The bit's term stands in the copy.
   abbrev BitTerm : Type 0
-  BitTerm = TermAt (set (at-bit .loop .copy) (start t at-bit .args .at + 1) (c .kept .result)) (at-bit .loop .next) (start t at-bit .args .words) (now (start t at-bit .args .results)) (start t at-bit .args .left - 1) (length (part (at-bit .loop .n) (at-bit .loop .out)))
+  BitTerm =
+      TermAt (set (at-bit .loop .copy) (start t at-bit .args .at + 1) (c .kept .result)) (at-bit .loop .next) (start t at-bit .args .words)
+      (now (start t at-bit .args .results)) (start t at-bit .args .left - 1) (length (part (at-bit .loop .n) (at-bit .loop .out)))
 
   abbrev bit-term : (h : Places t at-bit) → BitTerm
   bit-term h =
@@ -242,7 +246,9 @@ module _ (t : ℕ) (c : InTerm list-term-lts.After-wide t) where
 
   -- A term stands in the copy.
   abbrev Standing : Type 0
-  Standing = TermAt (now (word-start .args .copy)) (word-start .args .at) (word-start .args .words) (now (word-start .args .results)) (word-start .args .left) (length room)
+  Standing =
+      TermAt (now (word-start .args .copy)) (word-start .args .at) (word-start .args .words) (now (word-start .args .results)) (word-start .args .left)
+      (length room)
 
   abbrev standing : Standing
   standing = word-start .pre .1 .1
@@ -269,11 +275,20 @@ module _ (t : ℕ) (c : InTerm list-term-lts.After-write-others t) where
   abbrev byte : at-word .wide .result ≡ getD (now (word-start t at-word .args .copy)) (word-start t at-word .args .at) 0
   byte = at-word .wide .ensures .same
 
+  abbrev own-after : List ℕ
+  own-after = c .write-others .last .1 .1 .1 .1 .1 .1 .0
+
   -- The terms of its bits stand in the copy, and have room in the part that is left.
-  abbrev word-terms : (h : Standing t at-word) → PlacesAt (now (word-start t at-word .args .copy)) (word-start t at-word .args .at) (getD (now (word-start t at-word .args .copy)) (word-start t at-word .args .at + 1) 0) (word-start t at-word .args .words) (now (word-start t at-word .args .results)) (word-start t at-word .args .left) (length (part (c .write-others .result) (c .write-others .last .1 .1 .1 .1 .1 .1 .0)))
+  abbrev WordTerms : Type 0
+  WordTerms =
+      PlacesAt (now (word-start t at-word .args .copy)) (word-start t at-word .args .at)
+      (getD (now (word-start t at-word .args .copy)) (word-start t at-word .args .at + 1) 0) (word-start t at-word .args .words)
+      (now (word-start t at-word .args .results)) (word-start t at-word .args .left) (length (part (c .write-others .result) own-after))
+
+  abbrev word-terms : (h : Standing t at-word) → WordTerms
   word-terms h = word-places (room t at-word) h (word t at-word h) byte (c .write-others .ensures)
 
-  own-entries-inside : c .write-others .result ≤ length (c .write-others .last .1 .1 .1 .1 .1 .1 .0)
+  own-entries-inside : c .write-others .result ≤ length own-after
   own-entries-inside = own-inside (room t at-word) (standing t at-word) (word t at-word (standing t at-word)) byte (c .write-others .ensures)
 
 list-term-add-end-2 : (t : ℕ) → InTerm list-term-lts.Need-add-end-2 t
@@ -319,9 +334,13 @@ module _ (t : ℕ) (c : InTerm list-term-lts.After-list-places t) where
   own-done = c .before .before .before .before .before .before
 
   -- The whole word is listed.
-  abbrev all-listed : (h : Standing t (at-word t own-done)) → TermListed h (c .list-places .last .0) (room t (at-word t own-done)) (back (own-done .write-others .result) (own-done .write-others .last .1 .1 .1 .1 .1 .1 .0) (c .list-places .last .1 .1 .1 .1 .1 .1 .1 .0)) (c .list-places .result .at) (own-done .write-others .result + c .list-places .result .written)
+  abbrev all-listed : (h : Standing t (at-word t own-done)) →
+      TermListed h (c .list-places .last .0) (room t (at-word t own-done))
+      (back (own-done .write-others .result) (own-after t own-done) (c .list-places .last .1 .1 .1 .1 .1 .1 .1 .0))
+      (c .list-places .result .at) (own-done .write-others .result + c .list-places .result .written)
   all-listed h =
-      word-listed (room t (at-word t own-done)) h (word t (at-word t own-done) h) (byte t own-done) (own-done .write-others .ensures) (c .list-places .ensures (word-terms t own-done h))
+      word-listed (room t (at-word t own-done)) h (word t (at-word t own-done) h) (byte t own-done) (own-done .write-others .ensures)
+      (c .list-places .ensures (word-terms t own-done h))
 
 list-term-add-written : (t : ℕ) → InTerm list-term-lts.Need-add-written t
 list-term-add-written t c =
