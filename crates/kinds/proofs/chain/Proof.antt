@@ -49,7 +49,8 @@ loop-less c = search needs
 loop-again : tie.Need-loop-again Inv-loop μ-loop
 loop-again c =
     let at-loop-test = c .before .before in
-    chained-turn (at-loop-test .before .loop .inv) (omega arith) (at-loop-test .loop-test .taken) _ (c .wide .ensures .0) (c .wide .ensures .1)
+    let some = at-loop-test .loop-test .taken in
+    chained-turn (at-loop-test .before .loop .inv) (omega arith) (omega arith) _ (c .wide .ensures .0) (c .wide .ensures .1)
 
 returns : tie.Need-returns Inv-loop μ-loop
 returns c = chained-all (c .before .loop .inv) (c .loop-test .left)
