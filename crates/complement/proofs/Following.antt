@@ -19,7 +19,7 @@ use Rattle.terms.proofs.Keep.{keep-keep, keep-same}
 use Rattle.wire.specs.Map.{writeMap}
 use Rattle.wire.specs.EntryBytes.{othersBytes}
 use Rattle.wire.proofs.Cond.{cond-true, cond-false}
-use Rattle.kinds.specs.Kinds.{kindOf, hasKind, lowest, Chained}
+use Rattle.kinds.specs.Kinds.{hasKind, lowest, Chained}
 use Rattle.complement.specs.Entering.{isOther, othersIn, Written}
 use Rattle.complement.proofs.Siblings.{Listed, listed-none, listed-room, listed-taken, listed-all}
 use Rattle.complement.proofs.Writing.{part, back}
@@ -76,14 +76,14 @@ isNot f g = not (eqb g f)
 
 -- The words of the kind of f from a word on, and the others among them.
 abbrev siblings : ℕ → List ℕ → ℕ → ℕ → List ℕ
-siblings words results f from = keep (hasKind results (kindOf results f)) (range from (words - from))
+siblings words results f from = keep (hasKind results (getD results f 0)) (range from (words - from))
 
 abbrev left : ℕ → List ℕ → ℕ → ℕ → List ℕ
 left words results f from = keep (isNot f) (siblings words results f from)
 
 left-all : (words : ℕ) (results : List ℕ) (f : ℕ) → othersIn words results f ≡ left words results f 0
 left-all words results f =
-    let kept : ℕ → Bool = hasKind results (kindOf results f) in
+    let kept : ℕ → Bool = hasKind results (getD results f 0) in
     keep-same (isOther results f) (λ g. kept g && isNot f g) (range 0 words) (λ g. and-comm (isNot f g) (kept g))
     ∙ sym (keep-keep (isNot f) kept (range 0 words))
     ∙ ap (λ c. keep (isNot f) (keep kept (range 0 c))) (let e : words ≡ words - 0 = omega arith in e)
@@ -95,14 +95,14 @@ pub record Followed (front : List ℕ) (words : ℕ) (results chains : List ℕ)
   pub room : length (othersBytes front (othersIn words results f)) ≤ length before
   pub from : ℕ
   pub below : from ≤ words
-  pub next : h ≡ lowest words results (kindOf results f) from
+  pub next : h ≡ lowest words results (getD results f 0) from
   pub size : length out ≡ length before
   pub inside : n ≤ length before
   pub listed : Listed front (othersIn words results f) before (left words results f from) n out
 
 module _ {front : List ℕ} {words : ℕ} {results chains : List ℕ} {f : ℕ} {before : List ℕ} where
   pub followed-none : words ≤ 96 → Chained words results chains → length (othersBytes front (othersIn words results f)) ≤ length before →
-      (k h : ℕ) → k ≡ kindOf results f → k < 16 → h ≡ getD chains k 0 → Followed front words results chains f before h 0 before
+      (k h : ℕ) → k ≡ getD results f 0 → k < 256 → h ≡ getD chains k 0 → Followed front words results chains f before h 0 before
   followed-none small c room k h e low s = record {
     small = small;
     chained = c;
@@ -122,16 +122,16 @@ module _ {front : List ℕ} {words : ℕ} {results chains : List ℕ} {f : ℕ} 
         let b = w .below in
         let s = w .next in
         let none : left words results f (w .from) ≡ [] =
-        ap (keep (isNot f)) (least-outside (hasKind results (kindOf results f)) (words - w .from) (w .from) (omega arith)) in
+        ap (keep (isNot f)) (least-outside (hasKind results (getD results f 0)) (words - w .from) (w .from) (omega arith)) in
         listed-all front (othersIn words results f) (w .room)
         (subst (λ l. Listed front (othersIn words results f) before l n out) none (w .listed))
 
     module _ (inside : h < words) where
-      here : (hasKind results (kindOf results f) h ≡ true) × (siblings words results f (w .from) ≡ h ∷ siblings words results f (h + 1))
+      here : (hasKind results (getD results f 0) h ≡ true) × (siblings words results f (w .from) ≡ h ∷ siblings words results f (h + 1))
       here =
           let b = w .below in
           let s = w .small in
-          least-inside (hasKind results (kindOf results f)) (words - w .from) (w .from) words h (omega arith) (omega arith) (w .next) inside
+          least-inside (hasKind results (getD results f 0)) (words - w .from) (w .from) words h (omega arith) (omega arith) (w .next) inside
 
       next-listed : (h ≡ f → ⊥) → Listed front (othersIn words results f) before (h ∷ left words results f (h + 1)) n out
       next-listed apart =
@@ -142,16 +142,16 @@ module _ {front : List ℕ} {words : ℕ} {results chains : List ℕ} {f : ℕ} 
       pub followed-room : (h ≡ f → ⊥) → {at : ℕ} → length front ≡ at → at + 2 ≤ length (part n out)
       followed-room apart begins = listed-room front (othersIn words results f) (w .room) begins (next-listed apart)
 
-      module _ (m : ℕ) (step : m ≡ getD chains (16 + h) 0) where
-        next-word : m ≡ lowest words results (kindOf results f) (h + 1)
+      module _ (m : ℕ) (step : m ≡ getD chains (256 + h) 0) where
+        next-word : m ≡ lowest words results (getD results f 0) (h + 1)
         next-word =
             step ∙ w .chained .next h (let s = w .small in omega arith)
-            ∙ ap (λ k. lowest words results k (h + 1)) (eqb-true (kindOf results h) (kindOf results f) (here .0))
+            ∙ ap (λ k. lowest words results k (h + 1)) (eqb-true (getD results h 0) (getD results f 0) (here .0))
 
         pub followed-less : h < m
         followed-less =
             let s = w .small in
-            omega (arith, next-word, least-from (hasKind results (kindOf results f)) (words - (h + 1)) (h + 1) (omega arith))
+            omega (arith, next-word, least-from (hasKind results (getD results f 0)) (words - (h + 1)) (h + 1) (omega arith))
 
         followed-on : {i : ℕ} {ys : List ℕ} → Listed front (othersIn words results f) before (left words results f (h + 1)) i ys →
             Followed front words results chains f before m i ys

@@ -76,13 +76,13 @@ module _ {p : List ℕ} {words : ℕ} {results : List ℕ} (h : Patterned p word
   module _ {entries bytes : ℕ} (m : Measures p words results entries bytes) where
     pub count-is : entries ≡ entryCount
     count-is =
-        m W (h .inOrder) (h .tabled) .0
+        m W (h .tabled) .0
         ∙ ap (λ b. summedIn W (countAt W) 1 b 0) (h .held .written)
         ∙ sym (pattern-count W (h .inOrder) s t (h .held .good))
 
     pub size-is : bytes ≡ length entryBytes
     size-is =
-        m W (h .inOrder) (h .tabled) .1
+        m W (h .tabled) .1
         ∙ ap (λ b. summedIn W (sizeAt W) 1 b 0) (h .held .written)
         ∙ sym (pattern-length W (h .inOrder) s t (h .held .good))
 

@@ -9,7 +9,7 @@ use lib.ListN.{length, getD, drop, drop-of-length-le}
 use lib.Seq.{drop-cons, drop-drop}
 use borrow.Author.Tests.{lt-ltb, le-ltb}
 use Rattle.wire.specs.Map.{mapBytes}
-use Rattle.wire.specs.Vocabulary.{Vocabulary, InOrder}
+use Rattle.wire.specs.Vocabulary.{Vocabulary}
 use Rattle.wire.specs.Parser.{isWord}
 use Rattle.wire.specs.EntrySizes.{countAt, sizeAt, summedIn}
 use Rattle.wire.proofs.Cond.{cond-true, cond-false}
@@ -52,8 +52,8 @@ pub record Summed (p : List ℕ) (words : ℕ) (results : List ℕ) (entries byt
   pub low : at ≤ 4097
   pub few : entries ≤ 96 * at
   pub small : bytes ≤ 393408 * at
-  pub counts : (W : Vocabulary) → InOrder W → Tabled W words results → summedIn W (countAt W) 1 p 0 ≡ entries + summedIn W (countAt W) 0 (drop at p) at
-  pub sizes : (W : Vocabulary) → InOrder W → Tabled W words results → summedIn W (sizeAt W) 1 p 0 ≡ bytes + summedIn W (sizeAt W) 0 (drop at p) at
+  pub counts : (W : Vocabulary) → Tabled W words results → summedIn W (countAt W) 1 p 0 ≡ entries + summedIn W (countAt W) 0 (drop at p) at
+  pub sizes : (W : Vocabulary) → Tabled W words results → summedIn W (sizeAt W) 1 p 0 ≡ bytes + summedIn W (sizeAt W) 0 (drop at p) at
 
 product-small : (n at : ℕ) → n ≤ 96 → at ≤ 4096 → n * (at + 2) ≤ 393408
 product-small n at h k = mul-le-mul h (let e : at + 2 ≤ 4098 = omega arith in e)
@@ -64,8 +64,8 @@ module _ {p : List ℕ} {words : ℕ} {results : List ℕ} (few : words ≤ 96) 
     low = omega arith;
     few = omega arith;
     small = omega arith;
-    counts = λ W o t. skip-one W (countAt W) p 0 ∙ omega arith;
-    sizes = λ W o t. skip-one W (sizeAt W) p 0 ∙ omega arith;
+    counts = λ W t. skip-one W (countAt W) p 0 ∙ omega arith;
+    sizes = λ W t. skip-one W (sizeAt W) p 0 ∙ omega arith;
   }
 
   module _ {entries bytes at : ℕ} (s : Summed p words results entries bytes at) (inside : at < length p) where
@@ -86,15 +86,15 @@ module _ {p : List ℕ} {words : ℕ} {results : List ℕ} (few : words ≤ 96) 
             low = omega arith;
             few = r .1;
             small = r .2;
-            counts = λ W o t.
-                let own : countAt W f at ≡ n = ap length (others-tabled W words results o t f k) ∙ sym counted in
+            counts = λ W t.
+                let own : countAt W f at ≡ n = ap length (others-tabled W words results t f k) ∙ sym counted in
                 let step = pass-word W (countAt W) p at inside f here (subst (λ m. f < m) (t .words) k) in
-                omega (arith, s .counts W o t);
-            sizes = λ W o t.
+                omega (arith, s .counts W t);
+            sizes = λ W t.
                 let own : sizeAt W f at ≡ n * (at + 2) =
-                ap₂ _*_ (ap length (others-tabled W words results o t f k) ∙ sym counted) (let z : at + 1 + mapBytes ≡ at + 2 = omega arith in z) in
+                ap₂ _*_ (ap length (others-tabled W words results t f k) ∙ sym counted) (let z : at + 1 + mapBytes ≡ at + 2 = omega arith in z) in
                 let step = pass-word W (sizeAt W) p at inside f here (subst (λ m. f < m) (t .words) k) in
-                omega (arith, s .sizes W o t);
+                omega (arith, s .sizes W t);
           }
 
     pub summed-other : {f : ℕ} → f ≡ getD p at 0 → words ≤ f → Summed p words results entries bytes (at + 1)
@@ -105,15 +105,15 @@ module _ {p : List ℕ} {words : ℕ} {results : List ℕ} (few : words ≤ 96) 
           low = omega arith;
           few = omega arith;
           small = omega arith;
-          counts = λ W o t.
-              s .counts W o t ∙ ap (λ n. entries + n) (pass-other W (countAt W) p at inside f here (subst (λ m. m ≤ f) (t .words) k));
-          sizes = λ W o t.
-              s .sizes W o t ∙ ap (λ n. bytes + n) (pass-other W (sizeAt W) p at inside f here (subst (λ m. m ≤ f) (t .words) k));
+          counts = λ W t.
+              s .counts W t ∙ ap (λ n. entries + n) (pass-other W (countAt W) p at inside f here (subst (λ m. m ≤ f) (t .words) k));
+          sizes = λ W t.
+              s .sizes W t ∙ ap (λ n. bytes + n) (pass-other W (sizeAt W) p at inside f here (subst (λ m. m ≤ f) (t .words) k));
         }
 
   pub summed-all : {entries bytes at : ℕ} → Summed p words results entries bytes at → length p ≤ at → Measures p words results entries bytes
-  summed-all {entries} {bytes} {at} s k W o t =
+  summed-all {entries} {bytes} {at} s k W t =
       let last : drop at p ≡ [] = drop-of-length-le p {i = at} k in
       let a : summedIn W (countAt W) 0 (drop at p) at ≡ 0 = ap (λ l. summedIn W (countAt W) 0 l at) last in
       let b : summedIn W (sizeAt W) 0 (drop at p) at ≡ 0 = ap (λ l. summedIn W (sizeAt W) 0 l at) last in
-      (omega (arith, s .counts W o t), omega (arith, s .sizes W o t))
+      (omega (arith, s .counts W t), omega (arith, s .sizes W t))

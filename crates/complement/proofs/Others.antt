@@ -3,7 +3,6 @@ use mathlib.Core.Path.{_≡_, refl, sym, ap, ap₂, _∙_}
 use mathlib.Core.Bool.{Bool, not, _&&_, cond}
 use mathlib.Core.List.{List, [], _∷_}
 use Prim.Native.Nat.{ℕ, _+_, _<_}
-use native.Mathlib.Nat.{mod-eq-of-lt}
 use native.Mathlib.Omega.{arith}
 use lib.Dec.{eqb}
 use lib.ListN.{getD}
@@ -11,9 +10,8 @@ use Rattle.terms.specs.Lists.{All, range, keep}
 use Rattle.terms.specs.Listing.{others}
 use Rattle.terms.specs.Signature.{result}
 use Rattle.terms.proofs.All.{all-range}
-use Rattle.wire.specs.Vocabulary.{Vocabulary, mostKinds, InOrder, signature}
-use Rattle.wire.proofs.Words.{length-symbols, result-word, word-in-order}
-use Rattle.kinds.specs.Kinds.{kindOf}
+use Rattle.wire.specs.Vocabulary.{Vocabulary, signature}
+use Rattle.wire.proofs.Words.{length-symbols, result-word}
 use Rattle.signature.specs.Tables.{Tabled}
 use Rattle.complement.specs.Entering.{isOther, othersIn}
 
@@ -22,13 +20,10 @@ keep-where t u [] h = refl
 keep-where t u (x ∷ l) h = ap₂ (λ b z. cond b (x ∷ z) z) (h .0) (keep-where t u l (h .1))
 
 -- The table's others are the vocabulary's.
-pub others-tabled : (W : Vocabulary) (n : ℕ) (results : List ℕ) → InOrder W → Tabled W n results → (f : ℕ) → f < n →
+pub others-tabled : (W : Vocabulary) (n : ℕ) (results : List ℕ) → Tabled W n results → (f : ℕ) → f < n →
     others (signature W) f ≡ othersIn n results f
-others-tabled W n results inOrder t f h =
-    let low : (g : ℕ) → g < n → getD results g 0 < mostKinds =
-    λ g k. omega (arith, t .result g k, word-in-order W g inOrder (omega (arith, t .words)) .result, inOrder .fewKinds) in
-    let kind : (g : ℕ) → g < n → result (signature W) g ≡ kindOf results g =
-    λ g k. result-word W g ∙ sym (t .result g k) ∙ sym (mod-eq-of-lt (low g k)) in
+others-tabled W n results t f h =
+    let kind : (g : ℕ) → g < n → result (signature W) g ≡ getD results g 0 = λ g k. result-word W g ∙ sym (t .result g k) in
     ap (λ k. keep (λ g. not (eqb g f) && eqb (result (signature W) g) (result (signature W) f)) (range 0 k)) (length-symbols W ∙ sym (t .words))
     ∙ keep-where (λ g. not (eqb g f) && eqb (result (signature W) g) (result (signature W) f)) (isOther results f) (range 0 n)
     (Rattle.terms.proofs.All.all-implies (λ g. g < 0 + n) _

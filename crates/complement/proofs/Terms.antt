@@ -156,7 +156,7 @@ module _ {copy : List ℕ} {at words : ℕ} {results : List ℕ} {left : ℕ} (b
   own-others : othersBytes (h .front) (others (signature U) f) ≡ own-bytes
   own-others =
       ap₂ othersBytes (sym front-is)
-      (others-tabled U words results (h .inOrder) (h .tabled) f (w .known) ∙ ap (othersIn words results) (sym same))
+      (others-tabled U words results (h .tabled) f (w .known) ∙ ap (othersIn words results) (sym same))
 
   all-bytes : spotsBytes U (spots U (h .term) (h .front)) ≡ own-bytes ++ place-bytes
   all-bytes =

@@ -3,8 +3,7 @@
 --   Byte b n                   n is the byte b
 --   isOther results f h        the word h is another than f and has its result kind, by the table
 --   othersIn n results f       the other words of f's result kind, by the table
---   Measures p n results e m   the listing of the pattern p has e entries and m bytes, where the table is that of a
---                              vocabulary in order
+--   Measures p n results e m   the listing of the pattern p has e entries and m bytes, where the table is a vocabulary's
 --   Written bytes before n after   n bytes are written into the lent slice, and those behind them are as before
 --   TermAt                     a term stands at an offset of the copy, at most `left` levels deep, and its entries have room
 --   TermListed, ListsTerm      what list_term does to such a copy and the lent slice
@@ -16,7 +15,7 @@ use mathlib.Core.Bool.{Bool, false, not, _&&_}
 use mathlib.Core.List.{List, [], _∷_, _++_}
 use Prim.Native.Nat.{ℕ, suc, _+_, _<_, _≤_}
 use lib.Dec.{eqb}
-use lib.ListN.{length, drop}
+use lib.ListN.{length, getD, drop}
 use Rattle.terms.specs.Lists.{range, keep}
 use Rattle.terms.specs.Term.{Term, Terms, Sorted}
 use Rattle.wire.specs.Map.{mapBytes, writeMap, flags, isOpen}
@@ -25,7 +24,6 @@ use Rattle.wire.specs.TermBytes.{encodeAt, encodeAll, levels, levelsAll, mostBy
 use Rattle.wire.specs.EntrySizes.{countAt, sizeAt, summedIn}
 use Rattle.wire.specs.EntryBytes.{spots, spotsBytes}
 use Rattle.wire.specs.EntryMaps.{Stands, bitSpots}
-use Rattle.kinds.specs.Kinds.{kindOf}
 use Rattle.signature.specs.Tables.{Tabled}
 
 pub record Byte (b n : ℕ) : Type 0 where
@@ -33,14 +31,14 @@ pub record Byte (b n : ℕ) : Type 0 where
   pub small : n < 256
 
 abbrev pub isOther : List ℕ → ℕ → ℕ → Bool
-isOther results f h = not (eqb h f) && eqb (kindOf results h) (kindOf results f)
+isOther results f h = not (eqb h f) && eqb (getD results h 0) (getD results f 0)
 
 abbrev pub othersIn : ℕ → List ℕ → ℕ → List ℕ
 othersIn n results f = keep (isOther results f) (range 0 n)
 
 abbrev pub Measures : List ℕ → ℕ → List ℕ → ℕ → ℕ → Type 0
 Measures p n results entries bytes =
-    (W : Vocabulary) → InOrder W → Tabled W n results → (entries ≡ summedIn W (countAt W) 1 p 0) × (bytes ≡ summedIn W (sizeAt W) 1 p 0)
+    (W : Vocabulary) → Tabled W n results → (entries ≡ summedIn W (countAt W) 1 p 0) × (bytes ≡ summedIn W (sizeAt W) 1 p 0)
 
 pub record Written (bytes before : List ℕ) (n : ℕ) (after : List ℕ) : Type 0 where
   pub count : n ≡ length bytes

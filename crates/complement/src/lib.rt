@@ -58,7 +58,7 @@ fn write_others(
     f: usize,
     words: usize,
     results: &[u8; 96],
-    chains: &[u8; 112],
+    chains: &[u8; 352],
     out: &mut [u8],
 ) -> usize
     requires { ⌜ at ≤ length (now copy) ⌝ }
@@ -70,10 +70,10 @@ fn write_others(
     ensures { λ r. ⌜ Written (othersBytes (take at (now (copy .entry))) (othersIn words (now (results .entry)) f)) (now (out .entry)) r (now (out .exit)) ⌝ }
 {
     let mut n = 0;
-    let mut h = wide(chains[wide(results[f]) % 16]);
+    let mut h = wide(chains[wide(results[f])]);
     while h < words {
         let g = h;
-        h = wide(chains[16 + g]);
+        h = wide(chains[256 + g]);
         if g != f {
             write_entry(copy, at, g as u8, &mut out[n..]);
             n = n + at + 2;
@@ -95,7 +95,7 @@ fn list_term(
     at: usize,
     words: usize,
     results: &[u8; 96],
-    chains: &[u8; 112],
+    chains: &[u8; 352],
     left: usize,
     out: &mut [u8],
 ) -> Progress
@@ -134,7 +134,7 @@ fn list_places(
     map: u8,
     words: usize,
     results: &[u8; 96],
-    chains: &[u8; 112],
+    chains: &[u8; 352],
     left: usize,
     out: &mut [u8],
 ) -> Progress
@@ -166,13 +166,13 @@ fn list_places(
 }
 
 // How many other words have the result kind of f: all that the tally has of this kind but f.
-fn sibling_count(f: usize, words: usize, results: &[u8; 96], counts: &[u8; 16]) -> usize
+fn sibling_count(f: usize, words: usize, results: &[u8; 96], counts: &[u8; 256]) -> usize
     requires { ⌜ words ≤ 96 ⌝ }
     requires { ⌜ f < words ⌝ }
     requires { ⌜ Tallied words (now results) (now counts) ⌝ }
     ensures { λ r. ⌜ r ≡ length (othersIn words (now (results .entry)) f) ⌝ }
 {
-    let kind = wide(results[f]) % 16;
+    let kind = wide(results[f]);
     wide(counts[kind]) - 1
 }
 

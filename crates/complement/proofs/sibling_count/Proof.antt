@@ -1,9 +1,7 @@
 -- `complement::sibling_count` meets its contract.
 use Rattle.complement.proofs.Counting.{siblings-here}
-use Prim.Native.Nat.{_%_}
 use native.Mathlib.Omega.{arith}
 use borrow.Author.Needs.{needs}
-use mathlib.Core.Path.{ap}
 use Rattle.complement.proofs.sibling_count.Statement.{statement}
 use Rattle.complement.proofs.sibling_count.Tie as tie
 
@@ -14,7 +12,7 @@ wide-requires : tie.Need-wide-requires
 wide-requires c κs = search needs
 
 element-copy-out-wide-2 : tie.Need-element-copy-out-wide-2
-element-copy-out-wide-2 c = search needs
+element-copy-out-wide-2 c = c .wide .ensures .small
 
 wide-requires-2 : tie.Need-wide-requires-2
 wide-requires-2 c κs = search needs
@@ -23,13 +21,13 @@ sub-result : tie.Need-sub-result
 sub-result c =
     let at-wide = c .before .before in
     let start = at-wide .before .before in
-    let z = siblings-here _ _ (start .pre .1 .1) (start .pre .1 .0) (ap (λ n. n % 16) (at-wide .wide .ensures .same)) (omega arith) in omega (arith, z, c .wide2 .ensures .same)
+    let z = siblings-here _ _ (start .pre .1 .1) (start .pre .1 .0) (at-wide .wide .ensures .same) (at-wide .wide .ensures .small) in omega (arith, z, c .wide2 .ensures .same)
 
 returns : tie.Need-returns
 returns c =
     let at-wide = c .before .before in
     let start = at-wide .before .before in
-    let z = siblings-here _ _ (start .pre .1 .1) (start .pre .1 .0) (ap (λ n. n % 16) (at-wide .wide .ensures .same)) (omega arith) in omega (arith, z, c .wide2 .ensures .same)
+    let z = siblings-here _ _ (start .pre .1 .1) (start .pre .1 .0) (at-wide .wide .ensures .same) (at-wide .wide .ensures .small) in omega (arith, z, c .wide2 .ensures .same)
 
 pub sibling-count-spec : {M : Type 1} → statement M
 sibling-count-spec =

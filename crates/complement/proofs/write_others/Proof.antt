@@ -1,7 +1,6 @@
 -- `complement::write_others` meets its contract. The loop's invariant: h is the next word of the kind, and the others before it have their entries. The measure is the number of words from h on.
 use borrow.Author.Needs.{needs}
-use mathlib.Core.Path.{ap}
-use Prim.Native.Nat.{_-_, _%_}
+use Prim.Native.Nat.{_-_}
 use native.Mathlib.Omega.{arith}
 use denote.Ref.{now}
 use lib.ListN.{take}
@@ -32,7 +31,7 @@ loop-holds : tie.Need-loop-holds Inv-loop μ-loop
 loop-holds c =
     let at-wide = c .before .before in
     let start = at-wide .before .before .before .before in
-    followed-none (start .pre .1 .1 .0) (start .pre .1 .1 .1 .1 .0) (start .pre .1 .1 .1 .1 .1) _ _ (ap (λ n. n % 16) (at-wide .wide .ensures .same)) (omega arith) (c .wide2 .ensures .same)
+    followed-none (start .pre .1 .1 .0) (start .pre .1 .1 .1 .1 .0) (start .pre .1 .1 .1 .1 .1) _ _ (at-wide .wide .ensures .same) (at-wide .wide .ensures .small) (c .wide2 .ensures .same)
 
 add-wide : tie.Need-add-wide Inv-loop μ-loop
 add-wide c = search needs

@@ -1,7 +1,6 @@
 -- `kinds::chain` meets its contract. The loop's invariant: the words from h on are chained. The measure is h.
 use borrow.Author.Needs.{needs}
-use mathlib.Core.Path.{ap}
-use Prim.Native.Nat.{_%_, min}
+use Prim.Native.Nat.{min}
 use native.Mathlib.Omega.{arith}
 use Rattle.wire.specs.Vocabulary.{mostWords}
 use Rattle.kinds.proofs.Chaining.{ChainedFrom, chained-none, chained-turn, chained-all}
@@ -51,7 +50,7 @@ loop-again : tie.Need-loop-again Inv-loop μ-loop
 loop-again c =
     let at-loop-test = c .before .before in
     let some = at-loop-test .loop-test .taken in
-    chained-turn (at-loop-test .before .loop .inv) (omega arith) (omega arith) _ (ap (λ n. n % 16) (c .wide .ensures)) (omega arith)
+    chained-turn (at-loop-test .before .loop .inv) (omega arith) (omega arith) _ (c .wide .ensures .0) (c .wide .ensures .1)
 
 returns : tie.Need-returns Inv-loop μ-loop
 returns c = chained-all (c .before .loop .inv) (c .loop-test .left)

@@ -1,7 +1,7 @@
 -- `kinds::tally` meets its contract. The loop's invariant: the words below h are counted. The measure is the number of words left.
 use borrow.Author.Needs.{needs}
-use mathlib.Core.Path.{ap, subst}
-use Prim.Native.Nat.{_-_, _%_, _≤_}
+use mathlib.Core.Path.{subst}
+use Prim.Native.Nat.{_-_, _≤_}
 use denote.Ref.{now}
 use native.Mathlib.Omega.{arith}
 use Rattle.kinds.specs.Kinds.{Tallied}
@@ -33,7 +33,7 @@ array-read-many c = search needs
 add-counts : tie.Need-add-counts Inv-loop μ-loop
 add-counts c =
     let at-loop = c .before .before .before in
-    let few = tallied-few (at-loop .loop .inv .0) (c .wide .result % 16) (omega arith) in
+    let few = tallied-few (at-loop .loop .inv .0) (c .wide .result) (c .wide .ensures .1) in
     record { fits = omega (arith, few, at-loop .loop .inv .1, at-loop .before .tabled .ensures) }
 
 array-write-counts : tie.Need-array-write-counts Inv-loop μ-loop
@@ -48,7 +48,7 @@ loop-less c = search needs
 loop-again : tie.Need-loop-again Inv-loop μ-loop
 loop-again c =
     let at-loop = c .before .before .before in
-    (tallied-turn (at-loop .loop .inv .0) _ (ap (λ n. n % 16) (c .wide .ensures)) (omega arith), omega arith)
+    (tallied-turn (at-loop .loop .inv .0) _ (c .wide .ensures .0) (c .wide .ensures .1), omega arith)
 
 returns : tie.Need-returns Inv-loop μ-loop
 returns c =
