@@ -135,30 +135,6 @@ list-places-add-copy t c = let z = map-inside (places t (c .before .before .befo
 list-places-slice-write-copy : (t : ℕ) → InPlaces list-places-lts.Need-slice-write-copy t
 list-places-slice-write-copy t c = let z = map-there t (c .before .before .before) in search needs
 
-list-places-loop-less-2 : (t : ℕ) → InPlaces list-places-lts.Need-loop-less-2 t
-list-places-loop-less-2 t c = search needs
-
-list-places-loop-again-2 : (t : ℕ) → InPlaces list-places-lts.Need-loop-again-2 t
-list-places-loop-again-2 t c =
-    λ h. reached-clear _ h (reached t (c .before .before) h) (omega arith) (c .before .loop-test .taken) (c .if1 .left)
-
-list-places-add-copy-2 : (t : ℕ) → InPlaces list-places-lts.Need-add-copy-2 t
-list-places-add-copy-2 t c = let z = map-inside (places t (c .before)) in search needs
-
-list-places-slice-write-copy-2 : (t : ℕ) → InPlaces list-places-lts.Need-slice-write-copy-2 t
-list-places-slice-write-copy-2 t c = let z = map-there t (c .before) in search needs
-
-list-places-same-length : (t : ℕ) → InPlaces list-places-lts.Need-same-length t
-list-places-same-length t c =
-    let at-loop = c .before in
-    ap length (reached-all _ _ (reached t at-loop (places t at-loop)) (c .loop-test .left) .restored)
-
-list-places-same-length-2 : (t : ℕ) → InPlaces list-places-lts.Need-same-length-2 t
-list-places-same-length-2 t c = out-length _ _ (reached t (c .before) (places t (c .before)))
-
-list-places-returns : (t : ℕ) → InPlaces list-places-lts.Need-returns t
-list-places-returns t c = λ h. reached-all _ h (reached t (c .before) h) (c .loop-test .left)
-
 -- ---- list_places, at a bit that stands
 
 module _ (t : ℕ) (c : InPlaces list-places-lts.After-kept t) where
@@ -214,6 +190,32 @@ list-places-loop-again t c =
     let at-term = c .before .before .before .before .before in
     let at-kept = at-term .before .before .before in
     λ h. reached-term _ h (reached t (at-bit t at-kept) h) (omega arith) (at-kept .before .before .loop-test .taken) (at-kept .before .if1 .taken) (at-kept .kept .ensures) (at-term .list-term .ensures (bit-term t at-kept h))
+
+-- ---- list_places, at a bit that is clear, and at the end
+
+list-places-loop-less-2 : (t : ℕ) → InPlaces list-places-lts.Need-loop-less-2 t
+list-places-loop-less-2 t c = search needs
+
+list-places-loop-again-2 : (t : ℕ) → InPlaces list-places-lts.Need-loop-again-2 t
+list-places-loop-again-2 t c =
+    λ h. reached-clear _ h (reached t (c .before .before) h) (omega arith) (c .before .loop-test .taken) (c .if1 .left)
+
+list-places-add-copy-2 : (t : ℕ) → InPlaces list-places-lts.Need-add-copy-2 t
+list-places-add-copy-2 t c = let z = map-inside (places t (c .before)) in search needs
+
+list-places-slice-write-copy-2 : (t : ℕ) → InPlaces list-places-lts.Need-slice-write-copy-2 t
+list-places-slice-write-copy-2 t c = let z = map-there t (c .before) in search needs
+
+list-places-same-length : (t : ℕ) → InPlaces list-places-lts.Need-same-length t
+list-places-same-length t c =
+    let at-loop = c .before in
+    ap length (reached-all _ _ (reached t at-loop (places t at-loop)) (c .loop-test .left) .restored)
+
+list-places-same-length-2 : (t : ℕ) → InPlaces list-places-lts.Need-same-length-2 t
+list-places-same-length-2 t c = out-length _ _ (reached t (c .before) (places t (c .before)))
+
+list-places-returns : (t : ℕ) → InPlaces list-places-lts.Need-returns t
+list-places-returns t c = λ h. reached-all _ h (reached t (c .before) h) (c .loop-test .left)
 
 -- ---- list_term, at a term
 
