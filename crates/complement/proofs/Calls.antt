@@ -1,4 +1,12 @@
 -- Calls: the whole call from its parts.
+--
+--   pattern-repeated, pattern-linear   an accepted pattern, where a name stands twice and where none does
+--   vocabulary-refuses, term-refuses   these answers are refusals
+--   refused-listed                     where the check of the term refuses, so does list, in the same way
+--   list-vocabulary, list-term         the two refusals of the call
+--   some-bytes                         an accepted vocabulary has a word count
+--   patterned, list-pattern            the call where both are accepted
+--
 use mathlib.Core.Path.{_≡_, refl, sym, ap, ap₂, _∙_, subst}
 use mathlib.Core.List.{List, []}
 use Prim.Native.Nat.{ℕ, _<_, _≤_}
@@ -17,6 +25,10 @@ use Rattle.wire.proofs.Bytes.{bytes-of}
 use Rattle.wire.proofs.Inputs.{checked-in}
 use Rattle.wire.proofs.Leftovers.{list-keeps}
 use Rattle.wire.proofs.VocabulariesInverse.{vocabularies-inverse}
+use Rattle.repeats.specs.FirstRepeat.{firstRepeat, repeatOf}
+use Rattle.repeats.specs.declared.Repeat.{Repeat}
+use Rattle.repeats.specs.declared.Repeat.the-variants.{At, Nothing}
+use Rattle.repeats.proofs.Passing.{pattern-repeats}
 use Rattle.signature.specs.Answers.{vocabularyRefused}
 use Rattle.signature.specs.Tables.{acceptedIn, vocabularyIn, wordsBefore, resultsOf, laid}
 use Rattle.signature.specs.declared.VocabularyRefusal.{VocabularyRefusal}
@@ -25,33 +37,29 @@ use Rattle.signature.proofs.Accepted.{accepted-words}
 use Rattle.reader.specs.Answers.{termRefused}
 use Rattle.reader.specs.declared.TermRefusal.{TermRefusal}
 use Rattle.reader.specs.declared.TermRefusal.the-variants as T
-use Rattle.complement.specs.Entering.{sightingsIn, repeatOf}
 use Rattle.complement.specs.Calls.{Patterned, ListsPattern}
-use Rattle.complement.specs.declared.Repeat.{Repeat}
-use Rattle.complement.specs.declared.Repeat.the-variants.{At, Nothing}
-use Rattle.complement.proofs.Repeating.{sightings-pattern}
 
 -- ---- a name that stands twice
 
 module _ {p : List ℕ} {words : ℕ} {results : List ℕ} (h : Patterned p words results) (before : List ℕ) where
-  repeats : (r : Repeat) → repeatOf r ≡ repeatedIn [] (sightingsIn words 1 p 0) → repeatOf r ≡ repeatedIn [] (sightings (h .vocabulary) (h .term))
+  repeats : (r : Repeat) → repeatOf r ≡ firstRepeat words p → repeatOf r ≡ repeatedIn [] (sightings (h .vocabulary) (h .term))
   repeats r e =
       e
-      ∙ ap₂ (λ n b. repeatedIn [] (sightingsIn n 1 b 0)) (h .tabled .words) (h .held .written)
-      ∙ ap (repeatedIn []) (sightings-pattern (h .vocabulary) (h .inOrder) (h .kind) (h .term) (h .held .good))
+      ∙ ap₂ firstRepeat (h .tabled .words) (h .held .written)
+      ∙ pattern-repeats (h .vocabulary) (h .inOrder) (h .kind) (h .term) (h .held .good)
 
-  judged : (r : Repeat) → repeatOf r ≡ repeatedIn [] (sightingsIn words 1 p 0) →
+  judged : (r : Repeat) → repeatOf r ≡ firstRepeat words p →
       listedPattern (h .vocabulary) before (linearIn (h .vocabulary) (accept (kinded (h .kind) (h .term))))
       ≡ listedPattern (h .vocabulary) before (linearOf (kinded (h .kind) (h .term)) (repeatOf r))
   judged r e = ap (λ o. listedPattern (h .vocabulary) before (linearOf (kinded (h .kind) (h .term)) o)) (sym (repeats r e))
 
-  pub pattern-repeated : (r : Repeat) → repeatOf r ≡ repeatedIn [] (sightingsIn words 1 p 0) → (q : ℕ) → r ≡ At q →
+  pub pattern-repeated : (r : Repeat) → repeatOf r ≡ firstRepeat words p → (q : ℕ) → r ≡ At q →
       HasEffect (listedPattern (h .vocabulary) before (linearIn (h .vocabulary) (accept (kinded (h .kind) (h .term))))) (refused 18 1 q) before
   pattern-repeated r e q f =
       let g = judged r e ∙ ap (λ r. listedPattern (h .vocabulary) before (linearOf (kinded (h .kind) (h .term)) (repeatOf r))) f in
       record { reply = sym (ap (λ (l : Effect). l .reply) g); after = sym (ap (λ (l : Effect). l .after) g) }
 
-  pub pattern-linear : (r : Repeat) → repeatOf r ≡ repeatedIn [] (sightingsIn words 1 p 0) → r ≡ Nothing → {reply : Reply} {after : List ℕ} →
+  pub pattern-linear : (r : Repeat) → repeatOf r ≡ firstRepeat words p → r ≡ Nothing → {reply : Reply} {after : List ℕ} →
       HasEffect
       (listedInto before (length (entriesOf (h .vocabulary) (h .kind) (h .term)))
       (listingBytes (h .vocabulary) (h .kind) (h .term))) reply after →

@@ -6,8 +6,7 @@ use Prim.Native.Nat.{ℕ, _+_, _<_, _≤_}
 use native.Mathlib.Nat.{le-max-right}
 use native.Mathlib.Omega.{arith}
 use lib.Dec.{leb}
-use lib.ListN.{length, take, drop}
-use lib.Seq.{take-length}
+use lib.ListN.{length, drop}
 use borrow.Author.Tests.{le-leb, lt-leb}
 use Rattle.terms.specs.Term.{Term, any, var, app}
 use Rattle.wire.specs.Reply.{accepted, refused}
@@ -17,12 +16,12 @@ use Rattle.wire.specs.TermBytes.{encodeAt, encodeRoot, levels, mostBytes}
 use Rattle.wire.specs.Effect.{Effect, HasEffect}
 use Rattle.wire.specs.ListComputed.{listedInto}
 use Rattle.wire.specs.Leftovers.{entriesBytes, entriesOf}
+use Rattle.wire.specs.EntrySizes.{countAt, sizeAt, summedIn}
 use Rattle.wire.proofs.Cond.{cond-true, cond-false}
 use Rattle.wire.proofs.EntryBytes.{entries-bytes}
-use Rattle.wire.proofs.EntrySizes.{countAt, sizeAt, summedIn, pattern-count, pattern-length}
-use Rattle.complement.specs.Entering.{KindsFew, Measures, TermAt, TermListed}
+use Rattle.wire.proofs.EntrySizes.{pattern-count, pattern-length}
+use Rattle.complement.specs.Entering.{Measures, TermAt, TermListed}
 use Rattle.complement.specs.Calls.{Patterned, bytesOf}
-use Rattle.complement.proofs.Tallying.{kinds-few}
 
 -- ---- what listedInto shows
 
@@ -71,9 +70,6 @@ module _ {p : List ℕ} {words : ℕ} {results : List ℕ} (h : Patterned p word
   pub few-words : words ≤ 96
   few-words = omega (arith, h .tabled .words, h .inOrder .fewWords)
 
-  pub few-kinds : KindsFew words results
-  few-kinds = kinds-few (h .inOrder) (h .tabled)
-
   pub most-bytes : length p ≤ 4096
   most-bytes = h .held .limits .most
 
@@ -102,7 +98,7 @@ module _ {p : List ℕ} {words : ℕ} {results : List ℕ} (h : Patterned p word
   root-same (app f ts) e = refl
 
   -- The root in a copy of the pattern.
-  module _ (copy : List ℕ) {copied : List ℕ} (c : copied ≡ take (length p) p ++ drop (length p) copy) (size : length copied ≤ mostBytes) (before : List ℕ)
+  module _ (copy : List ℕ) {copied : List ℕ} (c : copied ≡ p ++ drop (length p) copy) (size : length copied ≤ mostBytes) (before : List ℕ)
       (room : (0 < length entryBytes) × (length entryBytes ≤ length before)) where
     closed : isOpen t ≡ false
     closed = not-open t (λ e. let k = room .0 in omega arith)
@@ -121,7 +117,7 @@ module _ {p : List ℕ} {words : ℕ} {results : List ℕ} (h : Patterned p word
       sorted = h .held .good .sorted .sorted;
       closed = closed;
       stands =
-          c ∙ ap (λ l. l ++ drop (length p) copy) (take-length p ∙ h .held .written ∙ ap (λ l. s ∷ l) (root-same t closed));
+          c ∙ ap (λ l. l ++ drop (length p) copy) (h .held .written ∙ ap (λ l. s ∷ l) (root-same t closed));
       deep = omega (arith, h .held .limits .levels, le-max-right 1 (levels t));
       fits = let k = room .1 in omega (arith, ap length (entries-bytes W s t));
     }

@@ -1,30 +1,24 @@
 -- Measuring: one pass over the pattern's bytes gives the number of entries and of bytes.
 use mathlib.Core.Path.{_≡_, refl, sym, ap, ap₂, _∙_, subst}
 use mathlib.Core.List.{List, [], _∷_}
-use Prim.Native.Nat.{ℕ, zero, suc, _+_, _*_, _<_, _≤_}
+use Prim.Native.Nat.{ℕ, suc, _+_, _*_, _<_, _≤_}
 use native.Mathlib.Nat.{mul-le-mul}
 use native.Mathlib.Numerals.{add-one}
 use native.Mathlib.Omega.{arith}
-use lib.ListN.{length, getD, drop}
+use lib.ListN.{length, getD, drop, drop-of-length-le}
 use lib.Seq.{drop-cons, drop-drop}
 use borrow.Author.Tests.{lt-ltb, le-ltb}
 use Rattle.wire.specs.Map.{mapBytes}
 use Rattle.wire.specs.Vocabulary.{Vocabulary}
 use Rattle.wire.specs.Parser.{isWord}
+use Rattle.wire.specs.EntrySizes.{countAt, sizeAt, summedIn}
 use Rattle.wire.proofs.Cond.{cond-true, cond-false}
-use Rattle.wire.proofs.EntrySizes.{countAt, sizeAt, summedIn}
 use Rattle.signature.specs.Tables.{Tabled}
 use Rattle.complement.specs.Entering.{othersIn, Measures}
 use Rattle.complement.proofs.Others.{others-tabled}
-use Rattle.complement.proofs.Tallying.{others-few}
+use Rattle.complement.proofs.Counting.{others-few}
 
 -- ---- the steps of the pass
-
-pub none-left : (p : List ℕ) (at : ℕ) → length p ≤ at → drop at p ≡ []
-none-left [] zero h = refl
-none-left [] (suc at) h = refl
-none-left (b ∷ p) zero h = absurd (omega arith)
-none-left (b ∷ p) (suc at) h = none-left p at (omega arith)
 
 module _ (W : Vocabulary) (g : ℕ → ℕ → ℕ) where
   skip-one : (l : List ℕ) (at : ℕ) → summedIn W g 1 l at ≡ summedIn W g 0 (drop 1 l) (at + 1)
@@ -119,7 +113,7 @@ module _ {p : List ℕ} {words : ℕ} {results : List ℕ} (few : words ≤ 96) 
 
   pub summed-all : {entries bytes at : ℕ} → Summed p words results entries bytes at → length p ≤ at → Measures p words results entries bytes
   summed-all {entries} {bytes} {at} s k W t =
-      let last : drop at p ≡ [] = none-left p at k in
+      let last : drop at p ≡ [] = drop-of-length-le p {i = at} k in
       let a : summedIn W (countAt W) 0 (drop at p) at ≡ 0 = ap (λ l. summedIn W (countAt W) 0 l at) last in
       let b : summedIn W (sizeAt W) 0 (drop at p) at ≡ 0 = ap (λ l. summedIn W (sizeAt W) 0 l at) last in
       (omega (arith, s .counts W t), omega (arith, s .sizes W t))

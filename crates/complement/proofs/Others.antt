@@ -1,8 +1,8 @@
 -- Others: the other words of a result kind, by the table and by the vocabulary.
 use mathlib.Core.Path.{_≡_, refl, sym, ap, ap₂, _∙_}
 use mathlib.Core.Bool.{Bool, not, _&&_, cond}
-use mathlib.Core.List.{List, [], _∷_, _++_}
-use Prim.Native.Nat.{ℕ, zero, suc, _+_, _<_}
+use mathlib.Core.List.{List, [], _∷_}
+use Prim.Native.Nat.{ℕ, _+_, _<_}
 use native.Mathlib.Omega.{arith}
 use lib.Dec.{eqb}
 use lib.ListN.{getD}
@@ -14,16 +14,6 @@ use Rattle.wire.specs.Vocabulary.{Vocabulary, signature}
 use Rattle.wire.proofs.Words.{length-symbols, result-word}
 use Rattle.signature.specs.Tables.{Tabled}
 use Rattle.complement.specs.Entering.{isOther, othersIn}
-
-range-append : (from n m : ℕ) → range from (n + m) ≡ range from n ++ range (from + n) m
-range-append from zero m = ap₂ range (let e : from ≡ from + 0 = omega arith in e) (let e : 0 + m ≡ m = omega arith in e)
-range-append from (suc n) m =
-    ap (range from) (let e : suc n + m ≡ suc (n + m) = omega arith in e)
-    ∙ ap (λ l. from ∷ l)
-    (range-append (suc from) n m ∙ ap (λ k. range (suc from) n ++ range k m) (let e : suc from + n ≡ from + suc n = omega arith in e))
-
-pub range-next : (h : ℕ) → range 0 (h + 1) ≡ range 0 h ++ (h ∷ [])
-range-next h = range-append 0 h 1 ∙ ap (λ k. range 0 h ++ (k ∷ [])) (let e : 0 + h ≡ h = omega arith in e)
 
 keep-where : (t u : ℕ → Bool) (l : List ℕ) → All (λ x. t x ≡ u x) l → keep t l ≡ keep u l
 keep-where t u [] h = refl

@@ -1,4 +1,17 @@
--- Places: how far list_places has come before a bit: at the start, behind a bit that is clear, behind one that stands, and at the end.
+-- Places: how far list_places has come before a bit: at the start, behind a bit that is clear, behind one that stands, and
+-- at the end.
+--
+--   First, first-of, none-above   the terms of the bits, where the next bit stands and where none does
+--   low-bit, halved, bit-at       the bits of the map, by their numbers
+--   map-inside                    the word's map stands inside the copy
+--   Reached                       the loop: the terms below a bit are listed
+--   reached-none, reached-all     it begins, and it ends
+--   copied-length, out-length, done-inside   the copy and the lent slice keep their lengths
+--   is-bit, reached-clear         a turn at a bit that is clear
+--   place-term                    the term of a bit that stands, in the copy whose map is kept up to it
+--   reached-term, both-inside     a turn at such a bit
+--   places-none                   a word with no written bit
+--
 use mathlib.Core.Path.{_≡_, refl, sym, ap, ap₂, _∙_, subst}
 use mathlib.Core.Bool.{Bool, true, false, true≢false}
 use mathlib.Core.List.{List, [], _∷_, _++_, append-nil, append-assoc}
@@ -14,9 +27,10 @@ use Rattle.terms.specs.Term.{Term, Terms, nil, cons}
 use Rattle.wire.specs.Map.{mapBits, mapBytes, writeMap, flags}
 use Rattle.wire.specs.Vocabulary.{Vocabulary}
 use Rattle.wire.specs.TermBytes.{encodeAt, encodeAll, levels, levelsAll}
-use Rattle.wire.proofs.EntryBytes.{spots, spotsBytes, spots-bytes-append}
-use Rattle.wire.proofs.EntryMaps.{bitSpots}
-use Rattle.wire.proofs.EntryWalk.{Stands, flags-at, copy-patched}
+use Rattle.wire.specs.EntryBytes.{spots, spotsBytes}
+use Rattle.wire.specs.EntryMaps.{Stands, bitSpots}
+use Rattle.wire.proofs.EntryBytes.{spots-bytes-append}
+use Rattle.wire.proofs.EntryWalk.{flags-at, copy-patched}
 use Rattle.complement.specs.Entering.{Written, TermAt, TermListed, PlacesAt, PlacesListed}
 use Rattle.complement.proofs.Writing.{part, back, part-room, written-none, written-more, written-length}
 

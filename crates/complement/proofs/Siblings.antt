@@ -5,7 +5,7 @@ use Prim.Native.Nat.{ℕ, _+_, _≤_}
 use native.Mathlib.Omega.{arith}
 use lib.ListN.{length, drop, length-append}
 use Rattle.wire.specs.Map.{writeMap}
-use Rattle.wire.proofs.EntryBytes.{othersBytes}
+use Rattle.wire.specs.EntryBytes.{othersBytes}
 use Rattle.complement.specs.Entering.{Written}
 use Rattle.complement.proofs.Writing.{part, back, part-room, written-more, written-none, written-length}
 

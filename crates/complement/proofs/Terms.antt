@@ -1,4 +1,13 @@
 -- Terms: what list_term does at a name and at a word.
+--
+--   Shape, shape              a term that is no open place is a name or a word
+--   Begun, term-begun         what the first byte tells
+--   name-listed               a name has no entries
+--   Word, term-word           the word that stands there, with its map and terms
+--   own-room, own-length, own-inside   its own entries have room and are written
+--   word-places               the terms of its bits stand in the copy, and have room behind these entries
+--   word-listed, word-bare    the word is listed, with its terms and where it has none
+--
 use mathlib.Core.Path.{_≡_, refl, sym, ap, ap₂, _∙_, subst}
 use mathlib.Core.Bool.{true, false, true≢false}
 use mathlib.Core.List.{List, [], _∷_, _++_, append-assoc}
@@ -13,9 +22,10 @@ use Rattle.wire.specs.Map.{writeMap, flags, isOpen}
 use Rattle.wire.specs.Vocabulary.{Vocabulary, signature}
 use Rattle.wire.specs.TermBytes.{nameByte, writtenMap, encodeAt, encodeAll, levels, levelsAll}
 use Rattle.wire.proofs.Words.{length-symbols}
-use Rattle.wire.proofs.EntryBytes.{othersBytes, spots, spotsBytes}
-use Rattle.wire.proofs.EntryMaps.{closed, closed-bytes, bitSpots, spots-by-bits}
-use Rattle.wire.proofs.EntryWalk.{Stands, closed-stands, word-bytes}
+use Rattle.wire.specs.EntryBytes.{othersBytes, spots, spotsBytes}
+use Rattle.wire.specs.EntryMaps.{closed, Stands, bitSpots}
+use Rattle.wire.proofs.EntryMaps.{closed-bytes, spots-by-bits}
+use Rattle.wire.proofs.EntryWalk.{closed-stands, word-bytes}
 use Rattle.complement.specs.Entering.{othersIn, Written, TermAt, TermListed, PlacesAt, PlacesListed}
 use Rattle.complement.proofs.Others.{others-tabled}
 use Rattle.complement.proofs.Places.{places-none}

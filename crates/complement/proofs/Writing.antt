@@ -1,10 +1,13 @@
 -- Writing: bytes are written into a lent slice one behind the other, each time into the part behind those before.
 use mathlib.Core.Path.{_≡_, refl, sym, ap, ap₂, _∙_}
-use mathlib.Core.List.{List, [], _++_, append-nil, append-assoc}
-use Prim.Native.Nat.{ℕ, _+_, _-_, _≤_}
+use mathlib.Core.List.{List, [], _∷_, _++_, append-nil, append-assoc}
+use Prim.Native.Nat.{ℕ, suc, _+_, _-_, _≤_}
+use native.Mathlib.Numerals.{add-one}
 use native.Mathlib.Omega.{arith}
-use lib.ListN.{length, take, drop, length-append, length-drop, take-append-drop}
-use lib.Seq.{take-all, take-at, drop-at, drop-drop, drop-length}
+use lib.ListN.{length, take, drop, set, length-append, length-drop, take-append-drop}
+use lib.Seq.{length-take-le, take-all, take-at, drop-at, drop-drop, drop-length}
+use Rattle.slices.specs.Copied.{copied}
+use Rattle.slices.proofs.Copying.{copied-whole, stored}
 use Rattle.complement.specs.Entering.{Written}
 
 pub written-none : (before : List ℕ) → Written [] before 0 before
@@ -55,3 +58,24 @@ module _ {bytes before out : List ℕ} {n : ℕ} (h : Written bytes before n out
         ∙ sym (append-assoc bytes more (drop (length bytes + length more) before))
         ∙ ap (λ i. (bytes ++ more) ++ drop i before) (sym (length-append bytes more));
   }
+
+-- An entry: bytes are copied to the front, and behind them stand a word and the map 0.
+pub entry-written : (bytes out : List ℕ) (n word : ℕ) {front : List ℕ} → length bytes ≡ n → n + 2 ≤ length out → front ≡ copied bytes (take n out) →
+    set (set (front ++ drop n out) n word) (n + 1) 0 ≡ (bytes ++ (word ∷ 0 ∷ [])) ++ drop (n + 2) out
+entry-written bytes out n word {front} long room e =
+    ap (λ l. set (set (l ++ drop n out) n word) (n + 1) 0) whole
+    ∙ ap (λ l. set l (n + 1) 0) (stored out n word (omega arith) bytes long)
+    ∙ ap (λ i. set ((bytes ++ (word ∷ [])) ++ drop (suc n) out) i 0) (add-one n)
+    ∙ stored out (suc n) 0 (omega arith) (bytes ++ (word ∷ [])) (length-append bytes (word ∷ []) ∙ omega arith)
+    ∙ ap₂ (λ l i. l ++ drop i out) (append-assoc bytes (word ∷ []) (0 ∷ [])) (let e : suc (suc n) ≡ n + 2 = omega arith in e)
+  where
+    exact : length (take n out) ≡ length bytes
+    exact = length-take-le n out (omega arith) ∙ sym long
+
+    whole : front ≡ bytes
+    whole =
+        e
+        ∙ copied-whole bytes (take n out) (let s = exact in omega arith)
+        ∙ ap (λ i. bytes ++ drop i (take n out)) (sym exact)
+        ∙ ap (λ l. bytes ++ l) (drop-length (take n out))
+        ∙ append-nil bytes

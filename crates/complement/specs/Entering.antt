@@ -1,18 +1,9 @@
 -- Entering: what the functions that list promise each other; no public contract cites it.
 --
 --   Byte b n                   n is the byte b
---   KindsFew n results         the first n words have result kinds below 16, by the table
 --   isOther results f h        the word h is another than f and has its result kind, by the table
 --   othersIn n results f       the other words of f's result kind, by the table
---   hasKind results k h        the word h has the result kind k, by the table
---   lowest n results k from    the lowest of the first n words, from the word `from` on, that has the result kind k, by the
---                              table; 255 where there is none
---   Chained n results firsts nexts   firsts has the lowest word of each result kind, nexts for each word the next of its kind
---   Tallied n results counts   counts says how many of the first n words have each result kind, by the table
 --   Measures p n results e m   the listing of the pattern p has e entries and m bytes, where the table is a vocabulary's
---   sightingsIn n skip l at       the names of the bytes l at an offset with theirs, where n numbers are words' and the first
---                              `skip` bytes are not looked at
---   repeatOf r                 where a name stands again, as an Option
 --   Written bytes before n after   n bytes are written into the lent slice, and those behind them are as before
 --   TermAt                     a term stands at an offset of the copy, at most `left` levels deep, and its entries have room
 --   TermListed, ListsTerm      what list_term does to such a copy and the lent slice
@@ -20,34 +11,24 @@
 --   PlacesListed, ListsPlaces  what list_places does to such a copy and the lent slice
 --
 use mathlib.Core.Path.{_≡_}
-use mathlib.Core.Bool.{Bool, false, not, _&&_, cond}
+use mathlib.Core.Bool.{Bool, false, not, _&&_}
 use mathlib.Core.List.{List, [], _∷_, _++_}
-use mathlib.Core.Option.{Option, some, none}
-use Prim.Native.Nat.{ℕ, zero, suc, _+_, _-_, _<_, _≤_}
-use lib.Dec.{eqb, ltb}
+use Prim.Native.Nat.{ℕ, suc, _+_, _<_, _≤_}
+use lib.Dec.{eqb}
 use lib.ListN.{length, getD, drop}
 use Rattle.terms.specs.Lists.{range, keep}
 use Rattle.terms.specs.Term.{Term, Terms, Sorted}
-use Rattle.terms.proofs.Count.{count}
 use Rattle.wire.specs.Map.{mapBytes, writeMap, flags, isOpen}
-use Rattle.wire.specs.Vocabulary.{Vocabulary, mostKinds, InOrder, signature}
-use Rattle.wire.specs.TermBytes.{firstNameByte, encodeAt, encodeAll, levels, levelsAll, mostBytes}
-use Rattle.wire.specs.Parser.{isName}
-use Rattle.wire.specs.PatternLines.{Sighting}
-use Rattle.wire.proofs.EntrySizes.{countAt, sizeAt, summedIn}
-use Rattle.wire.proofs.EntryBytes.{spots, spotsBytes}
-use Rattle.wire.proofs.EntryMaps.{bitSpots}
-use Rattle.wire.proofs.EntryWalk.{Stands}
+use Rattle.wire.specs.Vocabulary.{Vocabulary, InOrder, signature}
+use Rattle.wire.specs.TermBytes.{encodeAt, encodeAll, levels, levelsAll, mostBytes}
+use Rattle.wire.specs.EntrySizes.{countAt, sizeAt, summedIn}
+use Rattle.wire.specs.EntryBytes.{spots, spotsBytes}
+use Rattle.wire.specs.EntryMaps.{Stands, bitSpots}
 use Rattle.signature.specs.Tables.{Tabled}
-use Rattle.complement.specs.declared.Repeat.{Repeat}
-use Rattle.complement.specs.declared.Repeat.the-variants.{At, Nothing}
 
 pub record Byte (b n : ℕ) : Type 0 where
   pub same : n ≡ b
   pub small : n < 256
-
-pub record KindsFew (n : ℕ) (results : List ℕ) : Type 0 where
-  pub low : (h : ℕ) → h < n → getD results h 0 < mostKinds
 
 abbrev pub isOther : List ℕ → ℕ → ℕ → Bool
 isOther results f h = not (eqb h f) && eqb (getD results h 0) (getD results f 0)
@@ -55,34 +36,9 @@ isOther results f h = not (eqb h f) && eqb (getD results h 0) (getD results f 0)
 abbrev pub othersIn : ℕ → List ℕ → ℕ → List ℕ
 othersIn n results f = keep (isOther results f) (range 0 n)
 
-abbrev pub hasKind : List ℕ → ℕ → ℕ → Bool
-hasKind results k h = eqb (getD results h 0) k
-
-abbrev pub lowest : ℕ → List ℕ → ℕ → ℕ → ℕ
-lowest n results k from = getD (keep (hasKind results k) (range from (n - from))) 0 255
-
-pub record Chained (n : ℕ) (results firsts nexts : List ℕ) : Type 0 where
-  pub first : (k : ℕ) → k < mostKinds → getD firsts k 0 ≡ lowest n results k 0
-  pub next : (h : ℕ) → h < n → getD nexts h 0 ≡ lowest n results (getD results h 0) (h + 1)
-
-pub record Tallied (n : ℕ) (results counts : List ℕ) : Type 0 where
-  pub size : length counts ≡ mostKinds
-  pub each : (k : ℕ) → k < mostKinds → getD counts k 0 ≡ count (hasKind results k) (range 0 n)
-
 abbrev pub Measures : List ℕ → ℕ → List ℕ → ℕ → ℕ → Type 0
 Measures p n results entries bytes =
     (W : Vocabulary) → Tabled W n results → (entries ≡ summedIn W (countAt W) 1 p 0) × (bytes ≡ summedIn W (sizeAt W) 1 p 0)
-
-abbrev pub sightingsIn : ℕ → ℕ → List ℕ → ℕ → List Sighting
-sightingsIn n skip [] at = []
-sightingsIn n (suc skip) (b ∷ l) at = sightingsIn n skip l (at + 1)
-sightingsIn n zero (b ∷ l) at =
-    cond (ltb b n) (sightingsIn n mapBytes l (at + 1))
-    (cond (isName b) (record { name = b - firstNameByte; offset = at } ∷ sightingsIn n zero l (at + 1)) (sightingsIn n zero l (at + 1)))
-
-abbrev pub repeatOf : Repeat → Option ℕ
-repeatOf (At q) = some q
-repeatOf Nothing = none
 
 pub record Written (bytes before : List ℕ) (n : ℕ) (after : List ℕ) : Type 0 where
   pub count : n ≡ length bytes

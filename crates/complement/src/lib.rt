@@ -1,19 +1,20 @@
 // Document 01's call list: the leftovers of a pattern.
 ghost use mathlib.Core.Path.{_≡_};
-ghost use mathlib.Core.List.{[], _∷_, _++_};
+ghost use mathlib.Core.List.{_∷_, _++_};
 ghost use Prim.Native.Nat.{_+_, _≤_, _<_, _%_, _^_, suc};
-ghost use lib.ListN.{length, take, drop, replicate};
-ghost use lib.Seq.{paste};
+ghost use lib.ListN.{length, take, drop};
 ghost use Rattle.wire.specs.Map.{writeMap};
 ghost use Rattle.wire.specs.Leftovers.{ListPromise};
 ghost use Rattle.wire.specs.Effect.{HasEffect};
-ghost use Rattle.wire.specs.ListComputed.{repeatedIn, listed};
-ghost use Rattle.wire.proofs.EntryBytes.{othersBytes};
+ghost use Rattle.wire.specs.ListComputed.{listed};
+ghost use Rattle.wire.specs.EntryBytes.{othersBytes};
+ghost use Rattle.kinds.specs.Kinds.{Tallied, Chained};
 ghost use Rattle.complement.specs.Answers.{listNumbers};
 ghost use Rattle.complement.specs.Calls.{Patterned, HasRoom, WritesEntries, ListsLinear, ListsPattern};
-ghost use Rattle.complement.specs.Entering.{KindsFew, Byte, Tallied, Measures, sightingsIn, repeatOf, othersIn, Chained, Written, TermAt, ListsTerm, PlacesAt, ListsPlaces};
+ghost use Rattle.complement.specs.Entering.{Byte, Measures, othersIn, Written, TermAt, ListsTerm, PlacesAt, ListsPlaces};
 use reader::TermAnswer;
 use reader::TermRefusal;
+use repeats::Repeat;
 use signature::VocabularyRefusal;
 
 // The number of entries and of bytes, or why there is no listing: document 01, lines 1 to 15, 18 and 20.
@@ -39,108 +40,15 @@ fn kept(map: u8, b: usize) -> u8
     (wide(map) % (2usize << b)) as u8
 }
 
-// Writes the first n bytes of the copy, one by one.
-fn copy_bytes(copy: &[u8], n: usize, out: &mut [u8])
-    requires { ⌜ n ≤ length (now copy) ⌝ }
-    requires { ⌜ n ≤ length (now out) ⌝ }
-    ensures { λ _. ⌜ now (out .exit) ≡ take n (now (copy .entry)) ++ drop n (now (out .entry)) ⌝ }
-{
-    let mut i = 0;
-    while i < n {
-        out[i] = copy[i];
-        i += 1;
-    }
-}
-
-// Writes n bytes of the copy to where they stand in it. All are read before the first is written, so that they go as
-// one block: the compiler leaves no array between them.
-fn move_block(copy: &[u8], at: usize, n: usize, out: &mut [u8])
-    requires { ⌜ at + n ≤ length (now copy) ⌝ }
-    requires { ⌜ n ≤ 4096 ⌝ }
-    requires { ⌜ at + n ≤ length (now out) ⌝ }
-    ensures { λ _. ⌜ now (out .exit) ≡ paste (now (out .entry)) at (drop at (now (copy .entry))) n ⌝ }
-{
-    let mut block = [0u8; 4096];
-    let mut k = 0;
-    while k < n {
-        block[k] = copy[at + k];
-        k += 1;
-    }
-    let mut j = 0;
-    while j < n {
-        out[at + j] = block[j];
-        j += 1;
-    }
-}
-
-// Writes the first n bytes of the copy, fewer than 16. The blocks may overlap: what is written twice is the same.
-fn copy_few(copy: &[u8], n: usize, out: &mut [u8])
-    requires { ⌜ n ≤ length (now copy) ⌝ }
-    requires { ⌜ n < 16 ⌝ }
-    requires { ⌜ n ≤ length (now out) ⌝ }
-    ensures { λ _. ⌜ now (out .exit) ≡ take n (now (copy .entry)) ++ drop n (now (out .entry)) ⌝ }
-{
-    if n < 8 {
-        copy_bytes(copy, n, out);
-        return;
-    }
-    move_block(copy, 0, 8, out);
-    move_block(copy, n - 8, 8, out);
-}
-
-// Writes the first n bytes of the copy: where they are not many, the last ones as blocks that may overlap.
-fn copy_front(copy: &[u8], n: usize, out: &mut [u8])
-    requires { ⌜ n ≤ length (now copy) ⌝ }
-    requires { ⌜ n ≤ 4096 ⌝ }
-    requires { ⌜ n ≤ length (now out) ⌝ }
-    ensures { λ _. ⌜ now (out .exit) ≡ take n (now (copy .entry)) ++ drop n (now (out .entry)) ⌝ }
-{
-    if n < 16 {
-        copy_few(copy, n, out);
-        return;
-    }
-    if 128 < n {
-        move_block(copy, 0, n, out);
-        return;
-    }
-    let whole = n / 32 * 32;
-    copy_bytes(copy, whole, out);
-    if n - whole < 16 {
-        move_block(copy, n - 16, 16, out);
-        return;
-    }
-    move_block(copy, whole, 16, out);
-    move_block(copy, n - 16, 16, out);
-}
-
 // Writes the first n bytes of the copy, a word's number and an empty map.
 fn write_entry(copy: &[u8], n: usize, word: u8, out: &mut [u8])
     requires { ⌜ n ≤ length (now copy) ⌝ }
-    requires { ⌜ n ≤ 4096 ⌝ }
     requires { ⌜ n + 2 ≤ length (now out) ⌝ }
     ensures { λ _. ⌜ now (out .exit) ≡ (take n (now (copy .entry)) ++ (word ∷ writeMap 0)) ++ drop (n + 2) (now (out .entry)) ⌝ }
 {
-    copy_front(copy, n, out);
+    slices::copy(&copy[..n], &mut out[..n]);
     out[n] = word;
     out[n + 1] = 0;
-}
-
-// Gives each result kind its lowest word and each word the next one of its kind, from the last word to the first; 255
-// where there is none.
-fn chain(words: usize, results: &[u8; 96], firsts: &mut [u8; 16], nexts: &mut [u8; 96])
-    requires { ⌜ words ≤ 96 ⌝ }
-    requires { ⌜ now firsts ≡ replicate 16 255 ⌝ }
-    requires { ⌜ length (now nexts) ≡ 96 ⌝ }
-    requires { ⌜ KindsFew words (now results) ⌝ }
-    ensures { λ _. ⌜ Chained words (now (results .entry)) (now (firsts .exit)) (now (nexts .exit)) ⌝ }
-{
-    let mut h = words;
-    while 0 < h {
-        h -= 1;
-        let kind = wide(results[h]);
-        nexts[h] = firsts[kind];
-        firsts[kind] = h as u8;
-    }
 }
 
 // An entry for every other word of the result kind of f, each into the rest of the lent slice behind the one before it.
@@ -150,24 +58,22 @@ fn write_others(
     f: usize,
     words: usize,
     results: &[u8; 96],
-    firsts: &[u8; 16],
-    nexts: &[u8; 96],
+    chains: &[u8; 352],
     out: &mut [u8],
 ) -> usize
     requires { ⌜ at ≤ length (now copy) ⌝ }
     requires { ⌜ at ≤ 4096 ⌝ }
     requires { ⌜ words ≤ 96 ⌝ }
     requires { ⌜ f < words ⌝ }
-    requires { ⌜ Chained words (now results) (now firsts) (now nexts) ⌝ }
+    requires { ⌜ Chained words (now results) (now chains) ⌝ }
     requires { ⌜ length (othersBytes (take at (now copy)) (othersIn words (now results) f)) ≤ length (now out) ⌝ }
-    requires { ⌜ KindsFew words (now results) ⌝ }
     ensures { λ r. ⌜ Written (othersBytes (take at (now (copy .entry))) (othersIn words (now (results .entry)) f)) (now (out .entry)) r (now (out .exit)) ⌝ }
 {
     let mut n = 0;
-    let mut h = wide(firsts[wide(results[f])]);
+    let mut h = wide(chains[wide(results[f])]);
     while h < words {
         let g = h;
-        h = wide(nexts[g]);
+        h = wide(chains[256 + g]);
         if g != f {
             write_entry(copy, at, g as u8, &mut out[n..]);
             n = n + at + 2;
@@ -189,47 +95,35 @@ fn list_term(
     at: usize,
     words: usize,
     results: &[u8; 96],
-    firsts: &[u8; 16],
-    nexts: &[u8; 96],
+    chains: &[u8; 352],
     left: usize,
     out: &mut [u8],
 ) -> Progress
-    requires { ⌜ Chained words (now results) (now firsts) (now nexts) ⌝ }
+    requires { ⌜ Chained words (now results) (now chains) ⌝ }
     requires { ⌜ TermAt (now copy) at words (now results) left (length (now out)) ⌝ }
     ensures { λ r. ⌜ ListsTerm (now (copy .entry)) at words (now (results .entry)) left (now (out .entry)) (now (copy .exit)) (now (out .exit)) (r .at) (r .written) ⌝ }
 {
     let first = copy[at];
     if 127 < first {
+        let end = at + 1;
         return Progress {
-            at: at + 1,
+            at: end,
             written: 0,
         };
     }
     let map = copy[at + 1];
-    let n = write_others(copy, at, wide(first), words, results, firsts, nexts, out);
+    let n = write_others(copy, at, wide(first), words, results, chains, out);
     if map == 0 {
+        let end = at + 2;
         return Progress {
-            at: at + 2,
+            at: end,
             written: n,
         };
     }
-    let below = list_places(
-        copy,
-        at,
-        map,
-        words,
-        results,
-        firsts,
-        nexts,
-        left,
-        &mut out[n..],
-    );
+    let below = list_places(copy, at, map, words, results, chains, left, &mut out[n..]);
     let end = below.at;
-    let more = below.written;
-    Progress {
-        at: end,
-        written: n + more,
-    }
+    let written = n + below.written;
+    Progress { at: end, written }
 }
 
 // The listing of the terms of a word's written bits, the lowest first, each into the rest of the lent slice behind
@@ -240,12 +134,11 @@ fn list_places(
     map: u8,
     words: usize,
     results: &[u8; 96],
-    firsts: &[u8; 16],
-    nexts: &[u8; 96],
+    chains: &[u8; 352],
     left: usize,
     out: &mut [u8],
 ) -> Progress
-    requires { ⌜ Chained words (now results) (now firsts) (now nexts) ⌝ }
+    requires { ⌜ Chained words (now results) (now chains) ⌝ }
     requires { ⌜ PlacesAt (now copy) at map words (now results) left (length (now out)) ⌝ }
     ensures { λ r. ⌜ ListsPlaces (now (copy .entry)) at map words (now (results .entry)) left (now (out .entry)) (now (copy .exit)) (now (out .exit)) (r .at) (r .written) ⌝ }
 {
@@ -260,16 +153,7 @@ fn list_places(
         bits = bits / 2;
         if bit == 1 {
             copy[at + 1] = kept(map, place);
-            let here = list_term(
-                copy,
-                next,
-                words,
-                results,
-                firsts,
-                nexts,
-                left - 1,
-                &mut out[n..],
-            );
+            let here = list_term(copy, next, words, results, chains, left - 1, &mut out[n..]);
             next = here.at;
             n = n + here.written;
         }
@@ -281,29 +165,11 @@ fn list_places(
     }
 }
 
-// How many words have each result kind.
-fn tally(words: usize, results: &[u8; 96]) -> [u8; 16]
-    requires { ⌜ words ≤ 96 ⌝ }
-    requires { ⌜ KindsFew words (now results) ⌝ }
-    ensures { λ r. ⌜ Tallied words (now (results .entry)) r ⌝ }
-{
-    let mut counts = [0u8; 16];
-    let mut h = 0;
-    while h < words {
-        let kind = wide(results[h]);
-        let n = counts[kind];
-        counts[kind] = n + 1;
-        h += 1;
-    }
-    counts
-}
-
 // How many other words have the result kind of f: all that the tally has of this kind but f.
-fn sibling_count(f: usize, words: usize, results: &[u8; 96], counts: &[u8; 16]) -> usize
+fn sibling_count(f: usize, words: usize, results: &[u8; 96], counts: &[u8; 256]) -> usize
     requires { ⌜ words ≤ 96 ⌝ }
     requires { ⌜ f < words ⌝ }
     requires { ⌜ Tallied words (now results) (now counts) ⌝ }
-    requires { ⌜ KindsFew words (now results) ⌝ }
     ensures { λ r. ⌜ r ≡ length (othersIn words (now (results .entry)) f) ⌝ }
 {
     let kind = wide(results[f]);
@@ -321,10 +187,9 @@ struct Size {
 fn measure(p: &[u8], words: usize, results: &[u8; 96]) -> Size
     requires { ⌜ words ≤ 96 ⌝ }
     requires { ⌜ length (now p) ≤ 4096 ⌝ }
-    requires { ⌜ KindsFew words (now results) ⌝ }
     ensures { λ r. ⌜ Measures (now (p .entry)) words (now (results .entry)) (r .entries) (r .bytes) ⌝ }
 {
-    let counts = tally(words, results);
+    let counts = kinds::tally(words, results);
     let mut entries = 0;
     let mut bytes = 0;
     let mut at = 1;
@@ -342,41 +207,6 @@ fn measure(p: &[u8], words: usize, results: &[u8; 96]) -> Size
     Size { entries, bytes }
 }
 
-// Where a name stands for the second time.
-enum Repeat {
-    At(usize),
-    Nothing,
-}
-
-// The earliest byte at which a name stands for the second time, in one pass over the pattern.
-fn first_repeat(p: &[u8], words: usize) -> Repeat
-    requires { ⌜ length (now p) ≤ 4096 ⌝ }
-    ensures { λ r. ⌜ repeatOf r ≡ repeatedIn [] (sightingsIn words 1 (now (p .entry)) 0) ⌝ }
-{
-    let mut seen = [0u8; 64];
-    let mut at = 1;
-    while at < p.len() {
-        let b = wide(p[at]);
-        let here = at;
-        if b < words {
-            at = here + 2;
-        } else {
-            at = here + 1;
-            if 128 <= b {
-                if b < 192 {
-                    let n = b - 128;
-                    let mark = seen[n];
-                    if mark != 0 {
-                        return Repeat::At(here);
-                    }
-                    seen[n] = 1;
-                }
-            }
-        }
-    }
-    Repeat::Nothing
-}
-
 // Lists a pattern by a copy of it, into a lent slice with room for the entries.
 fn list_in(copy: &mut [u8], pattern: &[u8], words: usize, results: &[u8; 96], out: &mut [u8])
     requires { ⌜ length (now pattern) ≤ length (now copy) ⌝ }
@@ -385,11 +215,9 @@ fn list_in(copy: &mut [u8], pattern: &[u8], words: usize, results: &[u8; 96], ou
     requires { ⌜ HasRoom (now pattern) words (now results) (length (now out)) ⌝ }
     ensures { λ _. ⌜ WritesEntries (now (pattern .entry)) words (now (results .entry)) (now (out .entry)) (now (out .exit)) ⌝ }
 {
-    let mut firsts = [255u8; 16];
-    let mut nexts = [255u8; 96];
-    chain(words, results, &mut firsts, &mut nexts);
-    copy_bytes(pattern, pattern.len(), copy);
-    let _ = list_term(copy, 1, words, results, &firsts, &nexts, 32, out);
+    let chains = kinds::chain(words, results);
+    slices::copy(pattern, copy);
+    let _ = list_term(copy, 1, words, results, &chains, 32, out);
 }
 
 // The listing of a pattern that is accepted and in which no name stands twice. Most patterns are short, and a small
@@ -422,7 +250,7 @@ fn list_pattern(pattern: &[u8], words: usize, results: &[u8; 96], out: &mut [u8]
     requires { ⌜ Patterned (now pattern) words (now results) ⌝ }
     ensures { λ r. ⌜ ListsPattern (now (pattern .entry)) words (now (results .entry)) (now (out .entry)) (now (out .exit)) (listNumbers r) ⌝ }
 {
-    match first_repeat(pattern, words) {
+    match repeats::first_repeat(pattern, words) {
         Repeat::At(q) => ListAnswer::Repeated(q),
         Repeat::Nothing => list_linear(pattern, words, results, out),
     }

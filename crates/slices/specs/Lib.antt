@@ -1,2 +1,3 @@
--- What the contract of comparing two slices cites.
+-- What the contracts of comparing and copying slices cite.
 pub mod Equal
+pub mod Copied

@@ -60,6 +60,14 @@ module _ {A : Type 0} where
       go true e = ap (λ n. bit (t x) + n) e
       go false e = omega arith
 
+  pub length-keep : (t : A → Bool) (l : List A) → length (keep t l) ≡ count t l
+  length-keep t [] = refl
+  length-keep t (x ∷ l) = go (t x) (length-keep t l)
+    where
+      go : (b : Bool) → length (keep t l) ≡ count t l → length {A = A} (cond b (x ∷ keep t l) (keep t l)) ≡ bit b + count t l
+      go true e = omega arith
+      go false e = omega arith
+
   -- What is counted 0 times passes nowhere.
   count-zero : (t : A → Bool) (d : A) (l : List A) → count t l ≡ 0 → (i : ℕ) → i < length l → t (getD l i d) ≡ true → ⊥
   count-zero t d [] z i h e = omega arith

@@ -1,16 +1,11 @@
--- EntryBytes: the bytes of a listing's entries, as the pattern is walked from left to right.
+-- EntryBytes: the entries of a listing are those at the pattern's words, as it is walked from left to right.
 --
---   above lower us              the terms lower at the lower places, and us at the places above them
---   upTo W f lower t ts         the written map of the word f that keeps only the places up to that of t: below
---                               it stand the terms lower, above it ts
---   Spot                        a word of the pattern, and the bytes that its entries have before it
---   spots W t front             the words of t from left to right, where an entry has the bytes front before t
---   spotsAll W ts f lower front the same for the terms ts, above the terms lower at the places of the word f, which
---                               stands behind the bytes front
 --   othersWritten front hs      for each of the words hs the bytes front, the word and the map 0
 --   spotsWritten W l            the entries at the spots l, each by itself
 --   bytesOf l                   some bytes one behind the other
---   othersBytes front hs, spotsBytes W l   the bytes of these entries one behind the other
+--   above-snoc, above-bytes     terms above others, and their bytes
+--   spots-bytes-append          the entries at spots one behind the other
+--   entries-bytes               the entries of a pattern, whose kind byte stands before its root
 --
 use mathlib.Core.Path.{_≡_, refl, sym, ap, ap₂, _∙_}
 use mathlib.Core.Bool.{Bool, true, false, not, true≢false}
@@ -24,33 +19,11 @@ use Rattle.terms.specs.Listing.{others, allOpen, bare, openEvery, listing, list
 use Rattle.terms.proofs.All.{all-always, all-implies, all-append, all-map}
 use Rattle.wire.specs.Map.{writeMap, flags, number, isOpen, writtenFlags}
 use Rattle.wire.specs.Vocabulary.{Vocabulary, signature, mapOf}
-use Rattle.wire.specs.TermBytes.{writtenMap, encodeAt, encodeAll, encodeTerm}
+use Rattle.wire.specs.TermBytes.{encodeAt, encodeAll, encodeTerm}
 use Rattle.wire.specs.Reply.{kinded}
-use Rattle.wire.specs.Leftovers.{entriesBytes, entriesOf}
+use Rattle.wire.specs.Leftovers.{entriesBytes}
+use Rattle.wire.specs.EntryBytes.{above, upTo, Spot, spots, spotsAll, othersBytes, spotsBytes, EntriesBySpots}
 use Rattle.wire.proofs.Entries.{open-bytes, open-every-bytes}
-
-abbrev pub above : Terms → Terms → Terms
-above nil us = us
-above (cons t ts) us = cons t (above ts us)
-
-abbrev pub upTo : Vocabulary → ℕ → Terms → Term → Terms → ℕ
-upTo W f lower t ts = writtenMap W f (above lower (cons t (openEvery ts)))
-
-pub record Spot : Type 0 where
-  pub front : List ℕ
-  pub word : ℕ
-
-abbrev mutual
-  pub spots : Vocabulary → Term → List ℕ → List Spot
-  spots W any front = []
-  spots W (var n) front = []
-  spots W (app f ts) front = record { front = front; word = f } ∷ spotsAll W ts f nil front
-
-  pub spotsAll : Vocabulary → Terms → ℕ → Terms → List ℕ → List Spot
-  spotsAll W nil f lower front = []
-  spotsAll W (cons t ts) f lower front =
-      spots W t (front ++ (f ∷ (writeMap (upTo W f lower t ts) ++ encodeAll W lower)))
-      ++ spotsAll W ts f (above lower (cons t nil)) front
 
 abbrev pub othersWritten : List ℕ → List ℕ → List (List ℕ)
 othersWritten front hs = map (λ h. front ++ (h ∷ writeMap 0)) hs
@@ -62,14 +35,6 @@ spotsWritten W (x ∷ l) = othersWritten (x .front) (others (signature W) (x .wo
 abbrev pub bytesOf : List (List ℕ) → List ℕ
 bytesOf [] = []
 bytesOf (b ∷ l) = b ++ bytesOf l
-
-abbrev pub othersBytes : List ℕ → List ℕ → List ℕ
-othersBytes front [] = []
-othersBytes front (h ∷ hs) = (front ++ (h ∷ writeMap 0)) ++ othersBytes front hs
-
-abbrev pub spotsBytes : Vocabulary → List Spot → List ℕ
-spotsBytes W [] = []
-spotsBytes W (x ∷ l) = othersBytes (x .front) (others (signature W) (x .word)) ++ spotsBytes W l
 
 -- ---- lists
 
@@ -205,8 +170,7 @@ root-bytes W s (any ∷ l) a = absurd (true≢false (a .0))
 root-bytes W s (var n ∷ l) a = ap (λ z. encodeTerm W s (var n) ++ z) (root-bytes W s l (a .1))
 root-bytes W s (app f ts ∷ l) a = ap (λ z. encodeTerm W s (app f ts) ++ z) (root-bytes W s l (a .1))
 
--- The entries of a pattern, whose kind byte stands before its root.
-pub entries-bytes : (W : Vocabulary) (s : ℕ) (t : Term) → entriesBytes W (entriesOf W s t) ≡ spotsBytes W (spots W t (s ∷ []))
+pub entries-bytes : EntriesBySpots
 entries-bytes W s any = refl
 entries-bytes W s (var n) = refl
 entries-bytes W s (app f ts) =

@@ -1,37 +1,26 @@
--- EntryMaps: an entry keeps of the map of a word above it the bits up to one of them, so a listing goes over the
--- written bits of each word.
+-- EntryMaps: the words of a term, by the bits of its written map.
 --
---   closed ts                         the terms of ts that are written
---   bitSpots W f m front ws b body ts the words below the word f with map m, behind the bytes front: ws are the bits
---                                     of m from bit b on, ts the terms of those that stand, and body the bytes of
---                                     the terms below bit b
+--   closed-bytes     the terms that are not written have no byte
+--   number-kept      what a map keeps of its lower bits
+--   spots-by-bits    a listing goes over the written bits of each word
 --
 use mathlib.Core.Path.{_≡_, refl, sym, ap, ap₂, subst, _∙_}
-use mathlib.Core.Bool.{Bool, true, false, not, cond}
+use mathlib.Core.Bool.{Bool, true, false, not}
 use mathlib.Core.List.{List, [], _∷_, _++_, append-nil, append-assoc}
 use Prim.Native.Nat.{ℕ, suc, _+_, _*_, _%_, _^_, _<_}
 use native.Mathlib.Nat.{pow-suc, mul-assoc, mul-comm, mod-eq-of-lt, add-mul-mod-self-left}
 use native.Mathlib.Omega.{arith}
 use lib.ListN.{length, length-append}
-use Rattle.terms.specs.Term.{Term, any, var, app, Terms, nil, cons, Sorted, SortedAll}
+use Rattle.terms.specs.Term.{Term, any, var, app, Terms, nil, cons, SortedAll}
 use Rattle.terms.specs.Listing.{openEvery}
 use Rattle.wire.specs.Map.{writeMap, flags, bit, number, ones, isOpen, writtenFlags}
-use Rattle.wire.specs.Vocabulary.{Vocabulary, InOrder, signature, word, mapOf}
+use Rattle.wire.specs.Vocabulary.{Vocabulary, signature, word, mapOf}
 use Rattle.wire.specs.TermBytes.{writtenMap, encodeAt, encodeAll}
+use Rattle.wire.specs.EntryBytes.{above, upTo, spots, spotsAll}
+use Rattle.wire.specs.EntryMaps.{closed, bitSpots, SpotsByBits}
 use Rattle.wire.proofs.Map.{number-lt, flags-written}
 use Rattle.wire.proofs.Words.{length-symbols, arguments-word, word-in-order}
-use Rattle.wire.proofs.EntryBytes.{above, upTo, Spot, spots, spotsAll, above-snoc, above-bytes}
-
-abbrev pub closed : Terms → Terms
-closed nil = nil
-closed (cons t ts) = cond (isOpen t) (closed ts) (cons t (closed ts))
-
-abbrev pub bitSpots : Vocabulary → ℕ → ℕ → List ℕ → List Bool → ℕ → List ℕ → Terms → List Spot
-bitSpots W f m front [] b body ts = []
-bitSpots W f m front (false ∷ ws) b body ts = bitSpots W f m front ws (suc b) body ts
-bitSpots W f m front (true ∷ ws) b body nil = []
-bitSpots W f m front (true ∷ ws) b body (cons t ts) =
-    spots W t (front ++ (f ∷ (writeMap (m % 2 ^ suc b) ++ body))) ++ bitSpots W f m front ws (suc b) (body ++ encodeAt W t) ts
+use Rattle.wire.proofs.EntryBytes.{above-snoc, above-bytes}
 
 -- The terms that are not written have no byte.
 pub closed-bytes : (W : Vocabulary) (ts : Terms) → encodeAll W (closed ts) ≡ encodeAll W ts
@@ -146,10 +135,7 @@ module _ (W : Vocabulary) (f : ℕ) (front : List ℕ) where
       ∙ h (cons t us)
       ∙ sym (append-assoc low (not (isOpen t) ∷ []) (writtenFlags ps us))))
 
--- The words of a term, by the bits of its written map.
-pub spots-by-bits : (W : Vocabulary) → InOrder W → (f : ℕ) (ts : Terms) (s : ℕ) → Sorted (signature W) (app f ts) s → (front : List ℕ) →
-    spots W (app f ts) front
-    ≡ record { front = front; word = f } ∷ bitSpots W f (writtenMap W f ts) front (flags (writtenMap W f ts)) 0 [] (closed ts)
+pub spots-by-bits : SpotsByBits
 spots-by-bits W inOrder f ts s sorted front =
     let known : f < length (W .words) = rw (length-symbols W) at (sorted .0) in
     ap (λ l. record { front = front; word = f } ∷ l)

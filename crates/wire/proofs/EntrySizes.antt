@@ -1,15 +1,13 @@
 -- EntrySizes: how many entries and bytes a listing has, by the words of the pattern and by one pass over its bytes.
 --
---   summed W g t at, summedAll W g ts at   the sum of g f q over the words f of t or ts, where q is the offset of f and
---                                          t or ts begins at the offset `at`
---   countAt W f q, sizeAt W f q            how many entries begin to differ at the word f at offset q, and their bytes
---   counted W t, measured W t              how many entries and bytes the listing of t has
---   summedIn W g skip l at                 the same sum over bytes l at the offset `at`, of which the first `skip` are no words
+--   entries-count, entries-length    the sums over the words of the pattern
+--   spots-length                     the same sum over the words of a term
+--   summed-bytes, summed-pattern     one pass over the bytes gives the same sum
+--   pattern-count, pattern-length    the two sums by one pass over the pattern
 --
 use mathlib.Core.Path.{_≡_, refl, sym, ap, ap₂, _∙_}
-use mathlib.Core.Bool.{cond}
 use mathlib.Core.List.{List, [], _∷_, _++_, map, append-nil, append-assoc}
-use Prim.Native.Nat.{ℕ, zero, suc, _+_, _*_, _<_, _≤_}
+use Prim.Native.Nat.{ℕ, suc, _+_, _*_, _<_, _≤_}
 use native.Mathlib.Nat.{add-comm, add-assoc, add-zero, zero-add, suc-mul}
 use native.Mathlib.Omega.{arith}
 use lib.ListN.{length, length-append, length-map}
@@ -19,41 +17,15 @@ use Rattle.terms.specs.Term.{Term, any, var, app, Terms, nil, cons, Sorted, Sor
 use Rattle.terms.specs.Listing.{others, bare, openEvery, listing, listingAll}
 use Rattle.wire.specs.Map.{mapBytes, writeMap}
 use Rattle.wire.specs.Vocabulary.{Vocabulary, InOrder, signature}
-use Rattle.wire.specs.TermBytes.{firstNameByte, nameByte, wholeByte, writtenMap, encodeAt, encodeAll, encodeTerm, GoodTerm}
+use Rattle.wire.specs.TermBytes.{firstNameByte, nameByte, wholeByte, writtenMap, encodeAt, encodeAll, encodeTerm}
 use Rattle.wire.specs.Parser.{isWord}
 use Rattle.wire.specs.Reply.{kinded}
 use Rattle.wire.specs.Leftovers.{entriesBytes, entriesOf}
+use Rattle.wire.specs.EntryBytes.{above, upTo, spots, spotsAll, othersBytes, spotsBytes}
+use Rattle.wire.specs.EntrySizes.{summed, summedAll, countAt, sizeAt, counted, measured, summedIn, PatternCount, PatternLength}
 use Rattle.wire.proofs.Cond.{cond-true, cond-false}
 use Rattle.wire.proofs.Words.{length-symbols}
-use Rattle.wire.proofs.EntryBytes.{above, upTo, spots, spotsAll, othersBytes, spotsBytes, above-bytes, spots-bytes-append, entries-bytes}
-
-abbrev mutual
-  pub summed : Vocabulary → (ℕ → ℕ → ℕ) → Term → ℕ → ℕ
-  summed W g any at = 0
-  summed W g (var n) at = 0
-  summed W g (app f ts) at = g f at + summedAll W g ts (at + 1 + mapBytes)
-
-  pub summedAll : Vocabulary → (ℕ → ℕ → ℕ) → Terms → ℕ → ℕ
-  summedAll W g nil at = 0
-  summedAll W g (cons t ts) at = summed W g t at + summedAll W g ts (at + length (encodeAt W t))
-
-abbrev pub countAt : Vocabulary → ℕ → ℕ → ℕ
-countAt W f q = length (others (signature W) f)
-
-abbrev pub sizeAt : Vocabulary → ℕ → ℕ → ℕ
-sizeAt W f q = length (others (signature W) f) * (q + 1 + mapBytes)
-
--- The kind byte is byte 0, so the term itself begins at 1.
-abbrev pub counted : Vocabulary → Term → ℕ
-counted W t = summed W (countAt W) t 1
-
-abbrev pub measured : Vocabulary → Term → ℕ
-measured W t = summed W (sizeAt W) t 1
-
-abbrev pub summedIn : Vocabulary → (ℕ → ℕ → ℕ) → ℕ → List ℕ → ℕ → ℕ
-summedIn W g skip [] at = 0
-summedIn W g (suc skip) (b ∷ l) at = summedIn W g skip l (at + 1)
-summedIn W g zero (b ∷ l) at = cond (isWord W b) (g b at + summedIn W g mapBytes l (at + 1)) (summedIn W g zero l (at + 1))
+use Rattle.wire.proofs.EntryBytes.{above-bytes, spots-bytes-append, entries-bytes}
 
 -- ---- entries
 
@@ -182,10 +154,8 @@ module _ (W : Vocabulary) (g : ℕ → ℕ → ℕ) where
     summed-pattern s (app f ts) h = summed-alone (app f ts) s h
 
 -- The two sums by one pass over the pattern.
-pub pattern-count : (W : Vocabulary) → InOrder W → (s : ℕ) (t : Term) → GoodTerm W s t →
-    length (entriesOf W s t) ≡ summedIn W (countAt W) 1 (encodeTerm W s t) 0
+pub pattern-count : PatternCount
 pattern-count W inOrder s t good = entries-count W s t ∙ sym (summed-pattern W (countAt W) inOrder s t (good .sorted .sorted))
 
-pub pattern-length : (W : Vocabulary) → InOrder W → (s : ℕ) (t : Term) → GoodTerm W s t →
-    length (entriesBytes W (entriesOf W s t)) ≡ summedIn W (sizeAt W) 1 (encodeTerm W s t) 0
+pub pattern-length : PatternLength
 pattern-length W inOrder s t good = entries-length W s t ∙ sym (summed-pattern W (sizeAt W) inOrder s t (good .sorted .sorted))

@@ -1,7 +1,9 @@
 -- EntryWalk: what a walk over the written bits of a word needs: the bits by their numbers, a written term for each bit
 -- that stands, and the copy of the pattern in which the maps are kept up to a bit.
 --
---   Stands W ws ts     ts are sorted terms, one for each bit of ws that stands, and none of them is an open place
+--   closed-stands             the written terms of a word stand at the bits of its map
+--   flags-at                  the bits of a map by their numbers
+--   word-bytes, copy-patched  a word in the copy, and the copy with another map of it
 --
 use mathlib.Core.Path.{_≡_, refl, sym, ap, ap₂, subst, _∙_}
 use mathlib.Core.Bool.{Bool, true, false}
@@ -13,19 +15,13 @@ use lib.Dec.{eqb}
 use lib.ListN.{length, take, drop, set, length-append}
 use lib.Seq.{take-at, set-at}
 use Rattle.terms.specs.Term.{Term, any, var, app, Terms, nil, cons, Sorted, SortedAll}
-use Rattle.wire.specs.Map.{mapBits, mapBytes, writeMap, flagsIn, flags, ones, isOpen, writtenFlags}
+use Rattle.wire.specs.Map.{mapBits, mapBytes, writeMap, flagsIn, flags, ones, writtenFlags}
 use Rattle.wire.specs.Vocabulary.{Vocabulary, InOrder, signature, word, mapOf}
 use Rattle.wire.specs.TermBytes.{writtenMap, encodeAt, encodeAll}
+use Rattle.wire.specs.EntryMaps.{closed, Stands}
 use Rattle.wire.proofs.Map.{flags-written}
 use Rattle.wire.proofs.Words.{length-symbols, arguments-word, word-in-order}
-use Rattle.wire.proofs.EntryMaps.{closed, closed-bytes}
-
-abbrev pub Stands : Vocabulary → List Bool → Terms → Type 0
-Stands W [] nil = Unit {0}
-Stands W [] (cons t ts) = ⊥
-Stands W (false ∷ ws) ts = Stands W ws ts
-Stands W (true ∷ ws) nil = ⊥
-Stands W (true ∷ ws) (cons t ts) = ((k : ℕ) × Sorted (signature W) t k) × (isOpen t ≡ false) × Stands W ws ts
+use Rattle.wire.proofs.EntryMaps.{closed-bytes}
 
 -- ---- the terms of the written bits
 

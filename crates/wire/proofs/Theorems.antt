@@ -23,6 +23,9 @@
 --   linear-refusals          a pattern to be listed is refused exactly by lines 7 to 15 and 18 of the refusal list
 --   entries-inverse          whole patterns are read off bytes exactly where the bytes are their writings
 --   pattern-is-one           the bytes of list's inputs write one vocabulary and one pattern only
+--   entries-by-spots         the entries of a pattern are those at its words, from left to right
+--   spots-by-bits            the words of a term, by the bits of its written map
+--   pattern-count, pattern-length   one pass over a good pattern counts its entries and their bytes
 --   list-keeps               what is computed of list's reply and lent slice keeps what list promises
 --   decimal-is-exact         a number in decimal is of digits that stand for it, with no needless zero in front
 --   print-keeps              the program's text is the refusal or the listing that list's promise speaks of
@@ -31,6 +34,9 @@
 --   starred-hold             every starred case has the reply that document 01 gives
 --
 use Rattle.wire.specs.Laws.{InOrderIsWellFormed, VocabulariesInverse, TermsInverse, LimitsAreATest, CompleteIsGround, NoGapIsComplete, FullMapMeansNoOpenPlace, EntriesAreGood, VocabularyRefusals, TermRefusals, FirstGapIsExact, SituationRefusals, VocabularyFixed, TermFixed, MatchFixed, PartFixed, ListFixed, PrintFixed, VocabularyKeeps, TermKeeps, MatchKeeps, PartKeeps, JudgeKeeps, PartIsTable, EntriesInverse, PatternIsOne, LinearRefusals, ListKeeps, DecimalIsExact, PrintKeeps, AcceptedIsShort, MoreAltersNothing}
+use Rattle.wire.specs.EntryBytes.{EntriesBySpots}
+use Rattle.wire.specs.EntryMaps.{SpotsByBits}
+use Rattle.wire.specs.EntrySizes.{PatternCount, PatternLength}
 use Rattle.wire.specs.Starred.{StarredHold}
 
 pub in-order-is-well-formed : InOrderIsWellFormed
@@ -113,6 +119,18 @@ entries-inverse = Rattle.wire.proofs.EntriesRead.entries-inverse
 
 pub pattern-is-one : PatternIsOne
 pattern-is-one = Rattle.wire.proofs.Leftovers.pattern-is-one
+
+pub entries-by-spots : EntriesBySpots
+entries-by-spots = Rattle.wire.proofs.EntryBytes.entries-bytes
+
+pub spots-by-bits : SpotsByBits
+spots-by-bits = Rattle.wire.proofs.EntryMaps.spots-by-bits
+
+pub pattern-count : PatternCount
+pattern-count = Rattle.wire.proofs.EntrySizes.pattern-count
+
+pub pattern-length : PatternLength
+pattern-length = Rattle.wire.proofs.EntrySizes.pattern-length
 
 pub list-keeps : ListKeeps
 list-keeps = Rattle.wire.proofs.Leftovers.list-keeps

@@ -26,6 +26,9 @@ pub mod SituationComputed
 pub mod Scan
 pub mod MatchComputed
 pub mod ListComputed
+pub mod EntryBytes
+pub mod EntryMaps
+pub mod EntrySizes
 pub mod PrintComputed
 -- Where an entry of a listing ends, without the vocabulary:
 pub mod EntryCut

@@ -1,19 +1,26 @@
--- `complement::list_places` and `complement::list_term` meet their contracts. Twice the levels left bounds both. The loop's invariant: the terms below
--- bit b are listed. Its measure is what is left of the map.
+-- `complement::list_places` and `complement::list_term` meet their contracts. Twice the levels left bounds both. The loop's
+-- invariant: the terms below bit b are listed. Its measure is what is left of the map.
+--
+--   InPlaces, InTerm     what is asked or known in list_places, and in list_term, at a measure
+--   at the loop          where list_places began, and how far it has come
+--   at a bit             the map is kept up to a bit, and the bit's term stands in the copy
+--   at a term            where list_term began: a term stands in the copy
+--   at a word            its own entries are written, and the terms of its bits stand in the copy
+--   at a listed word     the entries of these terms are written too
+--
 use borrow.Author.Needs.{needs}
-use Prim.Native.Nat.{ℕ, _+_, _-_, _*_, _<_}
-use mathlib.Core.Path.{ap}
+use borrow.Fn.Kinds.{In, Out}
+use borrow.Fn.PlainCycle.{Measures, is, falls, and}
+use mathlib.Core.Path.{_≡_, ap}
 use mathlib.Core.List.{List}
+use Prim.Native.Nat.{ℕ, _+_, _-_, _*_, _<_, _≤_}
 use native.Mathlib.Omega.{arith}
 use denote.Ref.{now}
-use lib.ListN.{length, set}
-use Rattle.complement.specs.Entering.{TermAt, PlacesAt}
+use lib.ListN.{length, getD, set}
+use Rattle.complement.specs.Entering.{TermAt, TermListed, PlacesAt}
 use Rattle.complement.proofs.Places.{Reached, reached-none, copied-length, map-inside, out-length, done-inside, reached-all, is-bit, reached-clear, place-term, reached-term, both-inside}
-use Rattle.complement.proofs.Tallying.{kinds-few}
 use Rattle.complement.proofs.Terms.{Word, term-begun, term-word, name-listed, own-room, own-length, own-inside, word-places, word-listed, word-bare}
-use Rattle.complement.proofs.Writing.{part, written-length}
-use borrow.Fn.Kinds.{In}
-use borrow.Fn.PlainCycle.{Measures, is, falls, and}
+use Rattle.complement.proofs.Writing.{part, back, written-length}
 use Rattle.complement.proofs.list_places.Reads as list-places
 use Rattle.complement.proofs.list_places.Kinds as list-places-kinds
 use Rattle.complement.proofs.+list_places+list_term.Lts-list_places as list-places-lts
@@ -26,33 +33,33 @@ use Rattle.complement.proofs.write_others.Reads as write-others-reads
 use Rattle.complement.proofs.+list_places+list_term.{statement}
 use Rattle.complement.proofs.+list_places+list_term.Tie.{close}
 
-abbrev μ-list-places : Measures 5 list-places-kinds.ps ℕ
-μ-list-places κs a = 2 * (a .1 .1 .1 .1 .1 .1 .1 .0) - 1
+abbrev μ-list-places : Measures 4 list-places-kinds.ps ℕ
+μ-list-places κs a = 2 * (a .1 .1 .1 .1 .1 .1 .0) - 1
 
-abbrev μ-list-term : Measures 5 list-term-kinds.ps ℕ
-μ-list-term κs a = 2 * (a .1 .1 .1 .1 .1 .1 .0)
+abbrev μ-list-term : Measures 4 list-term-kinds.ps ℕ
+μ-list-term κs a = 2 * (a .1 .1 .1 .1 .1 .0)
 
-abbrev list-places-at : ℕ → In 5 list-places-kinds.ps
+abbrev list-places-at : ℕ → In 4 list-places-kinds.ps
 list-places-at t =
-    and 5 list-places-kinds.ps (is 5 list-places-kinds.ps μ-list-places t) list-places.Pre
+    and 4 list-places-kinds.ps (is 4 list-places-kinds.ps μ-list-places t) list-places.Pre
 
-abbrev list-places-below : ℕ → In 5 list-places-kinds.ps
+abbrev list-places-below : ℕ → In 4 list-places-kinds.ps
 list-places-below t =
-    and 5 list-places-kinds.ps (falls 5 list-places-kinds.ps _<_ μ-list-places t) list-places.Pre
+    and 4 list-places-kinds.ps (falls 4 list-places-kinds.ps _<_ μ-list-places t) list-places.Pre
 
-abbrev list-term-at : ℕ → In 5 list-term-kinds.ps
-list-term-at t = and 5 list-term-kinds.ps (is 5 list-term-kinds.ps μ-list-term t) list-term.Pre
+abbrev list-term-at : ℕ → In 4 list-term-kinds.ps
+list-term-at t = and 4 list-term-kinds.ps (is 4 list-term-kinds.ps μ-list-term t) list-term.Pre
 
-abbrev list-term-below : ℕ → In 5 list-term-kinds.ps
+abbrev list-term-below : ℕ → In 4 list-term-kinds.ps
 list-term-below t =
-    and 5 list-term-kinds.ps (falls 5 list-term-kinds.ps _<_ μ-list-term t) list-term.Pre
+    and 4 list-term-kinds.ps (falls 4 list-term-kinds.ps _<_ μ-list-term t) list-term.Pre
 
 abbrev list-places-Inv-loop : list-places-lts.InvT-loop
-list-places-Inv-loop copy₀ at map words results firsts nexts left out₀ n₀ next₀ b₀ bits₀ copy out n next b bits =
+list-places-Inv-loop copy₀ at map words results chains left out₀ n₀ next₀ b₀ bits₀ copy out n next b bits =
     (h : PlacesAt copy₀ at map words results left (length out₀)) → Reached out₀ h b next n bits copy out
 
 abbrev list-places-μ-loop : list-places-lts.MeasureT-loop
-list-places-μ-loop copy₀ at map words results firsts nexts left out₀ n₀ next₀ b₀ bits₀ copy out n next b bits = bits
+list-places-μ-loop copy₀ at map words results chains left out₀ n₀ next₀ b₀ bits₀ copy out n next b bits = bits
 
 abbrev places-claims : ℕ → list-places-lts.Claims
 places-claims t = (
@@ -74,231 +81,289 @@ term-claims t = (
   list-places.Post,
 )
 
--- How far the loop of list_places has come.
-module _ (t : ℕ) (c : list-places-lts.At-loop (places-claims t) (list-places-at t) list-places.Post list-places-Inv-loop list-places-μ-loop) where
-  abbrev loop-start : list-places-lts.Start (places-claims t) (list-places-at t) list-places.Post list-places-Inv-loop list-places-μ-loop
-  loop-start = c .before .before .before .before
+-- What is asked or known in list_places, and in list_term, at a measure.
+abbrev InPlaces : (list-places-lts.Claims → In 4 list-places-kinds.ps → Out 4 list-places-kinds.ps list-places-kinds.r → list-places-lts.InvT-loop → list-places-lts.MeasureT-loop → Type 0) → ℕ → Type 0
+InPlaces asked t = asked (places-claims t) (list-places-at t) list-places.Post list-places-Inv-loop list-places-μ-loop
 
-  abbrev loop-out : List ℕ
-  loop-out = now (loop-start .args .out)
+abbrev InTerm : (list-term-lts.Claims → In 4 list-term-kinds.ps → Out 4 list-term-kinds.ps list-term-kinds.r → Type 0) → ℕ → Type 0
+InTerm asked t = asked (term-claims t) (list-term-at t) list-term.Post
 
-  abbrev LoopPlaces : Type 0
-  LoopPlaces = PlacesAt (now (loop-start .args .copy)) (loop-start .args .at) (loop-start .args .map) (loop-start .args .words) (now (loop-start .args .results)) (loop-start .args .left) (length loop-out)
+-- ---- list_places, at the loop
 
-  abbrev loop-places : LoopPlaces
-  loop-places = loop-start .pre .1 .1
+module _ (t : ℕ) (c : InPlaces list-places-lts.At-loop t) where
+  abbrev start : InPlaces list-places-lts.Start t
+  start = c .before .before .before .before
 
-  loop-reached : (h : LoopPlaces) → Reached loop-out h (c .loop .b) (c .loop .next) (c .loop .n) (c .loop .bits) (c .loop .copy) (c .loop .out)
-  loop-reached h = c .loop .inv h
+  abbrev before : List ℕ
+  before = now (start .args .out)
 
-list-places-add-next : (t : ℕ) → list-places-lts.Need-add-next (places-claims t) (list-places-at t) list-places.Post list-places-Inv-loop list-places-μ-loop
+  -- A word stands in the copy, with the terms of its written bits.
+  abbrev Places : Type 0
+  Places =
+      PlacesAt (now (start .args .copy)) (start .args .at) (start .args .map) (start .args .words) (now (start .args .results)) (start .args .left)
+      (length before)
+
+  abbrev places : Places
+  places = start .pre .1 .1
+
+  reached : (h : Places) → Reached before h (c .loop .b) (c .loop .next) (c .loop .n) (c .loop .bits) (c .loop .copy) (c .loop .out)
+  reached h = c .loop .inv h
+
+  map-there : start .args .at + 1 < length (c .loop .copy)
+  map-there = omega (arith, map-inside places, copied-length before places (reached places))
+
+list-places-add-next : (t : ℕ) → InPlaces list-places-lts.Need-add-next t
 list-places-add-next t c = let z = map-inside (c .before .before .pre .1 .1) in search needs
 
-list-places-wide-requires : (t : ℕ) → list-places-lts.Need-wide-requires (places-claims t) (list-places-at t) list-places.Post list-places-Inv-loop list-places-μ-loop
+list-places-wide-requires : (t : ℕ) → InPlaces list-places-lts.Need-wide-requires t
 list-places-wide-requires t c κs = search needs
 
-list-places-loop-holds : (t : ℕ) → list-places-lts.Need-loop-holds (places-claims t) (list-places-at t) list-places.Post list-places-Inv-loop list-places-μ-loop
+list-places-loop-holds : (t : ℕ) → InPlaces list-places-lts.Need-loop-holds t
 list-places-loop-holds t c = λ h. reached-none _ h (c .wide .ensures .same)
 
-list-places-add-b : (t : ℕ) → list-places-lts.Need-add-b (places-claims t) (list-places-at t) list-places.Post list-places-Inv-loop list-places-μ-loop
-list-places-add-b t c = let z = loop-reached t (c .before) (loop-places t (c .before)) .low in search needs
+list-places-add-b : (t : ℕ) → InPlaces list-places-lts.Need-add-b t
+list-places-add-b t c = let z = reached t (c .before) (places t (c .before)) .low in search needs
 
-list-places-kept-requires : (t : ℕ) → list-places-lts.Need-kept-requires (places-claims t) (list-places-at t) list-places.Post list-places-Inv-loop list-places-μ-loop
-list-places-kept-requires t c κs = is-bit _ _ (loop-reached t (c .before .before) (loop-places t (c .before .before))) (omega arith) (c .before .loop-test .taken)
+list-places-kept-requires : (t : ℕ) → InPlaces list-places-lts.Need-kept-requires t
+list-places-kept-requires t c κs =
+    let at-loop = c .before .before in
+    is-bit _ _ (reached t at-loop (places t at-loop)) (omega arith) (c .before .loop-test .taken)
 
-list-places-add-copy : (t : ℕ) → list-places-lts.Need-add-copy (places-claims t) (list-places-at t) list-places.Post list-places-Inv-loop list-places-μ-loop
-list-places-add-copy t c = let z = map-inside (loop-places t (c .before .before .before)) in let l = copied-length _ _ (loop-reached t (c .before .before .before) (loop-places t (c .before .before .before))) in search needs
+list-places-add-copy : (t : ℕ) → InPlaces list-places-lts.Need-add-copy t
+list-places-add-copy t c = let z = map-inside (places t (c .before .before .before)) in search needs
 
-list-places-slice-write-copy : (t : ℕ) → list-places-lts.Need-slice-write-copy (places-claims t) (list-places-at t) list-places.Post list-places-Inv-loop list-places-μ-loop
-list-places-slice-write-copy t c = let z = map-inside (loop-places t (c .before .before .before)) in let l = copied-length _ _ (loop-reached t (c .before .before .before) (loop-places t (c .before .before .before))) in search needs
+list-places-slice-write-copy : (t : ℕ) → InPlaces list-places-lts.Need-slice-write-copy t
+list-places-slice-write-copy t c = let z = map-there t (c .before .before .before) in search needs
 
--- Where list_places has kept the map up to a bit, the term of this bit is listed next.
-module _ (t : ℕ) (c : list-places-lts.After-kept (places-claims t) (list-places-at t) list-places.Post list-places-Inv-loop list-places-μ-loop) where
-  abbrev kept-loop : list-places-lts.At-loop (places-claims t) (list-places-at t) list-places.Post list-places-Inv-loop list-places-μ-loop
-  kept-loop = c .before .before .before
+-- ---- list_places, at a bit that stands
 
-  abbrev KeptTerm : Type 0
-  KeptTerm = TermAt (set (kept-loop .loop .copy) (loop-start t kept-loop .args .at + 1) (c .kept .result)) (kept-loop .loop .next) (loop-start t kept-loop .args .words) (now (loop-start t kept-loop .args .results)) (loop-start t kept-loop .args .left - 1) (length (part (kept-loop .loop .n) (kept-loop .loop .out)))
+module _ (t : ℕ) (c : InPlaces list-places-lts.After-kept t) where
+  abbrev at-bit : InPlaces list-places-lts.At-loop t
+  at-bit = c .before .before .before
 
-  abbrev kept-term : (h : LoopPlaces t kept-loop) → KeptTerm
-  kept-term h =
-      place-term (loop-out t kept-loop) h (loop-reached t kept-loop h) (omega arith) (c .before .before .loop-test .taken) (c .before .if1 .taken) (c .kept .ensures)
+  -- The bit's term stands in the copy.
+  abbrev BitTerm : Type 0
+  BitTerm =
+      TermAt (set (at-bit .loop .copy) (start t at-bit .args .at + 1) (c .kept .result)) (at-bit .loop .next) (start t at-bit .args .words)
+      (now (start t at-bit .args .results)) (start t at-bit .args .left - 1) (length (part (at-bit .loop .n) (at-bit .loop .out)))
 
-list-places-sub-list-term : (t : ℕ) → list-places-lts.Need-sub-list-term (places-claims t) (list-places-at t) list-places.Post list-places-Inv-loop list-places-μ-loop
-list-places-sub-list-term t c = let d = loop-places t (kept-loop t (c .before)) .deep in omega arith
+  abbrev bit-term : (h : Places t at-bit) → BitTerm
+  bit-term h =
+      place-term (before t at-bit) h (reached t at-bit h) (omega arith) (c .before .before .loop-test .taken) (c .before .if1 .taken) (c .kept .ensures)
 
-list-places-sub-list-term-2 : (t : ℕ) → list-places-lts.Need-sub-list-term-2 (places-claims t) (list-places-at t) list-places.Post list-places-Inv-loop list-places-μ-loop
-list-places-sub-list-term-2 t c = done-inside _ _ (loop-reached t (kept-loop t (c .before)) (loop-places t (kept-loop t (c .before))))
+  bit-inside : at-bit .loop .n ≤ length (at-bit .loop .out)
+  bit-inside = done-inside _ _ (reached t at-bit (places t at-bit))
 
-list-places-part-list-term-start : (t : ℕ) → list-places-lts.Need-part-list-term-start (places-claims t) (list-places-at t) list-places.Post list-places-Inv-loop list-places-μ-loop
-list-places-part-list-term-start t c = done-inside _ _ (loop-reached t (kept-loop t (c .before)) (loop-places t (kept-loop t (c .before))))
+list-places-sub-list-term : (t : ℕ) → InPlaces list-places-lts.Need-sub-list-term t
+list-places-sub-list-term t c = let d = places t (at-bit t (c .before)) .deep in omega arith
 
-list-places-part-list-term-end : (t : ℕ) → list-places-lts.Need-part-list-term-end (places-claims t) (list-places-at t) list-places.Post list-places-Inv-loop list-places-μ-loop
+list-places-sub-list-term-2 : (t : ℕ) → InPlaces list-places-lts.Need-sub-list-term-2 t
+list-places-sub-list-term-2 t c = bit-inside t (c .before)
+
+list-places-part-list-term-start : (t : ℕ) → InPlaces list-places-lts.Need-part-list-term-start t
+list-places-part-list-term-start t c = bit-inside t (c .before)
+
+list-places-part-list-term-end : (t : ℕ) → InPlaces list-places-lts.Need-part-list-term-end t
 list-places-part-list-term-end t c = search needs
 
-list-places-list-term-requires : (t : ℕ) → list-places-lts.Need-list-term-requires (places-claims t) (list-places-at t) list-places.Post list-places-Inv-loop list-places-μ-loop
+list-places-list-term-requires : (t : ℕ) → InPlaces list-places-lts.Need-list-term-requires t
 list-places-list-term-requires t c κs =
     let at-kept = c .before .before in
-    (omega (arith, loop-start t (kept-loop t at-kept) .pre .0, loop-places t (kept-loop t at-kept) .deep), (loop-start t (kept-loop t at-kept) .pre .1 .0, kept-term t at-kept (loop-places t (kept-loop t at-kept))))
+    let at-loop = at-bit t at-kept in
+    let begun = start t at-loop in
+    (omega (arith, begun .pre .0, places t at-loop .deep), (begun .pre .1 .0, bit-term t at-kept (places t at-loop)))
 
-list-places-add-n : (t : ℕ) → list-places-lts.Need-add-n (places-claims t) (list-places-at t) list-places.Post list-places-Inv-loop list-places-μ-loop
+list-places-add-n : (t : ℕ) → InPlaces list-places-lts.Need-add-n t
 list-places-add-n t c =
-    let at-list-term = c .before .before .before .before .before in
-    let at-kept = at-list-term .before .before .before in
-    let start = loop-start t (kept-loop t at-kept) in
-    let h = loop-places t (kept-loop t at-kept) in
-    let z = both-inside _ h (loop-reached t (kept-loop t at-kept) h) (omega arith) (at-kept .before .before .loop-test .taken) (at-kept .before .if1 .taken) (at-kept .kept .ensures) (at-list-term .list-term .ensures (kept-term t at-kept h)) in
-    record { fits = omega (arith, z, start .good .1 .1 .1 .1 .1 .1 .1 .1 .0 .0) }
+    let at-term = c .before .before .before .before .before in
+    let at-kept = at-term .before .before .before in
+    let at-loop = at-bit t at-kept in
+    let h = places t at-loop in
+    let z = both-inside _ h (reached t at-loop h) (omega arith) (at-kept .before .before .loop-test .taken) (at-kept .before .if1 .taken) (at-kept .kept .ensures) (at-term .list-term .ensures (bit-term t at-kept h)) in
+    record { fits = omega (arith, z, start t at-loop .good .1 .1 .1 .1 .1 .1 .1 .0 .0) }
 
-list-places-loop-less : (t : ℕ) → list-places-lts.Need-loop-less (places-claims t) (list-places-at t) list-places.Post list-places-Inv-loop list-places-μ-loop
+list-places-loop-less : (t : ℕ) → InPlaces list-places-lts.Need-loop-less t
 list-places-loop-less t c = search needs
 
-list-places-loop-again : (t : ℕ) → list-places-lts.Need-loop-again (places-claims t) (list-places-at t) list-places.Post list-places-Inv-loop list-places-μ-loop
+list-places-loop-again : (t : ℕ) → InPlaces list-places-lts.Need-loop-again t
 list-places-loop-again t c =
-    let at-list-term = c .before .before .before .before .before in
-    let at-kept = at-list-term .before .before .before in
-    λ h. reached-term _ h (loop-reached t (kept-loop t at-kept) h) (omega arith) (at-kept .before .before .loop-test .taken) (at-kept .before .if1 .taken) (at-kept .kept .ensures) (at-list-term .list-term .ensures (kept-term t at-kept h))
+    let at-term = c .before .before .before .before .before in
+    let at-kept = at-term .before .before .before in
+    λ h. reached-term _ h (reached t (at-bit t at-kept) h) (omega arith) (at-kept .before .before .loop-test .taken) (at-kept .before .if1 .taken) (at-kept .kept .ensures) (at-term .list-term .ensures (bit-term t at-kept h))
 
-list-places-loop-less-2 : (t : ℕ) → list-places-lts.Need-loop-less-2 (places-claims t) (list-places-at t) list-places.Post list-places-Inv-loop list-places-μ-loop
+-- ---- list_places, at a bit that is clear, and at the end
+
+list-places-loop-less-2 : (t : ℕ) → InPlaces list-places-lts.Need-loop-less-2 t
 list-places-loop-less-2 t c = search needs
 
-list-places-loop-again-2 : (t : ℕ) → list-places-lts.Need-loop-again-2 (places-claims t) (list-places-at t) list-places.Post list-places-Inv-loop list-places-μ-loop
+list-places-loop-again-2 : (t : ℕ) → InPlaces list-places-lts.Need-loop-again-2 t
 list-places-loop-again-2 t c =
-    let at-loop = c .before .before in
-    λ h. reached-clear _ h (at-loop .loop .inv h) (omega arith) (c .before .loop-test .taken) (c .if1 .left)
+    λ h. reached-clear _ h (reached t (c .before .before) h) (omega arith) (c .before .loop-test .taken) (c .if1 .left)
 
-list-places-add-copy-2 : (t : ℕ) → list-places-lts.Need-add-copy-2 (places-claims t) (list-places-at t) list-places.Post list-places-Inv-loop list-places-μ-loop
-list-places-add-copy-2 t c = let z = map-inside (loop-places t (c .before)) in let l = copied-length _ _ (loop-reached t (c .before) (loop-places t (c .before))) in search needs
+list-places-add-copy-2 : (t : ℕ) → InPlaces list-places-lts.Need-add-copy-2 t
+list-places-add-copy-2 t c = let z = map-inside (places t (c .before)) in search needs
 
-list-places-slice-write-copy-2 : (t : ℕ) → list-places-lts.Need-slice-write-copy-2 (places-claims t) (list-places-at t) list-places.Post list-places-Inv-loop list-places-μ-loop
-list-places-slice-write-copy-2 t c = let z = map-inside (loop-places t (c .before)) in let l = copied-length _ _ (loop-reached t (c .before) (loop-places t (c .before))) in search needs
+list-places-slice-write-copy-2 : (t : ℕ) → InPlaces list-places-lts.Need-slice-write-copy-2 t
+list-places-slice-write-copy-2 t c = let z = map-there t (c .before) in search needs
 
-list-places-same-length : (t : ℕ) → list-places-lts.Need-same-length (places-claims t) (list-places-at t) list-places.Post list-places-Inv-loop list-places-μ-loop
-list-places-same-length t c = ap length (reached-all _ _ (loop-reached t (c .before) (loop-places t (c .before))) (c .loop-test .left) .restored)
+list-places-same-length : (t : ℕ) → InPlaces list-places-lts.Need-same-length t
+list-places-same-length t c =
+    let at-loop = c .before in
+    ap length (reached-all _ _ (reached t at-loop (places t at-loop)) (c .loop-test .left) .restored)
 
-list-places-same-length-2 : (t : ℕ) → list-places-lts.Need-same-length-2 (places-claims t) (list-places-at t) list-places.Post list-places-Inv-loop list-places-μ-loop
-list-places-same-length-2 t c = out-length _ _ (loop-reached t (c .before) (loop-places t (c .before)))
+list-places-same-length-2 : (t : ℕ) → InPlaces list-places-lts.Need-same-length-2 t
+list-places-same-length-2 t c = out-length _ _ (reached t (c .before) (places t (c .before)))
 
-list-places-returns : (t : ℕ) → list-places-lts.Need-returns (places-claims t) (list-places-at t) list-places.Post list-places-Inv-loop list-places-μ-loop
-list-places-returns t c = λ h. reached-all _ h (c .before .loop .inv h) (c .loop-test .left)
+list-places-returns : (t : ℕ) → InPlaces list-places-lts.Need-returns t
+list-places-returns t c = λ h. reached-all _ h (reached t (c .before) h) (c .loop-test .left)
 
-list-term-slice-read-first : (t : ℕ) → list-term-lts.Need-slice-read-first (term-claims t) (list-term-at t) list-term.Post
+-- ---- list_term, at a term
+
+list-term-slice-read-first : (t : ℕ) → InTerm list-term-lts.Need-slice-read-first t
 list-term-slice-read-first t c = let z = term-begun (c .before .before .before .pre .1 .1) .inside in search needs
 
-list-term-add-t18 : (t : ℕ) → list-term-lts.Need-add-t18 (term-claims t) (list-term-at t) list-term.Post
-list-term-add-t18 t c = let z = term-begun (c .before .before .before .before .pre .1 .1) .inside in search needs
+list-term-add-end : (t : ℕ) → InTerm list-term-lts.Need-add-end t
+list-term-add-end t c = let z = term-begun (c .before .before .before .before .pre .1 .1) .inside in search needs
 
-list-term-returns : (t : ℕ) → list-term-lts.Need-returns (term-claims t) (list-term-at t) list-term.Post
+list-term-returns : (t : ℕ) → InTerm list-term-lts.Need-returns t
 list-term-returns t c = λ h. name-listed h (c .if1 .taken) _
 
-list-term-add-map : (t : ℕ) → list-term-lts.Need-add-map (term-claims t) (list-term-at t) list-term.Post
+list-term-add-map : (t : ℕ) → InTerm list-term-lts.Need-add-map t
 list-term-add-map t c = let z = term-word (c .before .before .before .before .pre .1 .1) (c .if1 .left) .inside in search needs
 
-list-term-slice-read-map : (t : ℕ) → list-term-lts.Need-slice-read-map (term-claims t) (list-term-at t) list-term.Post
+list-term-slice-read-map : (t : ℕ) → InTerm list-term-lts.Need-slice-read-map t
 list-term-slice-read-map t c = let z = term-word (c .before .before .before .before .before .pre .1 .1) (c .before .if1 .left) .inside in search needs
 
-list-term-wide-requires : (t : ℕ) → list-term-lts.Need-wide-requires (term-claims t) (list-term-at t) list-term.Post
+list-term-wide-requires : (t : ℕ) → InTerm list-term-lts.Need-wide-requires t
 list-term-wide-requires t c κs = search needs
 
-list-term-write-others-requires : (t : ℕ) → list-term-lts.Need-write-others-requires (term-claims t) (list-term-at t) list-term.Post
+-- ---- list_term, at a word
+
+module _ (t : ℕ) (c : InTerm list-term-lts.After-wide t) where
+  abbrev word-start : InTerm list-term-lts.Start t
+  word-start = c .before .before .before .before .before .before .before
+
+  abbrev room : List ℕ
+  room = now (word-start .args .out)
+
+  -- A term stands in the copy.
+  abbrev Standing : Type 0
+  Standing =
+      TermAt (now (word-start .args .copy)) (word-start .args .at) (word-start .args .words) (now (word-start .args .results)) (word-start .args .left)
+      (length room)
+
+  abbrev standing : Standing
+  standing = word-start .pre .1 .1
+
+  -- It is a word.
+  abbrev word : (h : Standing) → Word h
+  word h = term-word h (c .before .before .before .if1 .left)
+
+list-term-write-others-requires : (t : ℕ) → InTerm list-term-lts.Need-write-others-requires t
 list-term-write-others-requires t c κs =
     let at-wide = c .before in
-    let at-if1 = at-wide .before .before .before in
-    let start = at-if1 .before .before .before .before in
-    let h = start .pre .1 .1 in
-    let w = term-word h (at-if1 .if1 .left) in
+    let begun = word-start t at-wide in
+    let h = standing t at-wide in
+    let w = word t at-wide h in
     let z = term-begun h in
-    (omega (arith, z .inside), (omega (arith, z .inside, h .size), (z .few, (omega (arith, w .known, at-wide .wide .ensures .same), (start .pre .1 .0, (own-room (now (start .args .out)) h w (at-wide .wide .ensures .same), kinds-few (h .inOrder) (h .tabled)))))))
+    let byte = at-wide .wide .ensures .same in
+    (omega (arith, z .inside), (omega (arith, z .inside, h .size), (z .few, (omega (arith, w .known, byte), (begun .pre .1 .0, own-room (room t at-wide) h w byte)))))
 
--- Where list_term has written a word's own entries.
-module _ (t : ℕ) (c : list-term-lts.After-write-others (term-claims t) (list-term-at t) list-term.Post) where
-  abbrev own-start : list-term-lts.Start (term-claims t) (list-term-at t) list-term.Post
-  own-start = c .before .before .before .before .before .before .before .before .before
+-- Its own entries are written.
+module _ (t : ℕ) (c : InTerm list-term-lts.After-write-others t) where
+  abbrev at-word : InTerm list-term-lts.After-wide t
+  at-word = c .before .before
 
-  abbrev own-out : List ℕ
-  own-out = now (own-start .args .out)
+  abbrev byte : at-word .wide .result ≡ getD (now (word-start t at-word .args .copy)) (word-start t at-word .args .at) 0
+  byte = at-word .wide .ensures .same
 
-  abbrev OwnTerm : Type 0
-  OwnTerm = TermAt (now (own-start .args .copy)) (own-start .args .at) (own-start .args .words) (now (own-start .args .results)) (own-start .args .left) (length own-out)
+  abbrev own-after : List ℕ
+  own-after = c .write-others .last .1 .1 .1 .1 .1 .1 .0
 
-  abbrev own-term : OwnTerm
-  own-term = own-start .pre .1 .1
+  -- The terms of its bits stand in the copy, and have room in the part that is left.
+  abbrev WordTerms : Type 0
+  WordTerms =
+      PlacesAt (now (word-start t at-word .args .copy)) (word-start t at-word .args .at)
+      (getD (now (word-start t at-word .args .copy)) (word-start t at-word .args .at + 1) 0) (word-start t at-word .args .words)
+      (now (word-start t at-word .args .results)) (word-start t at-word .args .left) (length (part (c .write-others .result) own-after))
 
-  abbrev own-word : (h : OwnTerm) → Word h
-  own-word h = term-word h (c .before .before .before .before .before .if1 .left)
+  abbrev word-terms : (h : Standing t at-word) → WordTerms
+  word-terms h = word-places (room t at-word) h (word t at-word h) byte (c .write-others .ensures)
 
-list-term-add-t25 : (t : ℕ) → list-term-lts.Need-add-t25 (term-claims t) (list-term-at t) list-term.Post
-list-term-add-t25 t c = let z = own-word t (c .before .before .before) (own-term t (c .before .before .before)) .inside in search needs
+  own-entries-inside : c .write-others .result ≤ length own-after
+  own-entries-inside = own-inside (room t at-word) (standing t at-word) (word t at-word (standing t at-word)) byte (c .write-others .ensures)
 
-list-term-same-length : (t : ℕ) → list-term-lts.Need-same-length (term-claims t) (list-term-at t) list-term.Post
+list-term-add-end-2 : (t : ℕ) → InTerm list-term-lts.Need-add-end-2 t
+list-term-add-end-2 t c =
+    let at-own = at-word t (c .before .before .before) in
+    let z = word t at-own (standing t at-own) .inside in
+    search needs
+
+list-term-same-length : (t : ℕ) → InTerm list-term-lts.Need-same-length t
 list-term-same-length t c = search needs
 
-list-term-same-length-2 : (t : ℕ) → list-term-lts.Need-same-length-2 (term-claims t) (list-term-at t) list-term.Post
+list-term-same-length-2 : (t : ℕ) → InTerm list-term-lts.Need-same-length-2 t
 list-term-same-length-2 t c =
-    let o = c .before .before .before in
-    own-length (own-out t o) (own-term t o) (own-word t o (own-term t o)) (o .before .before .wide .ensures .same) (o .write-others .ensures)
+    let own = c .before .before .before in
+    let h = standing t (at-word t own) in
+    own-length (room t (at-word t own)) h (word t (at-word t own) h) (byte t own) (own .write-others .ensures)
 
-list-term-returns-2 : (t : ℕ) → list-term-lts.Need-returns-2 (term-claims t) (list-term-at t) list-term.Post
+list-term-returns-2 : (t : ℕ) → InTerm list-term-lts.Need-returns-2 t
 list-term-returns-2 t c =
-    let o = c .before .before .before in
-    λ h. word-bare (own-out t o) h (own-word t o h) (o .before .before .wide .ensures .same) (o .write-others .ensures) (c .if2 .taken)
+    let own = c .before .before .before in
+    λ h. word-bare (room t (at-word t own)) h (word t (at-word t own) h) (byte t own) (own .write-others .ensures) (c .if2 .taken)
 
-list-term-sub-list-places : (t : ℕ) → list-term-lts.Need-sub-list-places (term-claims t) (list-term-at t) list-term.Post
-list-term-sub-list-places t c =
-    let o = c .before .before .before .before in
-    own-inside (own-out t o) (own-term t o) (own-word t o (own-term t o)) (o .before .before .wide .ensures .same) (o .write-others .ensures)
+list-term-sub-list-places : (t : ℕ) → InTerm list-term-lts.Need-sub-list-places t
+list-term-sub-list-places t c = own-entries-inside t (c .before .before .before .before)
 
-list-term-part-list-places-start : (t : ℕ) → list-term-lts.Need-part-list-places-start (term-claims t) (list-term-at t) list-term.Post
-list-term-part-list-places-start t c =
-    let o = c .before .before .before .before in
-    own-inside (own-out t o) (own-term t o) (own-word t o (own-term t o)) (o .before .before .wide .ensures .same) (o .write-others .ensures)
+list-term-part-list-places-start : (t : ℕ) → InTerm list-term-lts.Need-part-list-places-start t
+list-term-part-list-places-start t c = own-entries-inside t (c .before .before .before .before)
 
-list-term-part-list-places-end : (t : ℕ) → list-term-lts.Need-part-list-places-end (term-claims t) (list-term-at t) list-term.Post
+list-term-part-list-places-end : (t : ℕ) → InTerm list-term-lts.Need-part-list-places-end t
 list-term-part-list-places-end t c = search needs
 
-list-term-list-places-requires : (t : ℕ) → list-term-lts.Need-list-places-requires (term-claims t) (list-term-at t) list-term.Post
+list-term-list-places-requires : (t : ℕ) → InTerm list-term-lts.Need-list-places-requires t
 list-term-list-places-requires t c κs =
-    let o = c .before .before .before .before .before in
-    let p = word-places (own-out t o) (own-term t o) (own-word t o (own-term t o)) (o .before .before .wide .ensures .same) (o .write-others .ensures) in
-    (omega (arith, own-start t o .pre .0, p .deep), (own-start t o .pre .1 .0, p))
+    let own = c .before .before .before .before .before in
+    let begun = word-start t (at-word t own) in
+    let p = word-terms t own (standing t (at-word t own)) in
+    (omega (arith, begun .pre .0, p .deep), (begun .pre .1 .0, p))
 
-list-term-add-t19 : (t : ℕ) → list-term-lts.Need-add-t19 (term-claims t) (list-term-at t) list-term.Post
-list-term-add-t19 t c =
-    let at-list-places = c .before .before .before .before in
-    let o = at-list-places .before .before .before .before .before .before in
-    let h = own-term t o in
-    let w = own-word t o h in
-    let same = o .before .before .wide .ensures .same in
-    let l = word-listed (own-out t o) h w same (o .write-others .ensures) (at-list-places .list-places .ensures (word-places (own-out t o) h w same (o .write-others .ensures))) in
-    record { fits = omega (arith, h .fits, l .written .count, own-start t o .good .1 .1 .1 .1 .1 .1 .1 .0 .0) }
+-- ---- list_term, at a word whose terms are listed
 
-list-term-same-length-3 : (t : ℕ) → list-term-lts.Need-same-length-3 (term-claims t) (list-term-at t) list-term.Post
+module _ (t : ℕ) (c : InTerm list-term-lts.After-list-places t) where
+  abbrev own-done : InTerm list-term-lts.After-write-others t
+  own-done = c .before .before .before .before .before .before
+
+  -- The whole word is listed.
+  abbrev all-listed : (h : Standing t (at-word t own-done)) →
+      TermListed h (c .list-places .last .0) (room t (at-word t own-done))
+      (back (own-done .write-others .result) (own-after t own-done) (c .list-places .last .1 .1 .1 .1 .1 .1 .1 .0))
+      (c .list-places .result .at) (own-done .write-others .result + c .list-places .result .written)
+  all-listed h =
+      word-listed (room t (at-word t own-done)) h (word t (at-word t own-done) h) (byte t own-done) (own-done .write-others .ensures)
+      (c .list-places .ensures (word-terms t own-done h))
+
+list-term-add-written : (t : ℕ) → InTerm list-term-lts.Need-add-written t
+list-term-add-written t c =
+    let at-places = c .before .before .before .before .before in
+    let at-own = at-word t (own-done t at-places) in
+    let h = standing t at-own in
+    record { fits = omega (arith, h .fits, all-listed t at-places h .written .count, word-start t at-own .good .1 .1 .1 .1 .1 .1 .0 .0) }
+
+list-term-same-length-3 : (t : ℕ) → InTerm list-term-lts.Need-same-length-3 t
 list-term-same-length-3 t c =
-    let at-list-places = c .before .before .before .before in
-    let o = at-list-places .before .before .before .before .before .before in
-    let h = own-term t o in
-    let w = own-word t o h in
-    let same = o .before .before .wide .ensures .same in
-    let l = word-listed (own-out t o) h w same (o .write-others .ensures) (at-list-places .list-places .ensures (word-places (own-out t o) h w same (o .write-others .ensures))) in
-    ap length (l .restored)
+    let at-places = c .before .before .before .before .before in
+    ap length (all-listed t at-places (standing t (at-word t (own-done t at-places))) .restored)
 
-list-term-same-length-4 : (t : ℕ) → list-term-lts.Need-same-length-4 (term-claims t) (list-term-at t) list-term.Post
+list-term-same-length-4 : (t : ℕ) → InTerm list-term-lts.Need-same-length-4 t
 list-term-same-length-4 t c =
-    let at-list-places = c .before .before .before .before in
-    let o = at-list-places .before .before .before .before .before .before in
-    let h = own-term t o in
-    let w = own-word t o h in
-    let same = o .before .before .wide .ensures .same in
-    let l = word-listed (own-out t o) h w same (o .write-others .ensures) (at-list-places .list-places .ensures (word-places (own-out t o) h w same (o .write-others .ensures))) in
-    written-length (l .written) (h .fits)
+    let at-places = c .before .before .before .before .before in
+    let h = standing t (at-word t (own-done t at-places)) in
+    written-length (all-listed t at-places h .written) (h .fits)
 
-list-term-returns-3 : (t : ℕ) → list-term-lts.Need-returns-3 (term-claims t) (list-term-at t) list-term.Post
-list-term-returns-3 t c =
-    let at-list-places = c .before .before .before .before in
-    let o = at-list-places .before .before .before .before .before .before in
-    λ h. let w = own-word t o h in
-    let same = o .before .before .wide .ensures .same in
-    word-listed (own-out t o) h w same (o .write-others .ensures) (at-list-places .list-places .ensures (word-places (own-out t o) h w same (o .write-others .ensures)))
+list-term-returns-3 : (t : ℕ) → InTerm list-term-lts.Need-returns-3 t
+list-term-returns-3 t c = λ h. all-listed t (c .before .before .before .before .before) h
 
 pub +list-places+list-term-spec : {M : Type 1} → statement M
 +list-places+list-term-spec = close μ-list-places μ-list-term (λ t. list-places-lts.spec (places-claims t) (list-places-at t) list-places.Post
@@ -328,13 +393,13 @@ pub +list-places+list-term-spec : {M : Type 1} → statement M
     (list-places-returns t))
     λ t. list-term-lts.spec (term-claims t) (list-term-at t) list-term.Post
     (list-term-slice-read-first t)
-    (list-term-add-t18 t)
+    (list-term-add-end t)
     (list-term-returns t)
     (list-term-add-map t)
     (list-term-slice-read-map t)
     (list-term-wide-requires t)
     (list-term-write-others-requires t)
-    (list-term-add-t25 t)
+    (list-term-add-end-2 t)
     (list-term-same-length t)
     (list-term-same-length-2 t)
     (list-term-returns-2 t)
@@ -342,7 +407,7 @@ pub +list-places+list-term-spec : {M : Type 1} → statement M
     (list-term-part-list-places-start t)
     (list-term-part-list-places-end t)
     (list-term-list-places-requires t)
-    (list-term-add-t19 t)
+    (list-term-add-written t)
     (list-term-same-length-3 t)
     (list-term-same-length-4 t)
     (list-term-returns-3 t)

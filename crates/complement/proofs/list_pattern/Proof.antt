@@ -1,13 +1,12 @@
 -- `complement::list_pattern` meets its contract.
 use denote.Ref.{now}
-use Rattle.complement.proofs.Linear.{most-bytes}
 use Rattle.complement.proofs.Calls.{pattern-repeated, pattern-linear}
 use borrow.Author.Needs.{needs}
 use Rattle.complement.proofs.list_pattern.Statement.{statement}
 use Rattle.complement.proofs.list_pattern.Tie as tie
 
 first-repeat-requires : tie.Need-first-repeat-requires
-first-repeat-requires c κs = most-bytes (c .before .before .pre)
+first-repeat-requires c κs = search needs
 
 enum-known-q : tie.Need-enum-known-q
 enum-known-q c = search needs

@@ -1,8 +1,12 @@
 -- `complement::measure` meets its contract. The loop's invariant: what is summed, and what is left to sum. The measure is the number of bytes left.
 use borrow.Author.Needs.{needs}
+use mathlib.Core.Path.{subst}
 use Prim.Native.Nat.{_-_}
+use native.Mathlib.Nat.{min-eq-left}
 use native.Mathlib.Omega.{arith}
+use denote.Ref.{now}
 use lib.ListN.{length}
+use Rattle.kinds.specs.Kinds.{Tallied}
 use Rattle.complement.proofs.Measuring.{Summed, summed-none, summed-room, summed-word, summed-other, summed-all}
 use Rattle.complement.proofs.measure.Statement.{statement}
 use Rattle.complement.proofs.measure.Tie as tie
@@ -19,7 +23,7 @@ tally-requires c κs = search needs
 loop-holds : tie.Need-loop-holds Inv-loop μ-loop
 loop-holds c =
     let start = c .before .before in
-    summed-none (start .pre .0) (start .pre .1 .0)
+    summed-none (start .pre .0) (start .pre .1)
 
 shared-slice-read-wide : tie.Need-shared-slice-read-wide Inv-loop μ-loop
 shared-slice-read-wide c = search needs
@@ -32,7 +36,7 @@ sibling-count-requires c κs =
     let at-if1 = c .before in
     let at-tally = at-if1 .before .before .before .before .before in
     let start = at-tally .before .before in
-    (start .pre .0, (at-if1 .if1 .taken, (at-tally .tally .ensures, start .pre .1 .1)))
+    (start .pre .0, (at-if1 .if1 .taken, subst (λ n. Tallied n (now (start .args .results)) (at-tally .tally .result)) (min-eq-left (start .pre .0)) (at-tally .tally .ensures)))
 
 add-entries : tie.Need-add-entries Inv-loop μ-loop
 add-entries c =
@@ -40,7 +44,7 @@ add-entries c =
     let at-loop-test = at-wide .before .before in
     let at-loop = at-loop-test .before in
     let start = at-loop .before .before .before in
-    record { fits = omega (arith, summed-room (start .pre .0) (start .pre .1 .0) (at-loop .loop .inv) (at-loop-test .loop-test .taken) (at-wide .wide .ensures .same) (c .sibling-count .ensures) .1, at-loop .loop .inv .low) }
+    record { fits = omega (arith, summed-room (start .pre .0) (start .pre .1) (at-loop .loop .inv) (at-loop-test .loop-test .taken) (at-wide .wide .ensures .same) (c .sibling-count .ensures) .1, at-loop .loop .inv .low) }
 
 add-bytes : tie.Need-add-bytes Inv-loop μ-loop
 add-bytes c = search needs
@@ -51,7 +55,7 @@ mul-bytes c =
     let at-loop-test = at-wide .before .before in
     let at-loop = at-loop-test .before in
     let start = at-loop .before .before .before in
-    record { fits = omega (arith, summed-room (start .pre .0) (start .pre .1 .0) (at-loop .loop .inv) (at-loop-test .loop-test .taken) (at-wide .wide .ensures .same) (c .sibling-count .ensures) .0) }
+    record { fits = omega (arith, summed-room (start .pre .0) (start .pre .1) (at-loop .loop .inv) (at-loop-test .loop-test .taken) (at-wide .wide .ensures .same) (c .sibling-count .ensures) .0) }
 
 add-bytes-2 : tie.Need-add-bytes-2 Inv-loop μ-loop
 add-bytes-2 c =
@@ -59,7 +63,7 @@ add-bytes-2 c =
     let at-loop-test = at-wide .before .before in
     let at-loop = at-loop-test .before in
     let start = at-loop .before .before .before in
-    record { fits = omega (arith, summed-room (start .pre .0) (start .pre .1 .0) (at-loop .loop .inv) (at-loop-test .loop-test .taken) (at-wide .wide .ensures .same) (c .sibling-count .ensures) .2, at-loop .loop .inv .low) }
+    record { fits = omega (arith, summed-room (start .pre .0) (start .pre .1) (at-loop .loop .inv) (at-loop-test .loop-test .taken) (at-wide .wide .ensures .same) (c .sibling-count .ensures) .2, at-loop .loop .inv .low) }
 
 add-at : tie.Need-add-at Inv-loop μ-loop
 add-at c = search needs
@@ -74,7 +78,7 @@ loop-again c =
     let at-loop-test = at-wide .before .before in
     let at-loop = at-loop-test .before in
     let start = at-loop .before .before .before in
-    summed-word (start .pre .0) (start .pre .1 .0) (at-loop .loop .inv) (at-loop-test .loop-test .taken) (at-wide .wide .ensures .same) (c .sibling-count .ensures) (at-if1 .if1 .taken)
+    summed-word (start .pre .0) (start .pre .1) (at-loop .loop .inv) (at-loop-test .loop-test .taken) (at-wide .wide .ensures .same) (c .sibling-count .ensures) (at-if1 .if1 .taken)
 
 add-at-2 : tie.Need-add-at-2 Inv-loop μ-loop
 add-at-2 c = search needs
@@ -88,13 +92,13 @@ loop-again-2 c =
     let at-loop-test = at-wide .before .before in
     let at-loop = at-loop-test .before in
     let start = at-loop .before .before .before in
-    summed-other (start .pre .0) (start .pre .1 .0) (at-loop .loop .inv) (at-loop-test .loop-test .taken) (at-wide .wide .ensures .same) (c .if1 .left)
+    summed-other (start .pre .0) (start .pre .1) (at-loop .loop .inv) (at-loop-test .loop-test .taken) (at-wide .wide .ensures .same) (c .if1 .left)
 
 returns : tie.Need-returns Inv-loop μ-loop
 returns c =
     let at-loop = c .before in
     let start = at-loop .before .before .before in
-    summed-all (start .pre .0) (start .pre .1 .0) (at-loop .loop .inv) (c .loop-test .left)
+    summed-all (start .pre .0) (start .pre .1) (at-loop .loop .inv) (c .loop-test .left)
 
 pub measure-spec : {M : Type 1} → statement M
 measure-spec =

@@ -1,5 +1,5 @@
 -- `complement::sibling_count` meets its contract.
-use Rattle.complement.proofs.Tallying.{kind-low, siblings-here}
+use Rattle.complement.proofs.Counting.{siblings-here}
 use native.Mathlib.Omega.{arith}
 use borrow.Author.Needs.{needs}
 use Rattle.complement.proofs.sibling_count.Statement.{statement}
@@ -12,9 +12,7 @@ wide-requires : tie.Need-wide-requires
 wide-requires c κs = search needs
 
 element-copy-out-wide-2 : tie.Need-element-copy-out-wide-2
-element-copy-out-wide-2 c =
-    let start = c .before .before in
-    kind-low (start .pre .1 .1 .1) (start .pre .1 .0) (c .wide .ensures .same)
+element-copy-out-wide-2 c = c .wide .ensures .small
 
 wide-requires-2 : tie.Need-wide-requires-2
 wide-requires-2 c κs = search needs
@@ -23,13 +21,13 @@ sub-result : tie.Need-sub-result
 sub-result c =
     let at-wide = c .before .before in
     let start = at-wide .before .before in
-    let z = siblings-here _ _ (start .pre .1 .1 .0) (start .pre .1 .0) (at-wide .wide .ensures .same) (kind-low (start .pre .1 .1 .1) (start .pre .1 .0) (at-wide .wide .ensures .same)) in omega (arith, z, c .wide2 .ensures .same)
+    let z = siblings-here _ _ (start .pre .1 .1) (start .pre .1 .0) (at-wide .wide .ensures .same) (at-wide .wide .ensures .small) in omega (arith, z, c .wide2 .ensures .same)
 
 returns : tie.Need-returns
 returns c =
     let at-wide = c .before .before in
     let start = at-wide .before .before in
-    let z = siblings-here _ _ (start .pre .1 .1 .0) (start .pre .1 .0) (at-wide .wide .ensures .same) (kind-low (start .pre .1 .1 .1) (start .pre .1 .0) (at-wide .wide .ensures .same)) in omega (arith, z, c .wide2 .ensures .same)
+    let z = siblings-here _ _ (start .pre .1 .1) (start .pre .1 .0) (at-wide .wide .ensures .same) (at-wide .wide .ensures .small) in omega (arith, z, c .wide2 .ensures .same)
 
 pub sibling-count-spec : {M : Type 1} → statement M
 sibling-count-spec =

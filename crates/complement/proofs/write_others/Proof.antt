@@ -5,16 +5,15 @@ use native.Mathlib.Omega.{arith}
 use denote.Ref.{now}
 use lib.ListN.{take}
 use lib.Seq.{length-take-le}
-use Rattle.complement.proofs.Tallying.{kind-low}
-use Rattle.complement.proofs.Chaining.{Followed, followed-none, followed-less, followed-room, followed-taken, followed-left, followed-all}
+use Rattle.complement.proofs.Following.{Followed, followed-none, followed-less, followed-room, followed-taken, followed-left, followed-all}
 use Rattle.complement.proofs.write_others.Statement.{statement}
 use Rattle.complement.proofs.write_others.Tie as tie
 
 abbrev Inv-loop : tie.InvT-loop
-Inv-loop copy at f words results firsts nexts out₀ n₀ h₀ out n h = Followed (take at copy) words results firsts nexts f out₀ h n out
+Inv-loop copy at f words results chains out₀ n₀ h₀ out n h = Followed (take at copy) words results chains f out₀ h n out
 
 abbrev μ-loop : tie.MeasureT-loop
-μ-loop copy at f words results firsts nexts out₀ n₀ h₀ out n h = words - h
+μ-loop copy at f words results chains out₀ n₀ h₀ out n h = words - h
 
 element-copy-out-wide : tie.Need-element-copy-out-wide Inv-loop μ-loop
 element-copy-out-wide c = search needs
@@ -23,9 +22,7 @@ wide-requires : tie.Need-wide-requires Inv-loop μ-loop
 wide-requires c κs = search needs
 
 element-copy-out-wide-2 : tie.Need-element-copy-out-wide-2 Inv-loop μ-loop
-element-copy-out-wide-2 c =
-    let start = c .before .before .before .before in
-    kind-low (start .pre .1 .1 .1 .1 .1 .1) (start .pre .1 .1 .1 .0) (c .wide .ensures .same)
+element-copy-out-wide-2 c = search needs
 
 wide-requires-2 : tie.Need-wide-requires-2 Inv-loop μ-loop
 wide-requires-2 c κs = search needs
@@ -34,7 +31,10 @@ loop-holds : tie.Need-loop-holds Inv-loop μ-loop
 loop-holds c =
     let at-wide = c .before .before in
     let start = at-wide .before .before .before .before in
-    followed-none (start .pre .1 .1 .0) (start .pre .1 .1 .1 .1 .0) (start .pre .1 .1 .1 .1 .1 .0) _ _ (at-wide .wide .ensures .same) (kind-low (start .pre .1 .1 .1 .1 .1 .1) (start .pre .1 .1 .1 .0) (at-wide .wide .ensures .same)) (c .wide2 .ensures .same)
+    followed-none (start .pre .1 .1 .0) (start .pre .1 .1 .1 .1 .0) (start .pre .1 .1 .1 .1 .1) _ _ (at-wide .wide .ensures .same) (at-wide .wide .ensures .small) (c .wide2 .ensures .same)
+
+add-wide : tie.Need-add-wide Inv-loop μ-loop
+add-wide c = search needs
 
 element-copy-out-wide-3 : tie.Need-element-copy-out-wide-3 Inv-loop μ-loop
 element-copy-out-wide-3 c = search needs
@@ -60,7 +60,7 @@ write-entry-requires c κs =
     let at-loop-test = at-if1 .before .before .before in
     let at-loop = at-loop-test .before in
     let start = at-loop .before .before .before .before .before .before .before in
-    (start .pre .0, (start .pre .1 .0, followed-room (at-loop .loop .inv) (at-loop-test .loop-test .taken) (at-if1 .if1 .taken) (length-take-le (start .args .at) (now (start .args .copy)) (omega arith))))
+    (start .pre .0, followed-room (at-loop .loop .inv) (at-loop-test .loop-test .taken) (at-if1 .if1 .taken) (length-take-le (start .args .at) (now (start .args .copy)) (omega arith)))
 
 add-n : tie.Need-add-n Inv-loop μ-loop
 add-n c = search needs
@@ -116,6 +116,7 @@ write-others-spec =
     element-copy-out-wide-2
     wide-requires-2
     loop-holds
+    add-wide
     element-copy-out-wide-3
     wide-requires-3
     cast-write-entry

@@ -1,0 +1,5 @@
+-- Laws of ranges of numbers.
+pub mod Ranges
+-- The loops that count and that chain.
+pub mod Tallying
+pub mod Chaining

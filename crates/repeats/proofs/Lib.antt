@@ -1,0 +1,3 @@
+-- The laws behind the proof of looking for a repeated name.
+pub mod Passing
+pub mod Repeating
