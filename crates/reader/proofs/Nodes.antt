@@ -1,4 +1,10 @@
--- What stands where a term is due, by the facts that the code tests.
+-- Nodes: what stands where a term is due, by the facts that the code tests.
+--
+--   within-and, within-not    a written map against a place map
+--   node-ends .. node-unknown     what the bytes say, no names seen
+--   seenNode, node-seen       the same once names have been seen
+--   node-root, node-whole     at the root
+--
 use mathlib.Core.Path.{_≡_, refl, sym, ap, _∙_}
 use mathlib.Core.Bool.{Bool, true, false, not, _&&_, cond}
 use mathlib.Core.List.{List, [], _∷_}

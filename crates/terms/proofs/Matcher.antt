@@ -1,4 +1,10 @@
 -- Matcher: the matcher finds a filling exactly where there is one, and that one.
+--
+--   match-name-new, match-app, match-cons    the matcher's steps
+--   matcher-finds             it finds the filling that turns the pattern into the ground term
+--   matcher-sound             what it finds is such a filling
+--   matcher-is-exact          the two together
+--
 use mathlib.Core.Path.{_≡_, refl, sym, _∙_, ap, ap₂, subst}
 use mathlib.Core.Bool.{Bool, true, false, cond}
 use mathlib.Core.List.{List, [], _∷_, _++_, append-nil, append-assoc, map-append}

@@ -1,4 +1,10 @@
 -- Leftovers: what is computed of list's reply and lent slice keeps what list promises.
+--
+--   LinearIn, linear-in, in-linear    where a pattern to be listed is accepted
+--   pattern-read, read-pattern, pattern-is-one, pattern-listed    what is read and what is written
+--   Listable, Decided, decided    a refusal or an answer
+--   list-keeps                the reply and the slice that are computed keep the promise
+--
 use mathlib.Core.Path.{_≡_, refl, sym, ap, _∙_, subst}
 use mathlib.Core.Bool.{Bool, true, false, cond}
 use mathlib.Core.List.{List, [], _∷_, _++_}

@@ -1,4 +1,10 @@
 -- Map: the laws of maps: their bits, their bytes, and what they tell of the terms at a word's places.
+--
+--   bit-odd .. ones-count     the bits of a number
+--   read-write-map .. read-map-lt    the bytes of a map
+--   length-written, within-written, flags-written    the written bits of terms
+--   sorts, Marked, sorts-slots, marked-written, written-marked    slots
+--
 use mathlib.Core.Path.{_≡_, refl, sym, ap, ap₂, subst, _∙_}
 use mathlib.Core.Bool.{Bool, true, false, not, cond, false≢true}
 use mathlib.Core.List.{List, [], _∷_, _++_, map}

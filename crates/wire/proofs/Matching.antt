@@ -1,4 +1,8 @@
 -- Matching: what is computed of match and part keeps what the calls promise.
+--
+--   not-accepted, no-not-yes, yes-or-kept    where match answers
+--   match-keeps, part-keeps   what is computed of match and of part keeps its promise
+--
 use mathlib.Core.Path.{_≡_, refl, sym, ap, _∙_, subst}
 use mathlib.Core.Bool.{Bool, true, false, cond, _&&_}
 use mathlib.Core.List.{List, [], _++_, append-nil}

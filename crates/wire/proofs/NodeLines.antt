@@ -1,4 +1,10 @@
 -- NodeLines: where a term is due, either one of the lines 9 to 14 decides, and a scan stops with it, or there is a step and no line fits.
+--
+--   atDue, LineAt             a state at which a term is due, and the lines that fit there
+--   Stuck                     a line decides there, and a scan stops with it
+--   Moves                     there is a step, and no line fits
+--   look                      one of the two holds
+--
 use mathlib.Core.Path.{_≡_, refl, sym, ap, ap₂, _∙_, subst}
 use mathlib.Core.Bool.{Bool, true, false, _&&_}
 use mathlib.Core.List.{List, [], _∷_}

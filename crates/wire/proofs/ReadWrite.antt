@@ -1,4 +1,10 @@
 -- ReadWrite: what is read is a good term, its levels fit, and the bytes read are its bytes.
+--
+--   encodeFrom                the bytes of a term, at the root or below it
+--   HasRead, HasReadAll, Reads, ReadsAll    what it means to have read a term, or terms
+--   slots-read                the terms of a word's places
+--   term-reads                any term
+--
 use mathlib.Core.Path.{_≡_, refl, sym, ap, subst, _∙_}
 use mathlib.Core.Bool.{Bool, true, false, not, true≢false}
 use mathlib.Core.List.{List, [], _∷_, _++_, append-nil, append-assoc}

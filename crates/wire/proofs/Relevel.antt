@@ -1,4 +1,8 @@
 -- Relevel: a term that is read within some levels is read within any levels that it fits, and has no more levels than bytes.
+--
+--   Relevels, RelevelsAll     a term, or terms, read within some levels are read within others
+--   WholeRelevels, whole-relevels    the same of kind byte and term
+--
 use mathlib.Core.Path.{_≡_, refl, sym, ap, subst, _∙_}
 use mathlib.Core.Bool.{Bool, true, false, true≢false}
 use mathlib.Core.List.{List, [], _∷_}

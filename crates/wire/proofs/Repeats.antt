@@ -1,4 +1,9 @@
 -- Repeats: the earliest byte at which a name stands for the second time is found, and none is found exactly where no name stands twice.
+--
+--   namesOf, placed-names     the names of a term, with their places
+--   repeated-is-exact         the byte that is found is the earliest
+--   unrepeated-is-linear      none is found exactly where no name stands twice
+--
 use mathlib.Core.Path.{_≡_, refl, sym, ap, ap₂, _∙_, subst}
 use mathlib.Core.Bool.{Bool, true, false, cond, _||_}
 use mathlib.Core.List.{List, [], _∷_, _++_, map}

@@ -1,4 +1,8 @@
 -- TermRefusals: a term handed to a call is refused by lines 7 to 15 of the refusal list.
+--
+--   node-rank                 lines 9 to 14 decide by their byte
+--   term-refusals             a number is given exactly where its line decides
+--
 use mathlib.Core.Path.{_≡_, refl, sym, ap, _∙_, subst, subst₂}
 use mathlib.Core.Bool.{Bool, true, false}
 use mathlib.Core.List.{List, [], _∷_}

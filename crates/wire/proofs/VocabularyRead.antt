@@ -1,4 +1,9 @@
 -- VocabularyRead: what readVocabulary gives is right, line by line of the refusal list.
+--
+--   Accepted, VocabularyRead  what it means that the reading of a vocabulary is right
+--   Headed                    lines 1 and 2 do not fit
+--   vocabulary-read           it is right for every vocabulary
+--
 use mathlib.Core.Path.{_≡_, refl, sym, _∙_}
 use mathlib.Core.Bool.{Bool, true, false, cond}
 use mathlib.Core.List.{List, [], _∷_, _++_, append-nil}

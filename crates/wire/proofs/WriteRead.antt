@@ -1,4 +1,8 @@
 -- WriteRead: the bytes of a good term are read as that term, wherever its levels fit.
+--
+--   slots-open, slots-written     one slot
+--   read-term, read-terms, read-root    the bytes of a term below the root, of terms, and of a term at the root
+--
 use mathlib.Core.Path.{_≡_, refl, sym, ap, subst, _∙_}
 use mathlib.Core.Bool.{Bool, true, false, not, true≢false}
 use mathlib.Core.List.{List, [], _∷_, _++_, append-nil, append-assoc}
