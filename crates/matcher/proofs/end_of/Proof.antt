@@ -1,4 +1,4 @@
--- `matcher::end_of` meets its contract: at each turn the terms that are due stand before the end.
+-- `matcher::end_of` meets its contract.
 use Prim.Native.Nat.{_-_}
 use native.Mathlib.Omega.{arith}
 use lib.ListN.{length}
@@ -16,11 +16,11 @@ abbrev μ-loop : tie.MeasureT-loop
 loop-holds : tie.Need-loop-holds Inv-loop μ-loop
 loop-holds c = ending-begins _ _
 
-add-count : tie.Need-add-count Inv-loop μ-loop
-add-count c = omega (arith, ending-few (c .before .loop .inv) (c .before .before .before .pre))
-
-shared-slice-read-count : tie.Need-shared-slice-read-count Inv-loop μ-loop
-shared-slice-read-count c = omega (arith, ending-few (c .before .before .loop .inv) (c .before .before .before .before .pre))
+map-at-requires : tie.Need-map-at-requires Inv-loop μ-loop
+map-at-requires c κs =
+    let at-loop = c .before in
+    let start = at-loop .before .before in
+    let some = c .loop-test .taken in omega (arith, ending-few (at-loop .loop .inv) (start .pre))
 
 count-requires : tie.Need-count-requires Inv-loop μ-loop
 count-requires c κs = search needs
@@ -29,19 +29,35 @@ sub-due : tie.Need-sub-due Inv-loop μ-loop
 sub-due c = search needs
 
 add-due : tie.Need-add-due Inv-loop μ-loop
-add-due c = omega (arith, c .count .ensures .1, ending-few (c .before .before .before .loop .inv) (c .before .before .before .before .before .pre))
+add-due c =
+    let at-loop = c .before .before .before in
+    let start = at-loop .before .before in
+    omega (arith, c .count .ensures .1, ending-few (at-loop .loop .inv) (start .pre))
 
 add-end : tie.Need-add-end Inv-loop μ-loop
-add-end c = omega (arith, ending-few (c .before .before .before .loop .inv) (c .before .before .before .before .before .pre))
+add-end c =
+    let at-loop = c .before .before .before in
+    let start = at-loop .before .before in
+    omega (arith, ending-few (at-loop .loop .inv) (start .pre))
 
 loop-less : tie.Need-loop-less Inv-loop μ-loop
-loop-less c = let taken = c .before .before .loop-test .taken in omega (arith, ending-few (c .before .before .before .loop .inv) (c .before .before .before .before .before .pre))
+loop-less c =
+    let at-loop-test = c .before .before in
+    let at-loop = at-loop-test .before in
+    let start = at-loop .before .before in
+    let some = at-loop-test .loop-test .taken in omega (arith, ending-few (at-loop .loop .inv) (start .pre))
 
 loop-again : tie.Need-loop-again Inv-loop μ-loop
-loop-again c = rw (c .count .ensures .0) (ending-turn (c .before .before .before .loop .inv) (c .before .before .loop-test .taken))
+loop-again c =
+    let at-map-at = c .before in
+    let at-loop-test = at-map-at .before in
+    let at-loop = at-loop-test .before in
+    rw (c .count .ensures .0, at-map-at .map-at .ensures) (ending-turn (at-loop .loop .inv) (at-loop-test .loop-test .taken))
 
 returns : tie.Need-returns Inv-loop μ-loop
-returns c = λ a. ending-ends (c .before .loop .inv) (c .loop-test .left) a
+returns c =
+    let at-loop = c .before in
+    λ a. ending-ends (at-loop .loop .inv) (c .loop-test .left) a
 
 pub end-of-spec : {M : Type 1} → statement M
 end-of-spec =
@@ -50,8 +66,7 @@ end-of-spec =
     Inv-loop
     μ-loop
     loop-holds
-    add-count
-    shared-slice-read-count
+    map-at-requires
     count-requires
     sub-due
     add-due

@@ -1,0 +1,98 @@
+-- Going: the turns of a walk while no open place is due.
+--
+--   going-faces                         two terms are due first, at level 0
+--   going-differs, going-shared         a word: there is no filling, or it stands in both
+--   going-full                          .. with the same maps: its arguments are due
+--   going-named, going-unnamed          a name: the walk goes on behind its part, or there is no filling
+--   shared-pattern, shared-situation    the nodes of a word that stands in both are there to read
+--
+use mathlib.Core.Path.{_≡_}
+use mathlib.Core.Bool.{true, false}
+use mathlib.Core.List.{List, []}
+use Prim.Native.Nat.{ℕ, _+_, _-_, _*_, _<_, _≤_}
+use native.Mathlib.Omega.{arith}
+use lib.ListN.{length, getD}
+use Rattle.wire.specs.Map.{mapBytes}
+use Rattle.wire.specs.Vocabulary.{InOrder}
+use Rattle.wire.proofs.GroundBytes.{joined}
+use Rattle.matcher.specs.Frames.{mapAt}
+use Rattle.matcher.specs.Spans.{Standing, Covered}
+use Rattle.matcher.specs.Walking.{InputsRead, Walked, Going, AtSharedWord}
+use Rattle.matcher.proofs.Joined.{chained}
+use Rattle.matcher.proofs.Side.{Facing, facing-shut, stands}
+use Rattle.matcher.proofs.Words.{AtWord, at-word, word-pattern, word-situation, word-differs, word-goes, word-shut}
+use Rattle.matcher.proofs.Names.{AtName, at-name, name-inside, name-known, name-spans, name-goes, name-none}
+use Rattle.matcher.proofs.Begin.{walked-none}
+
+abbrev pub inOrder : {p s : List ℕ} (a : InputsRead p s) → InOrder (a .inputs .vocabulary)
+inOrder a = a .held .vocabulary .good .inOrder
+
+module _ {p s spans : List ℕ} {i j : ℕ} (c : Going p s spans i j) (some : i < length p) where
+  pub going-faces : (a : InputsRead p s) → Facing (a .inputs) p s spans (record { written = true; level = 0 }) [] i j
+  going-faces a = facing-shut (c a .side) (c a .shut) some
+
+  -- ---- a word
+
+  module _ (low : getD p i 0 < 128) where
+    pub going-word : (a : InputsRead p s) → AtWord (a .inputs) p s spans 0 [] i j
+    going-word a = at-word (going-faces a) low
+
+    pub going-inside : InputsRead p s → j < length s
+    going-inside a = omega (arith, word-situation (inOrder a) (going-word a))
+
+    pub going-differs : (getD p i 0 ≡ getD s j 0 → ⊥) → Walked p s spans false
+    going-differs d a = walked-none (word-differs (inOrder a) (going-word a) d)
+
+    pub going-shared : getD p i 0 ≡ getD s j 0 → AtSharedWord p s spans i j
+    going-shared e = record { going = c; some = some; word = low; shared = e }
+
+    pub going-full : getD p i 0 ≡ getD s j 0 → mapAt p i ≡ mapAt s j → Going p s spans (i + (1 + mapBytes)) (j + (1 + mapBytes))
+    going-full e full a =
+        let at = going-word a in
+        record {
+          terms = chained (at .arguments) (at .terms);
+          grounds = joined (at .parts) (at .grounds);
+          side = word-goes (inOrder a) at e;
+          shut = word-shut (inOrder a) at e (at .rest) full;
+        }
+
+  -- ---- a name
+
+  module _ (high : 128 ≤ getD p i 0) where
+    pub going-name : (a : InputsRead p s) → AtName (a .inputs) p s spans [] i j
+    going-name a = at-name (inOrder a) (going-faces a) high
+
+    pub going-behind : InputsRead p s → i + 1 ≤ length p
+    going-behind a = name-inside (going-name a)
+
+    module _ {b : ℕ} (byte : b ≡ getD p i 0) where
+      -- What covering the part asks for.
+      pub going-covers : InputsRead p s →
+          Standing s j × (((b - 128 < 64) × (length s ≤ 4096)) × (getD spans (2 * (b - 128)) 0 + getD spans (2 * (b - 128) + 1) 0 ≤ length s))
+      going-covers a =
+          let at = going-name a in
+          (stands (at .side) (inOrder a), ((rw byte (name-known at), a .held .situation .limits .most), rw byte (name-spans at)))
+
+      module _ {after : List ℕ} {r : ℕ} (covered : Covered s spans after (b - 128) j r) where
+        here : Covered s spans after (getD p i 0 - 128) j r
+        here = rw byte at covered
+
+        pub going-named : (r ≡ 0 → ⊥) → Going p s after (i + 1) r
+        going-named goes a =
+            let at = going-name a in
+            record { terms = at .terms; grounds = at .grounds; side = name-goes at (inOrder a) here goes; shut = at .rest }
+
+        pub going-unnamed : r ≡ 0 → Walked p s after false
+        going-unnamed none a = walked-none (name-none (going-name a) (inOrder a) here none)
+
+-- ---- a word that stands in both
+
+module _ {p s spans : List ℕ} {i j : ℕ} (c : AtSharedWord p s spans i j) where
+  pub shared-word : (a : InputsRead p s) → AtWord (a .inputs) p s spans 0 [] i j
+  shared-word = going-word (c .going) (c .some) (c .word)
+
+  pub shared-pattern : InputsRead p s → i + (1 + mapBytes) ≤ length p
+  shared-pattern a = word-pattern (inOrder a) (shared-word a)
+
+  pub shared-situation : InputsRead p s → j + (1 + mapBytes) ≤ length s
+  shared-situation a = word-situation (inOrder a) (shared-word a)
