@@ -2,24 +2,27 @@
 --
 --   going-faces                         two terms are due first, at level 0
 --   going-differs, going-shared         a word: there is no filling, or it stands in both
---   going-full                          .. with the same maps: its arguments are due
+--   going-same                          nodes that are the same: the walk goes on behind them
 --   going-named, going-unnamed          a name: the walk goes on behind its part, or there is no filling
 --   shared-pattern, shared-situation    the nodes of a word that stands in both are there to read
 --
-use mathlib.Core.Path.{_≡_}
+use mathlib.Core.Path.{_≡_, sym, ap, _∙_, subst, subst₂}
 use mathlib.Core.Bool.{true, false}
 use mathlib.Core.List.{List, []}
-use Prim.Native.Nat.{ℕ, _+_, _-_, _*_, _<_, _≤_}
+use Prim.Native.Nat.{ℕ, zero, suc, _+_, _-_, _*_, _<_, _≤_}
 use native.Mathlib.Omega.{arith}
 use lib.ListN.{length, getD}
+use Rattle.terms.specs.Term.{Term, Terms, cons, Ground, gapp, Grounds, gcons}
 use Rattle.wire.specs.Map.{mapBytes}
 use Rattle.wire.specs.Vocabulary.{InOrder}
-use Rattle.wire.proofs.GroundBytes.{joined}
+use Rattle.wire.proofs.GroundBytes.{known-word, joined}
 use Rattle.matcher.specs.Frames.{mapAt}
+use Rattle.matcher.specs.Same.{SameNodes}
 use Rattle.matcher.specs.Spans.{Standing, Covered}
-use Rattle.matcher.specs.Walking.{InputsRead, Walked, Going, AtSharedWord}
+use Rattle.matcher.specs.Walking.{InputsRead, Walked, Side, Going, AtSharedWord}
 use Rattle.matcher.proofs.Joined.{chained}
-use Rattle.matcher.proofs.Side.{Facing, facing-shut, stands}
+use Rattle.matcher.proofs.Offsets.{one-byte}
+use Rattle.matcher.proofs.Side.{Facing, facing-shut, due, stands}
 use Rattle.matcher.proofs.Words.{AtWord, at-word, word-pattern, word-situation, word-differs, word-goes, word-shut}
 use Rattle.matcher.proofs.Names.{AtName, at-name, name-inside, name-known, name-spans, name-goes, name-none}
 use Rattle.matcher.proofs.Begin.{walked-none}
@@ -46,7 +49,7 @@ module _ {p s spans : List ℕ} {i j : ℕ} (c : Going p s spans i j) (some : i 
     pub going-shared : getD p i 0 ≡ getD s j 0 → AtSharedWord p s spans i j
     going-shared e = record { going = c; some = some; word = low; shared = e }
 
-    pub going-full : getD p i 0 ≡ getD s j 0 → mapAt p i ≡ mapAt s j → Going p s spans (i + (1 + mapBytes)) (j + (1 + mapBytes))
+    going-full : getD p i 0 ≡ getD s j 0 → mapAt p i ≡ mapAt s j → Going p s spans (i + (1 + mapBytes)) (j + (1 + mapBytes))
     going-full e full a =
         let at = going-word a in
         record {
@@ -84,6 +87,42 @@ module _ {p s spans : List ℕ} {i j : ℕ} (c : Going p s spans i j) (some : i 
 
         pub going-unnamed : r ≡ 0 → Walked p s after false
         going-unnamed none a = walked-none (name-none (going-name a) (inOrder a) here none)
+
+-- ---- nodes that are the same
+
+-- A situation has words alone.
+part-low : {p s spans : List ℕ} {i j : ℕ} → Going p s spans i j → i < length p → InputsRead p s → getD s j 0 < 128
+part-low {p} {s} {spans} {i} {j} c some a = go (going-faces c some a .ground) (going-faces c some a .side)
+  where
+    go : (g : Ground) {t : Term} {ts : Terms} {gs : Grounds} → Side (a .inputs) p s spans (cons t ts) (gcons g gs) i j → getD s j 0 < 128
+    go (gapp f hs) c =
+        omega (
+          arith,
+          one-byte s j _ _ (c .situation) .first,
+          known-word (a .inputs .vocabulary) (inOrder a) f hs (due c .0) (due c .1 .1 .ground .0),
+          inOrder a .fewWords,
+        )
+
+pub going-same : {p s spans : List ℕ} {i j n : ℕ} → InputsRead p s → Going p s spans i j → SameNodes p s i j n → Going p s spans (i + n) (j + n)
+going-same {p} {s} {spans} {i} {j} {n} a c h =
+    subst (λ n. Going p s spans (i + n) (j + n)) (sym (h .whole)) (go (h .nodes) (omega (arith, h .whole)))
+  where
+    go : (k : ℕ) → (1 + mapBytes) * k ≤ n → Going p s spans (i + (1 + mapBytes) * k) (j + (1 + mapBytes) * k)
+    go zero l = subst₂ (Going p s spans) (let e : i ≡ i + (1 + mapBytes) * 0 = omega arith in e) (let e : j ≡ j + (1 + mapBytes) * 0 = omega arith in e) c
+    go (suc k) l =
+        let before = go k (omega arith) in
+        let at : ℕ = (1 + mapBytes) * k in
+        let some : i + at < length p = omega (arith, h .insideFirst) in
+        let word : getD p (i + at) 0 ≡ getD s (j + at) 0 = h .same at (omega arith) in
+        let low : getD p (i + at) 0 < 128 = subst (λ b. b < 128) (sym word) (part-low before some a) in
+        let map : mapAt p (i + at) ≡ mapAt s (j + at) = next p i at ∙ h .same (at + 1) (omega arith) ∙ sym (next s j at) in
+        subst₂ (Going p s spans) (further i k) (further j k) (going-full before some low word map)
+      where
+        next : (t : List ℕ) (b at : ℕ) → getD t (b + at + 1) 0 ≡ getD t (b + (at + 1)) 0
+        next t b at = ap (λ k. getD t k 0) (let e : b + at + 1 ≡ b + (at + 1) = omega arith in e)
+
+        further : (b k : ℕ) → b + (1 + mapBytes) * k + (1 + mapBytes) ≡ b + (1 + mapBytes) * suc k
+        further b k = omega arith
 
 -- ---- a word that stands in both
 

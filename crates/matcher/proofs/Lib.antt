@@ -3,6 +3,7 @@
 --   Offsets    what stands at an offset of bytes
 --   Ending     where a ground term ends
 --   Parts      what a name covers, and the table filled
+--   Same       nodes that two lists of bytes share
 --   Joined     matching and spans of terms that stand one behind the other
 --   Marks      what maps and frames say of the terms that are due
 --   Bound      what matching a name does to what a filling gives it
@@ -15,12 +16,12 @@
 --   Framing    the turns of a walk through a word that has open places
 --   Left       .. come to an end
 --   Root       a name or 255 at the root
---   Itself     a pattern that is the situation itself
 --   Answers    different answers have different numbers
 --   Calls      the answers of match and part keep the promises
 pub mod Offsets
 pub mod Ending
 pub mod Parts
+pub mod Same
 pub mod Joined
 pub mod Marks
 pub mod Bound
@@ -33,6 +34,5 @@ pub mod Going
 pub mod Framing
 pub mod Left
 pub mod Root
-pub mod Itself
 pub mod Answers
 pub mod Calls

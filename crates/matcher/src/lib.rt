@@ -12,11 +12,15 @@ ghost use Rattle.matcher.specs.Places.{partAt};
 ghost use Rattle.matcher.specs.Frames.{mapAt, placesIn, writtenIn, TwoMaps};
 ghost use Rattle.matcher.specs.Spans.{withSpan, Standing, ends, Covered};
 ghost use Rattle.matcher.specs.Walking.{InputsRead, Walked, AtSharedWord, WordWalked};
+ghost use Rattle.matcher.specs.Same.{SameNodes};
 use reader::InputsAnswer;
 use reader::InputsRefusal;
 
 // The bytes of a word's node: the word and its map.
 const NODE: usize = 2;
+
+// The bytes of 32 nodes, which are compared in one go.
+const BLOCK: usize = 32 * NODE;
 
 // Yes or no, or why there is no answer.
 pub enum MatchAnswer {
@@ -192,6 +196,59 @@ fn walk_word(p: &[u8], s: &[u8], spans: &mut [u16; 128], from: usize, at: usize)
     }
 }
 
+fn least(a: usize, b: usize) -> usize
+    ensures { λ r. ⌜ (r ≤ a) × (r ≤ b) ⌝ }
+{
+    if a < b {
+        return a;
+    }
+    b
+}
+
+// How many bytes of the nodes from two offsets on are the same. Where a block is the same, the next ones are compared as
+// blocks.
+fn same_nodes(p: &[u8], s: &[u8], i: usize, j: usize) -> usize
+    requires { ⌜ (i ≤ length (now p)) × (j ≤ length (now s)) ⌝ }
+    ensures { λ r. ⌜ SameNodes (now (p .entry)) (now (s .entry)) i j r ⌝ }
+{
+    let most = least(p.len() - i, s.len() - j);
+    let mut n: usize = 0;
+    while NODE <= most - n {
+        let a = i + n;
+        let b = j + n;
+        if p[a] != s[b] {
+            return n;
+        }
+        if map_at(p, a) != map_at(s, b) {
+            return n;
+        }
+        n += NODE;
+        if n % BLOCK == 0 {
+            n = same_blocks(p, s, i, j, n, most);
+        }
+    }
+    n
+}
+
+// The same by blocks, where so many bytes are known to be the same.
+fn same_blocks(p: &[u8], s: &[u8], i: usize, j: usize, known: usize, most: usize) -> usize
+    requires { ⌜ SameNodes (now p) (now s) i j known ⌝ }
+    requires { ⌜ (known ≤ most) × (i + most ≤ length (now p)) × (j + most ≤ length (now s)) ⌝ }
+    ensures { λ r. ⌜ SameNodes (now (p .entry)) (now (s .entry)) i j r ⌝ }
+    ensures { λ r. ⌜ (known ≤ r) × (r ≤ most) ⌝ }
+{
+    let mut n = known;
+    while BLOCK <= most - n {
+        let a = i + n;
+        let b = j + n;
+        if !slices::equal(&p[a..a + BLOCK], &s[b..b + BLOCK]) {
+            return n;
+        }
+        n += BLOCK;
+    }
+    n
+}
+
 // Goes through a pattern and a situation side by side, and notes the part that each name covers. While no open place
 // is due what is left of the pattern stands for what is left of the situation.
 fn walk_words(p: &[u8], s: &[u8], spans: &mut [u16; 128]) -> bool
@@ -203,28 +260,28 @@ fn walk_words(p: &[u8], s: &[u8], spans: &mut [u16; 128]) -> bool
     let mut i: usize = 1;
     let mut j: usize = 1;
     while i < p.len() {
-        let b = p[i];
-        if b < 128 {
-            if b != s[j] {
-                return false;
-            }
-            if map_at(p, i) == map_at(s, j) {
-                i += NODE;
-                j += NODE;
-            } else {
+        let n = same_nodes(p, s, i, j);
+        i += n;
+        j += n;
+        if i < p.len() {
+            let b = p[i];
+            if b < 128 {
+                if b != s[j] {
+                    return false;
+                }
                 let reached = walk_word(p, s, spans, i, j);
                 if reached.pattern == 0 {
                     return false;
                 }
                 i = reached.pattern;
                 j = reached.situation;
+            } else {
+                j = cover(s, spans, wide(b) - 128, j);
+                if j == 0 {
+                    return false;
+                }
+                i += 1;
             }
-        } else {
-            j = cover(s, spans, wide(b) - 128, j);
-            if j == 0 {
-                return false;
-            }
-            i += 1;
         }
     }
     true
@@ -244,7 +301,7 @@ fn cover_root(p: &[u8], s: &[u8], spans: &mut [u16; 128]) -> bool
     true
 }
 
-// Goes through a pattern and a situation, from the root on. A pattern that is the situation itself has no name.
+// Goes through a pattern and a situation, from the root on.
 fn walk(p: &[u8], s: &[u8], spans: &mut [u16; 128]) -> bool
     requires { ⌜ InputsRead (now p) (now s) ⌝ }
     requires { ⌜ now spans ≡ replicate 128 0 ⌝ }
@@ -252,9 +309,6 @@ fn walk(p: &[u8], s: &[u8], spans: &mut [u16; 128]) -> bool
 {
     if 127 < p[1] {
         return cover_root(p, s, spans);
-    }
-    if slices::equal(p, s) {
-        return true;
     }
     walk_words(p, s, spans)
 }
