@@ -59,6 +59,28 @@ ending-turn {s} {at} {i} {k} e some a = go (pending-turn W (a .inOrder) s (ends 
         subst (λ n. Pending W s (ends a) n (k - 1 + Count.ones (mapAt s i))) place
         (subst (Pending W s (ends a) (i + 1 + mapBytes)) count (t .next))
 
+-- Four nodes in one go.
+pub ending-four : {s : List ℕ} {at i k : ℕ} → Ending s at i k → 4 ≤ k →
+    Ending s at (i + (1 + mapBytes) + (1 + mapBytes) + (1 + mapBytes) + (1 + mapBytes))
+    (k - 4 + (Count.ones (mapAt s i) + Count.ones (mapAt s (i + (1 + mapBytes))) + Count.ones (mapAt s (i + (1 + mapBytes) + (1 + mapBytes)))
+    + Count.ones (mapAt s (i + (1 + mapBytes) + (1 + mapBytes) + (1 + mapBytes)))))
+ending-four {s} {at} {i} {k} e four =
+    subst (Ending s at (i + (1 + mapBytes) + (1 + mapBytes) + (1 + mapBytes) + (1 + mapBytes)))
+    (let n : k - 1 + first - 1 + second - 1 + third - 1 + fourth ≡ k - 4 + (first + second + third + fourth) = omega arith in n)
+    (ending-turn (ending-turn (ending-turn (ending-turn e (omega arith)) (omega arith)) (omega arith)) (omega arith))
+  where
+    first : ℕ
+    first = Count.ones (mapAt s i)
+
+    second : ℕ
+    second = Count.ones (mapAt s (i + (1 + mapBytes)))
+
+    third : ℕ
+    third = Count.ones (mapAt s (i + (1 + mapBytes) + (1 + mapBytes)))
+
+    fourth : ℕ
+    fourth = Count.ones (mapAt s (i + (1 + mapBytes) + (1 + mapBytes) + (1 + mapBytes)))
+
 pub ending-ends : {s : List ℕ} {at i k : ℕ} → Ending s at i k → k ≤ 0 → (a : Standing s at) → i ≡ ends a
 ending-ends {s} {at} {i} {k} e none a =
     let zero : k ≡ 0 = omega arith in

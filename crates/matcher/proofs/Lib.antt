@@ -1,6 +1,7 @@
 -- The laws that the proofs of match and part share.
 --
 --   Offsets    what stands at an offset of bytes
+--   Counts     the bits of four maps, counted in one number
 --   Ending     where a ground term ends
 --   Parts      what a name covers, and the table filled
 --   Same       nodes that two lists of bytes share
@@ -19,6 +20,7 @@
 --   Answers    different answers have different numbers
 --   Calls      the answers of match and part keep the promises
 pub mod Offsets
+pub mod Counts
 pub mod Ending
 pub mod Parts
 pub mod Same

@@ -57,8 +57,17 @@ fn count(map: u8) -> usize
     u8::count_ones(map) as usize
 }
 
+// How many bits of four maps stand.
+fn count_four(a: u8, b: u8, c: u8, d: u8) -> usize
+    ensures { λ r. ⌜ (r ≡ ones a + ones b + ones c + ones d) × (r ≤ 32) ⌝ }
+{
+    let low = (a as u32) + 256 * (b as u32);
+    let high = (c as u32) + 256 * (d as u32);
+    u32::count_ones(low + 65536 * high) as usize
+}
+
 // Where the term that begins at an offset of a complete situation ends: its words' maps say how many
-// more terms are due.
+// more terms are due. Where four are due the next four maps are counted in one go.
 fn end_of(s: &[u8], at: usize) -> usize
     requires { ⌜ Standing (now s) at ⌝ }
     ensures { λ r. ⌜ ((a : Standing (now (s .entry)) at) → r ≡ ends a) ⌝ }
@@ -66,9 +75,22 @@ fn end_of(s: &[u8], at: usize) -> usize
     let mut end = at;
     let mut due: usize = 1;
     while 0 < due {
-        let places = count(map_at(s, end));
-        due = due - 1 + places;
-        end += NODE;
+        if due < 4 {
+            due = due - 1 + count(map_at(s, end));
+            end += NODE;
+        } else {
+            let second = end + NODE;
+            let third = second + NODE;
+            let fourth = third + NODE;
+            due = due - 4
+                + count_four(
+                    map_at(s, end),
+                    map_at(s, second),
+                    map_at(s, third),
+                    map_at(s, fourth),
+                );
+            end = fourth + NODE;
+        }
     }
     end
 }
