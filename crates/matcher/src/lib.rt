@@ -2,7 +2,8 @@
 ghost use mathlib.Core.Path.{_≡_};
 ghost use Prim.Native.Nat.{_+_, _*_, _/_, _<_, _≤_};
 ghost use lib.Count.{ones};
-ghost use lib.ListN.{length, getD, replicate};
+ghost use lib.ListN.{length, getD, take, drop, replicate};
+ghost use Rattle.slices.specs.Equal.{Equal};
 ghost use Rattle.wire.specs.Map.{mapBytes};
 ghost use Rattle.wire.specs.Matching.{MatchPromise, PartPromise};
 ghost use Rattle.wire.specs.Effect.{HasEffect};
@@ -104,6 +105,20 @@ fn note(spans: &mut [u16; 128], name: usize, at: usize, n: usize)
     spans[2 * name + 1] = n as u16;
 }
 
+// Whether the parts of so many bytes from two offsets on are the same. Most parts are one node.
+fn same_part(s: &[u8], first: usize, at: usize, n: usize) -> bool
+    requires { ⌜ (first + n ≤ length (now s)) × (at + n ≤ length (now s)) ⌝ }
+    ensures { λ r. ⌜ Equal (take n (drop first (now (s .entry)))) (take n (drop at (now (s .entry)))) r ⌝ }
+{
+    if n == NODE {
+        if s[first] != s[at] {
+            return false;
+        }
+        return map_at(s, first) == map_at(s, at);
+    }
+    slices::equal(&s[first..first + n], &s[at..at + n])
+}
+
 // Where the part that a name covers from an offset on ends. The first time it is noted. Later the bytes of that part
 // must stand here too, which then end where the part does; 0 says that they do not.
 fn cover(s: &[u8], spans: &mut [u16; 128], name: usize, at: usize) -> usize
@@ -122,7 +137,7 @@ fn cover(s: &[u8], spans: &mut [u16; 128], name: usize, at: usize) -> usize
         return 0;
     }
     let first = wide16(spans[2 * name]);
-    if slices::equal(&s[first..first + n], &s[at..at + n]) {
+    if same_part(s, first, at, n) {
         return at + n;
     }
     0
