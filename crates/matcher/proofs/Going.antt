@@ -11,13 +11,14 @@ use mathlib.Core.Bool.{true, false}
 use mathlib.Core.List.{List, []}
 use Prim.Native.Nat.{ℕ, zero, suc, _+_, _-_, _*_, _<_, _≤_}
 use native.Mathlib.Omega.{arith}
-use lib.ListN.{length, getD}
+use lib.ListN.{length, getD, take, drop, length-drop}
+use lib.Seq.{getD-take, getD-drop, length-take-le}
 use Rattle.terms.specs.Term.{Term, Terms, cons, Ground, gapp, Grounds, gcons}
+use Rattle.nodes.specs.Same.{SameNodes}
 use Rattle.wire.specs.Map.{mapBytes}
 use Rattle.wire.specs.Vocabulary.{InOrder}
 use Rattle.wire.proofs.GroundBytes.{known-word, joined}
 use Rattle.matcher.specs.Frames.{mapAt}
-use Rattle.matcher.specs.Same.{SameNodes}
 use Rattle.matcher.specs.Spans.{Standing, Covered}
 use Rattle.matcher.specs.Walking.{InputsRead, Walked, Side, Going, AtSharedWord}
 use Rattle.matcher.proofs.Joined.{chained}
@@ -103,26 +104,45 @@ part-low {p} {s} {spans} {i} {j} c some a = go (going-faces c some a .ground) (g
           inOrder a .fewWords,
         )
 
-pub going-same : {p s spans : List ℕ} {i j n : ℕ} → InputsRead p s → Going p s spans i j → SameNodes p s i j n → Going p s spans (i + n) (j + n)
-going-same {p} {s} {spans} {i} {j} {n} a c h =
-    subst (λ n. Going p s spans (i + n) (j + n)) (sym (h .whole)) (go (h .nodes) (omega (arith, h .whole)))
-  where
-    go : (k : ℕ) → (1 + mapBytes) * k ≤ n → Going p s spans (i + (1 + mapBytes) * k) (j + (1 + mapBytes) * k)
-    go zero l = subst₂ (Going p s spans) (let e : i ≡ i + (1 + mapBytes) * 0 = omega arith in e) (let e : j ≡ j + (1 + mapBytes) * 0 = omega arith in e) c
-    go (suc k) l =
-        let before = go k (omega arith) in
-        let at : ℕ = (1 + mapBytes) * k in
-        let some : i + at < length p = omega (arith, h .insideFirst) in
-        let word : getD p (i + at) 0 ≡ getD s (j + at) 0 = h .same at (omega arith) in
-        let low : getD p (i + at) 0 < 128 = subst (λ b. b < 128) (sym word) (part-low before some a) in
-        let map : mapAt p (i + at) ≡ mapAt s (j + at) = next p i at ∙ h .same (at + 1) (omega arith) ∙ sym (next s j at) in
-        subst₂ (Going p s spans) (further i k) (further j k) (going-full before some low word map)
-      where
-        next : (t : List ℕ) (b at : ℕ) → getD t (b + at + 1) 0 ≡ getD t (b + (at + 1)) 0
-        next t b at = ap (λ k. getD t k 0) (let e : b + at + 1 ≡ b + (at + 1) = omega arith in e)
+-- The bytes from an offset on, as they are lent.
+abbrev rest : List ℕ → ℕ → List ℕ
+rest t i = take (length t - i) (drop i t)
 
-        further : (b k : ℕ) → b + (1 + mapBytes) * k + (1 + mapBytes) ≡ b + (1 + mapBytes) * suc k
-        further b k = omega arith
+rest-inside : (t : List ℕ) (i n : ℕ) → i ≤ length t → n ≤ length (rest t i) → i + n ≤ length t
+rest-inside t i n inside l = omega (arith, length-take-le (length t - i) (drop i t) (omega (arith, length-drop i t)))
+
+rest-byte : (t : List ℕ) (i k : ℕ) → i + k < length t → getD (rest t i) k 0 ≡ getD t (i + k) 0
+rest-byte t i k l = getD-take (length t - i) (drop i t) k 0 (omega arith) ∙ getD-drop i t k 0
+
+module _ {p s spans : List ℕ} {i j n : ℕ} (a : InputsRead p s) (c : Going p s spans i j) (h : SameNodes (rest p i) (rest s j) n) where
+  pub same-pattern : i + n ≤ length p
+  same-pattern = rest-inside p i n (c a .side .insidePattern) (h .insideFirst)
+
+  pub same-situation : j + n ≤ length s
+  same-situation = rest-inside s j n (c a .side .insideSituation) (h .insideSecond)
+
+  same-byte : (k : ℕ) → k < n → getD p (i + k) 0 ≡ getD s (j + k) 0
+  same-byte k l = sym (rest-byte p i k (omega (arith, same-pattern))) ∙ h .same k l ∙ rest-byte s j k (omega (arith, same-situation))
+
+  pub going-same : Going p s spans (i + n) (j + n)
+  going-same = subst (λ n. Going p s spans (i + n) (j + n)) (sym (h .whole)) (go (h .nodes) (omega (arith, h .whole)))
+    where
+      go : (k : ℕ) → (1 + mapBytes) * k ≤ n → Going p s spans (i + (1 + mapBytes) * k) (j + (1 + mapBytes) * k)
+      go zero l = subst₂ (Going p s spans) (let e : i ≡ i + (1 + mapBytes) * 0 = omega arith in e) (let e : j ≡ j + (1 + mapBytes) * 0 = omega arith in e) c
+      go (suc k) l =
+          let before = go k (omega arith) in
+          let at : ℕ = (1 + mapBytes) * k in
+          let some : i + at < length p = omega (arith, same-pattern) in
+          let word : getD p (i + at) 0 ≡ getD s (j + at) 0 = same-byte at (omega arith) in
+          let low : getD p (i + at) 0 < 128 = subst (λ b. b < 128) (sym word) (part-low before some a) in
+          let map : mapAt p (i + at) ≡ mapAt s (j + at) = next p i at ∙ same-byte (at + 1) (omega arith) ∙ sym (next s j at) in
+          subst₂ (Going p s spans) (further i k) (further j k) (going-full before some low word map)
+        where
+          next : (t : List ℕ) (b at : ℕ) → getD t (b + at + 1) 0 ≡ getD t (b + (at + 1)) 0
+          next t b at = ap (λ k. getD t k 0) (let e : b + at + 1 ≡ b + (at + 1) = omega arith in e)
+
+          further : (b k : ℕ) → b + (1 + mapBytes) * k + (1 + mapBytes) ≡ b + (1 + mapBytes) * suc k
+          further b k = omega arith
 
 -- ---- a word that stands in both
 

@@ -4,7 +4,6 @@
 --   Counts     the bits of four maps, counted in one number
 --   Ending     where a ground term ends
 --   Parts      what a name covers, and the table filled
---   Same       nodes that two lists of bytes share
 --   Joined     matching and spans of terms that stand one behind the other
 --   Marks      what maps and frames say of the terms that are due
 --   Bound      what matching a name does to what a filling gives it
@@ -23,7 +22,6 @@ pub mod Offsets
 pub mod Counts
 pub mod Ending
 pub mod Parts
-pub mod Same
 pub mod Joined
 pub mod Marks
 pub mod Bound

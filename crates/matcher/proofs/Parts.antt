@@ -68,10 +68,10 @@ module _ (s before : List ℕ) (name at : ℕ) where
     }
 
     module _ (from n : ℕ) (start : from ≡ first) (bytes : n ≡ long) where
-      part : (a k : ℕ) → k ≡ a → take n (drop a s) ≡ take long (drop k s)
-      part a k e = ap₂ (λ m o. take m (drop o s)) bytes (sym e)
+      part : (a k : ℕ) → k ≡ a → take (a + n - a) (drop a s) ≡ take long (drop k s)
+      part a k e = ap₂ (λ m o. take m (drop o s)) (let z : a + n - a ≡ n = omega arith in z ∙ bytes) (sym e)
 
-      pub covered-same : take n (drop from s) ≡ take n (drop at s) → Covered s before before name at (at + n)
+      pub covered-same : take (from + n - from) (drop from s) ≡ take (at + n - at) (drop at s) → Covered s before before name at (at + n)
       covered-same e = record {
         new = λ q. absurd (again q);
         kept = λ q. refl;
@@ -79,7 +79,7 @@ module _ (s before : List ℕ) (name at : ℕ) where
         no = λ q r inside h. again (omega arith);
       }
 
-      pub covered-other : (take n (drop from s) ≡ take n (drop at s) → ⊥) → Covered s before before name at 0
+      pub covered-other : (take (from + n - from) (drop from s) ≡ take (at + n - at) (drop at s) → ⊥) → Covered s before before name at 0
       covered-other d = record {
         new = λ q. absurd (again q);
         kept = λ q. refl;

@@ -6,12 +6,10 @@
 -- What the private functions promise each other; no public contract cites it.
 --
 --   Frames     the maps of words as they are gone through
---   Same       nodes that two lists of bytes share
 --   Spans      what is noted of names on the way
 --   Walking    what is due of a pattern and a situation, and what the walk answers
 pub mod Answers
 pub mod Places
 pub mod Frames
-pub mod Same
 pub mod Spans
 pub mod Walking

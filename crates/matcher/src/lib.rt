@@ -2,8 +2,7 @@
 ghost use mathlib.Core.Path.{_≡_};
 ghost use Prim.Native.Nat.{_+_, _*_, _/_, _<_, _≤_};
 ghost use lib.Count.{ones};
-ghost use lib.ListN.{length, getD, take, drop, replicate};
-ghost use Rattle.slices.specs.Equal.{Equal};
+ghost use lib.ListN.{length, getD, replicate};
 ghost use Rattle.wire.specs.Map.{mapBytes};
 ghost use Rattle.wire.specs.Matching.{MatchPromise, PartPromise};
 ghost use Rattle.wire.specs.Effect.{HasEffect};
@@ -13,15 +12,11 @@ ghost use Rattle.matcher.specs.Places.{partAt};
 ghost use Rattle.matcher.specs.Frames.{mapAt, placesIn, writtenIn, TwoMaps};
 ghost use Rattle.matcher.specs.Spans.{withSpan, Standing, ends, Covered};
 ghost use Rattle.matcher.specs.Walking.{InputsRead, Walked, AtSharedWord, WordWalked};
-ghost use Rattle.matcher.specs.Same.{SameNodes};
 use reader::InputsAnswer;
 use reader::InputsRefusal;
 
 // The bytes of a word's node: the word and its map.
 const NODE: usize = 2;
-
-// The bytes of 32 nodes, which are compared in one go.
-const BLOCK: usize = 32 * NODE;
 
 // Yes or no, or why there is no answer.
 pub enum MatchAnswer {
@@ -105,20 +100,6 @@ fn note(spans: &mut [u16; 128], name: usize, at: usize, n: usize)
     spans[2 * name + 1] = n as u16;
 }
 
-// Whether the parts of so many bytes from two offsets on are the same. Most parts are one node.
-fn same_part(s: &[u8], first: usize, at: usize, n: usize) -> bool
-    requires { ⌜ (first + n ≤ length (now s)) × (at + n ≤ length (now s)) ⌝ }
-    ensures { λ r. ⌜ Equal (take n (drop first (now (s .entry)))) (take n (drop at (now (s .entry)))) r ⌝ }
-{
-    if n == NODE {
-        if s[first] != s[at] {
-            return false;
-        }
-        return map_at(s, first) == map_at(s, at);
-    }
-    slices::equal(&s[first..first + n], &s[at..at + n])
-}
-
 // Where the part that a name covers from an offset on ends. The first time it is noted. Later the bytes of that part
 // must stand here too, which then end where the part does; 0 says that they do not.
 fn cover(s: &[u8], spans: &mut [u16; 128], name: usize, at: usize) -> usize
@@ -137,7 +118,7 @@ fn cover(s: &[u8], spans: &mut [u16; 128], name: usize, at: usize) -> usize
         return 0;
     }
     let first = wide16(spans[2 * name]);
-    if same_part(s, first, at, n) {
+    if nodes::equal(&s[first..first + n], &s[at..at + n]) {
         return at + n;
     }
     0
@@ -233,59 +214,6 @@ fn walk_word(p: &[u8], s: &[u8], spans: &mut [u16; 128], from: usize, at: usize)
     }
 }
 
-fn least(a: usize, b: usize) -> usize
-    ensures { λ r. ⌜ (r ≤ a) × (r ≤ b) ⌝ }
-{
-    if a < b {
-        return a;
-    }
-    b
-}
-
-// How many bytes of the nodes from two offsets on are the same. Where a block is the same, the next ones are compared as
-// blocks.
-fn same_nodes(p: &[u8], s: &[u8], i: usize, j: usize) -> usize
-    requires { ⌜ (i ≤ length (now p)) × (j ≤ length (now s)) ⌝ }
-    ensures { λ r. ⌜ SameNodes (now (p .entry)) (now (s .entry)) i j r ⌝ }
-{
-    let most = least(p.len() - i, s.len() - j);
-    let mut n: usize = 0;
-    while NODE <= most - n {
-        let a = i + n;
-        let b = j + n;
-        if p[a] != s[b] {
-            return n;
-        }
-        if map_at(p, a) != map_at(s, b) {
-            return n;
-        }
-        n += NODE;
-        if n % BLOCK == 0 {
-            n = same_blocks(p, s, i, j, n, most);
-        }
-    }
-    n
-}
-
-// The same by blocks, where so many bytes are known to be the same.
-fn same_blocks(p: &[u8], s: &[u8], i: usize, j: usize, known: usize, most: usize) -> usize
-    requires { ⌜ SameNodes (now p) (now s) i j known ⌝ }
-    requires { ⌜ (known ≤ most) × (i + most ≤ length (now p)) × (j + most ≤ length (now s)) ⌝ }
-    ensures { λ r. ⌜ SameNodes (now (p .entry)) (now (s .entry)) i j r ⌝ }
-    ensures { λ r. ⌜ (known ≤ r) × (r ≤ most) ⌝ }
-{
-    let mut n = known;
-    while BLOCK <= most - n {
-        let a = i + n;
-        let b = j + n;
-        if !slices::equal(&p[a..a + BLOCK], &s[b..b + BLOCK]) {
-            return n;
-        }
-        n += BLOCK;
-    }
-    n
-}
-
 // Goes through a pattern and a situation side by side, and notes the part that each name covers. While no open place
 // is due what is left of the pattern stands for what is left of the situation.
 fn walk_words(p: &[u8], s: &[u8], spans: &mut [u16; 128]) -> bool
@@ -297,7 +225,7 @@ fn walk_words(p: &[u8], s: &[u8], spans: &mut [u16; 128]) -> bool
     let mut i: usize = 1;
     let mut j: usize = 1;
     while i < p.len() {
-        let n = same_nodes(p, s, i, j);
+        let n = nodes::same_front(&p[i..], &s[j..]);
         i += n;
         j += n;
         if i < p.len() {

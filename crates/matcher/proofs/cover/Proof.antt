@@ -70,29 +70,53 @@ element-copy-out-wide16-2 c = search needs
 wide16-requires-2 : tie.Need-wide16-requires-2
 wide16-requires-2 c κs = search needs
 
-same-part-requires : tie.Need-same-part-requires
-same-part-requires c κs = search needs
+add-equal : tie.Need-add-equal
+add-equal c = search needs
+
+sub-equal : tie.Need-sub-equal
+sub-equal c = search needs
+
+part-equal-start : tie.Need-part-equal-start
+part-equal-start c = search needs
+
+part-equal-end : tie.Need-part-equal-end
+part-equal-end c = search needs
+
+add-equal-2 : tie.Need-add-equal-2
+add-equal-2 c = search needs
+
+sub-equal-2 : tie.Need-sub-equal-2
+sub-equal-2 c = search needs
+
+part-equal-start-2 : tie.Need-part-equal-start-2
+part-equal-start-2 c = search needs
+
+part-equal-end-2 : tie.Need-part-equal-end-2
+part-equal-end-2 c = search needs
+
+equal-requires : tie.Need-equal-requires
+equal-requires c κs = search needs
 
 add-result : tie.Need-add-result
 add-result c = search needs
 
 returns-3 : tie.Need-returns-3
 returns-3 c =
-    let at-same-part = c .before in
-    let at-wide162 = at-same-part .before in
+    let at-equal = c .before in
+    let at-wide162 = at-equal .before .before .before in
     let at-if1 = at-wide162 .before .before .before in
     let at-wide16 = at-if1 .before in
     let n = at-wide16 .wide16 .ensures .0 in
-    covered-same _ _ _ _ (λ e. at-if1 .if1 .left (n ∙ e)) _ _ (at-wide162 .wide162 .ensures .0) n (at-same-part .same-part .ensures .yes (c .if3 .taken))
+    covered-same _ _ _ _ (λ e. at-if1 .if1 .left (n ∙ e)) _ _ (at-wide162 .wide162 .ensures .0) n (at-equal .equal .ensures .yes (c .if3 .taken))
 
 returns-4 : tie.Need-returns-4
 returns-4 c =
-    let at-same-part = c .before in
-    let at-wide162 = at-same-part .before in
+    let at-equal = c .before in
+    let at-wide162 = at-equal .before .before .before in
     let at-if1 = at-wide162 .before .before .before in
     let at-wide16 = at-if1 .before in
     let n = at-wide16 .wide16 .ensures .0 in
-    covered-other _ _ _ _ (λ e. at-if1 .if1 .left (n ∙ e)) _ _ (at-wide162 .wide162 .ensures .0) n (at-same-part .same-part .ensures .no (c .if3 .left))
+    covered-other _ _ _ _ (λ e. at-if1 .if1 .left (n ∙ e)) _ _ (at-wide162 .wide162 .ensures .0) n (at-equal .equal .ensures .no (c .if3 .left))
 
 pub cover-spec : {M : Type 1} → statement M
 cover-spec =
@@ -113,7 +137,15 @@ cover-spec =
     mul-wide16-4
     element-copy-out-wide16-2
     wide16-requires-2
-    same-part-requires
+    add-equal
+    sub-equal
+    part-equal-start
+    part-equal-end
+    add-equal-2
+    sub-equal-2
+    part-equal-start-2
+    part-equal-end-2
+    equal-requires
     add-result
     returns-3
     returns-4)

@@ -1,61 +1,41 @@
--- `matcher::same_nodes` meets its contract.
-use mathlib.Core.Path.{sym, _∙_}
+-- `nodes::same_front` meets its contract.
 use Prim.Native.Nat.{_+_, _-_, _≤_}
 use native.Mathlib.Omega.{arith}
 use denote.Ref.{now}
 use lib.ListN.{length}
 use borrow.Author.Needs.{needs}
-use Rattle.matcher.specs.Same.{SameNodes}
-use Rattle.matcher.proofs.Same.{same-none, same-node}
-use Rattle.matcher.proofs.same_nodes.Statement.{statement}
-use Rattle.matcher.proofs.same_nodes.Tie as tie
+use Rattle.nodes.specs.Same.{SameNodes}
+use Rattle.nodes.proofs.Same.{same-none, same-node}
+use Rattle.nodes.proofs.same_front.Statement.{statement}
+use Rattle.nodes.proofs.same_front.Tie as tie
 
 abbrev Inv-loop : tie.InvT-loop
-Inv-loop p s i j most n₀ n = SameNodes p s i j n × (n ≤ most) × (i + most ≤ length p) × (j + most ≤ length s)
+Inv-loop a b most n₀ n = SameNodes a b n × (n ≤ most) × (most ≤ length a) × (most ≤ length b)
 
 abbrev μ-loop : tie.MeasureT-loop
-μ-loop p s i j most n₀ n = most - n
+μ-loop a b most n₀ n = most - n
 
 -- One more node is the same.
 longer : (c : tie.Else2 Inv-loop μ-loop) →
     let at-loop = c .before .before .before .before .before .before .before in
-    let start = at-loop .before .before .before .before in
-    SameNodes (now (start .args .p)) (now (start .args .s)) (start .args .i) (start .args .j) (at-loop .loop .n + 2)
+    let a = at-loop .before .before .before .before .args in
+    SameNodes (now (a .a)) (now (a .b)) (at-loop .loop .n + 2)
 longer c =
-    let at-map-at2 = c .before in
-    let at-map-at = at-map-at2 .before in
-    let at-if1 = at-map-at .before in
+    let at-if1 = c .before .before .before in
     let at-loop-test = at-if1 .before .before .before in
     let at-loop = at-loop-test .before in
     let room = at-loop-test .loop-test .taken in
     let inside = at-loop .loop .inv in
-    let map = sym (at-map-at .map-at .ensures) ∙ c .if2 .left ∙ at-map-at2 .map-at2 .ensures in
-    same-node (at-loop .loop .inv .0) (omega arith) (omega arith) (at-if1 .if1 .left) map
-
-sub-least : tie.Need-sub-least Inv-loop μ-loop
-sub-least c = search needs
-
-sub-least-2 : tie.Need-sub-least-2 Inv-loop μ-loop
-sub-least-2 c = search needs
+    same-node (at-loop .loop .inv .0) (omega arith) (omega arith) (at-if1 .if1 .left) (c .if2 .left)
 
 least-requires : tie.Need-least-requires Inv-loop μ-loop
 least-requires c κs = search needs
 
 loop-holds : tie.Need-loop-holds Inv-loop μ-loop
-loop-holds c =
-    let start = c .before .before .before in
-    let inside = start .pre in
-    let most = c .least .ensures in
-    (same-none (inside .0) (inside .1), omega arith, omega arith, omega arith)
+loop-holds c = let most = c .least .ensures in (same-none, omega arith, most .0, most .1)
 
 sub-loop : tie.Need-sub-loop Inv-loop μ-loop
 sub-loop c = search needs
-
-add-a : tie.Need-add-a Inv-loop μ-loop
-add-a c = search needs
-
-add-b : tie.Need-add-b Inv-loop μ-loop
-add-b c = search needs
 
 shared-slice-read-if1 : tie.Need-shared-slice-read-if1 Inv-loop μ-loop
 shared-slice-read-if1 c = search needs
@@ -68,17 +48,17 @@ returns c =
     let at-loop = c .before .before .before .before in
     at-loop .loop .inv .0
 
-map-at-requires : tie.Need-map-at-requires Inv-loop μ-loop
-map-at-requires c κs =
-    let at-loop-test = c .before .before .before in
-    let at-loop = at-loop-test .before in
-    let room = at-loop-test .loop-test .taken in let inside = at-loop .loop .inv in omega arith
+add-if2 : tie.Need-add-if2 Inv-loop μ-loop
+add-if2 c = search needs
 
-map-at-requires-2 : tie.Need-map-at-requires-2 Inv-loop μ-loop
-map-at-requires-2 c κs =
-    let at-loop-test = c .before .before .before .before in
-    let at-loop = at-loop-test .before in
-    let room = at-loop-test .loop-test .taken in let inside = at-loop .loop .inv in omega arith
+shared-slice-read-if2 : tie.Need-shared-slice-read-if2 Inv-loop μ-loop
+shared-slice-read-if2 c = search needs
+
+add-if2-2 : tie.Need-add-if2-2 Inv-loop μ-loop
+add-if2-2 c = search needs
+
+shared-slice-read-if2-2 : tie.Need-shared-slice-read-if2-2 Inv-loop μ-loop
+shared-slice-read-if2-2 c = search needs
 
 returns-2 : tie.Need-returns-2 Inv-loop μ-loop
 returns-2 c =
@@ -122,24 +102,22 @@ returns-3 c =
     let at-loop = c .before in
     at-loop .loop .inv .0
 
-pub same-nodes-spec : {M : Type 1} → statement M
-same-nodes-spec =
+pub same-front-spec : {M : Type 1} → statement M
+same-front-spec =
     tie.close
     (tie.spec
     Inv-loop
     μ-loop
-    sub-least
-    sub-least-2
     least-requires
     loop-holds
     sub-loop
-    add-a
-    add-b
     shared-slice-read-if1
     shared-slice-read-if1-2
     returns
-    map-at-requires
-    map-at-requires-2
+    add-if2
+    shared-slice-read-if2
+    add-if2-2
+    shared-slice-read-if2-2
     returns-2
     add-n
     same-blocks-requires

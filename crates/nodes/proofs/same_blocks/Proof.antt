@@ -1,18 +1,18 @@
--- `matcher::same_blocks` meets its contract.
+-- `nodes::same_blocks` meets its contract.
 use Prim.Native.Nat.{_-_, _≤_}
 use native.Mathlib.Omega.{arith}
 use borrow.Author.Needs.{needs}
 use borrow.Author.Tests.{not-false}
-use Rattle.matcher.specs.Same.{SameNodes}
-use Rattle.matcher.proofs.Same.{same-block}
-use Rattle.matcher.proofs.same_blocks.Statement.{statement}
-use Rattle.matcher.proofs.same_blocks.Tie as tie
+use Rattle.nodes.specs.Same.{SameNodes}
+use Rattle.nodes.proofs.Same.{same-block}
+use Rattle.nodes.proofs.same_blocks.Statement.{statement}
+use Rattle.nodes.proofs.same_blocks.Tie as tie
 
 abbrev Inv-loop : tie.InvT-loop
-Inv-loop p s i j known most n₀ n = SameNodes p s i j n × (known ≤ n) × (n ≤ most)
+Inv-loop a b known most n₀ n = SameNodes a b n × (known ≤ n) × (n ≤ most)
 
 abbrev μ-loop : tie.MeasureT-loop
-μ-loop p s i j known most n₀ n = most - n
+μ-loop a b known most n₀ n = most - n
 
 loop-holds : tie.Need-loop-holds Inv-loop μ-loop
 loop-holds c =
@@ -21,12 +21,6 @@ loop-holds c =
 
 sub-loop : tie.Need-sub-loop Inv-loop μ-loop
 sub-loop c = search needs
-
-add-a : tie.Need-add-a Inv-loop μ-loop
-add-a c = search needs
-
-add-b : tie.Need-add-b Inv-loop μ-loop
-add-b c = search needs
 
 add-equal : tie.Need-add-equal Inv-loop μ-loop
 add-equal c = search needs
@@ -90,8 +84,6 @@ same-blocks-spec =
     μ-loop
     loop-holds
     sub-loop
-    add-a
-    add-b
     add-equal
     sub-equal
     part-equal-start
