@@ -1,29 +1,67 @@
 -- `matcher::cover` meets its contract.
 use mathlib.Core.Path.{sym, _∙_}
+use Prim.Native.Nat.{_+_, _≤_}
 use native.Mathlib.Omega.{arith}
-use borrow.Author.Needs.{needs}
+use mir.Facts.{fits-lt, fits-lit}
+use denote.Ref.{now}
+use lib.Dec.{lit<}
+use lib.ListN.{length}
+use borrow.Author.Needs.{scaled-fits}
+use Rattle.matcher.proofs.Offsets.{offset-fits}
 use Rattle.matcher.proofs.Ending.{ends-inside}
-use Rattle.matcher.proofs.Parts.{covered-new, covered-short, covered-same, covered-other}
+use Rattle.matcher.proofs.Parts.{even-slot, odd-slot, covered-new, covered-short, covered-same, covered-other}
 use Rattle.matcher.proofs.cover.Statement.{statement}
 use Rattle.matcher.proofs.cover.Tie as tie
 
+-- The part that is noted lies in the situation, and so do as many bytes here.
+noted-inside : (c : tie.After-wide162) →
+    let at-wide16 = c .before .before .before .before in
+    let a = at-wide16 .before .before .before .args in
+    c .wide162 .result + at-wide16 .wide16 .result ≤ length (now (a .s))
+noted-inside c =
+    let at-wide16 = c .before .before .before .before in
+    let inside = at-wide16 .before .before .before .pre .1 .1 in
+    let first = c .wide162 .ensures .0 in
+    let long = at-wide16 .wide16 .ensures .0 in
+    omega arith
+
+part-inside : (c : tie.After-wide162) →
+    let at-wide16 = c .before .before .before .before in
+    let a = at-wide16 .before .before .before .args in
+    a .at + at-wide16 .wide16 .result ≤ length (now (a .s))
+part-inside c =
+    let at-if2 = c .before .before in
+    let inside = at-if2 .before .before .before .before .before .pre .0 .inside in
+    let room = at-if2 .if2 .left in
+    omega arith
+
 mul-wide16 : tie.Need-mul-wide16
-mul-wide16 c = search needs
+mul-wide16 c =
+    let start = c .before in
+    fits-lt (even-slot (start .pre .1 .0 .0)) (fits-lit tt)
 
 add-wide16 : tie.Need-add-wide16
-add-wide16 c = search needs
+add-wide16 c =
+    let start = c .before in
+    fits-lt (odd-slot (start .pre .1 .0 .0)) (fits-lit tt)
 
 mul-wide16-2 : tie.Need-mul-wide16-2
-mul-wide16-2 c = search needs
+mul-wide16-2 c =
+    let start = c .before in
+    scaled-fits _ 128 2 (odd-slot (start .pre .1 .0 .0)) (lit< tt)
 
 element-copy-out-wide16 : tie.Need-element-copy-out-wide16
-element-copy-out-wide16 c = search needs
+element-copy-out-wide16 c =
+    let start = c .before in
+    odd-slot (start .pre .1 .0 .0)
 
 wide16-requires : tie.Need-wide16-requires
-wide16-requires c κs = search needs
+wide16-requires c κs = tt
 
 end-of-requires : tie.Need-end-of-requires
-end-of-requires c κs = search needs
+end-of-requires c κs =
+    let start = c .before .before .before .before in
+    start .pre .0
 
 sub-note : tie.Need-sub-note
 sub-note c =
@@ -48,7 +86,9 @@ returns c =
     covered-new _ _ _ _ _ _ (sym (at-wide16 .wide16 .ensures .0) ∙ at-if1 .if1 .taken) (at-end-of .end-of .ensures) (c .note .ensures)
 
 sub-if2 : tie.Need-sub-if2
-sub-if2 c = search needs
+sub-if2 c =
+    let start = c .before .before .before .before in
+    start .pre .0 .inside
 
 returns-2 : tie.Need-returns-2
 returns-2 c =
@@ -59,46 +99,62 @@ returns-2 c =
     covered-short _ _ _ _ (λ e. at-if1 .if1 .left (n ∙ e)) (omega arith)
 
 mul-wide16-3 : tie.Need-mul-wide16-3
-mul-wide16-3 c = search needs
+mul-wide16-3 c =
+    let start = c .before .before .before .before .before in
+    fits-lt (even-slot (start .pre .1 .0 .0)) (fits-lit tt)
 
 mul-wide16-4 : tie.Need-mul-wide16-4
-mul-wide16-4 c = search needs
+mul-wide16-4 c =
+    let start = c .before .before .before .before .before in
+    scaled-fits _ 128 2 (even-slot (start .pre .1 .0 .0)) (lit< tt)
 
 element-copy-out-wide16-2 : tie.Need-element-copy-out-wide16-2
-element-copy-out-wide16-2 c = search needs
+element-copy-out-wide16-2 c =
+    let start = c .before .before .before .before .before in
+    even-slot (start .pre .1 .0 .0)
 
 wide16-requires-2 : tie.Need-wide16-requires-2
-wide16-requires-2 c κs = search needs
+wide16-requires-2 c κs = tt
 
 add-equal : tie.Need-add-equal
-add-equal c = search needs
+add-equal c =
+    let start = c .before .before .before .before .before .before .before in
+    offset-fits (noted-inside c) (start .pre .1 .0 .1)
 
 sub-equal : tie.Need-sub-equal
-sub-equal c = search needs
+sub-equal c = omega arith
 
 part-equal-start : tie.Need-part-equal-start
-part-equal-start c = search needs
+part-equal-start c = omega arith
 
 part-equal-end : tie.Need-part-equal-end
-part-equal-end c = search needs
+part-equal-end c = noted-inside c
 
 add-equal-2 : tie.Need-add-equal-2
-add-equal-2 c = search needs
+add-equal-2 c =
+    let at-wide162 = c .before in
+    let start = at-wide162 .before .before .before .before .before .before .before in
+    offset-fits (part-inside at-wide162) (start .pre .1 .0 .1)
 
 sub-equal-2 : tie.Need-sub-equal-2
-sub-equal-2 c = search needs
+sub-equal-2 c = omega arith
 
 part-equal-start-2 : tie.Need-part-equal-start-2
-part-equal-start-2 c = search needs
+part-equal-start-2 c = omega arith
 
 part-equal-end-2 : tie.Need-part-equal-end-2
-part-equal-end-2 c = search needs
+part-equal-end-2 c =
+    let at-wide162 = c .before in
+    part-inside at-wide162
 
 equal-requires : tie.Need-equal-requires
-equal-requires c κs = search needs
+equal-requires c κs = tt
 
 add-result : tie.Need-add-result
-add-result c = search needs
+add-result c =
+    let at-wide162 = c .before .before .before .before in
+    let start = at-wide162 .before .before .before .before .before .before .before in
+    offset-fits (part-inside at-wide162) (start .pre .1 .0 .1)
 
 returns-3 : tie.Need-returns-3
 returns-3 c =

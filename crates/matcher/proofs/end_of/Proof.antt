@@ -2,7 +2,6 @@
 use Prim.Native.Nat.{_-_}
 use native.Mathlib.Omega.{arith}
 use lib.ListN.{length}
-use borrow.Author.Needs.{needs}
 use Rattle.matcher.proofs.Ending.{Ending, ending-begins, ending-few, ending-turn, ending-four, ending-ends}
 use Rattle.matcher.proofs.end_of.Statement.{statement}
 use Rattle.matcher.proofs.end_of.Tie as tie
@@ -17,7 +16,9 @@ loop-holds : tie.Need-loop-holds Inv-loop μ-loop
 loop-holds c = ending-begins _ _
 
 sub-due : tie.Need-sub-due Inv-loop μ-loop
-sub-due c = search needs
+sub-due c =
+    let at-loop-test = c .before in
+    at-loop-test .loop-test .taken
 
 map-at-requires : tie.Need-map-at-requires Inv-loop μ-loop
 map-at-requires c κs =
@@ -27,7 +28,7 @@ map-at-requires c κs =
     let some = at-loop-test .loop-test .taken in omega (arith, ending-few (at-loop .loop .inv) (start .pre))
 
 count-requires : tie.Need-count-requires Inv-loop μ-loop
-count-requires c κs = search needs
+count-requires c κs = tt
 
 add-due : tie.Need-add-due Inv-loop μ-loop
 add-due c =

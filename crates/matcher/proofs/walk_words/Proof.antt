@@ -3,7 +3,6 @@ use Prim.Native.Nat.{_+_, _-_}
 use native.Mathlib.Omega.{arith}
 use denote.Ref.{now}
 use lib.ListN.{length}
-use borrow.Author.Needs.{needs}
 use Rattle.matcher.specs.Walking.{InputsRead, Going}
 use Rattle.matcher.proofs.Offsets.{offset-fits}
 use Rattle.matcher.proofs.Begin.{going-begins, going-ends}
@@ -36,13 +35,13 @@ loop-holds c =
     going-begins _ _ _ (start .pre .1 .0) (start .pre .1 .1)
 
 sub-same-front : tie.Need-sub-same-front Inv-loop μ-loop
-sub-same-front c = search needs
+sub-same-front c = let some = c .loop-test .taken in omega arith
 
 part-same-front-start : tie.Need-part-same-front-start Inv-loop μ-loop
 part-same-front-start c = let some = c .loop-test .taken in omega arith
 
 part-same-front-end : tie.Need-part-same-front-end Inv-loop μ-loop
-part-same-front-end c = search needs
+part-same-front-end c = omega arith
 
 sub-same-front-2 : tie.Need-sub-same-front-2 Inv-loop μ-loop
 sub-same-front-2 c =
@@ -57,7 +56,7 @@ part-same-front-start-2 c =
     at-loop .loop .inv (start .pre .0) .side .insideSituation
 
 part-same-front-end-2 : tie.Need-part-same-front-end-2 Inv-loop μ-loop
-part-same-front-end-2 c = search needs
+part-same-front-end-2 c = omega arith
 
 same-front-requires : tie.Need-same-front-requires Inv-loop μ-loop
 same-front-requires c κs = tt
