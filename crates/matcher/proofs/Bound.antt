@@ -1,4 +1,4 @@
--- Bound: what a filling gives a name, and what matching a name does to it.
+-- Bound: what matching a name does to what a filling gives it.
 use mathlib.Core.Path.{_≡_, refl}
 use mathlib.Core.Bool.{Bool, true, false, cond, _||_}
 use mathlib.Core.List.{List, [], _∷_, _++_, map}
@@ -10,10 +10,7 @@ use Rattle.terms.specs.Term.{Ground}
 use Rattle.terms.specs.Matcher.{same, withName, matchName}
 use Rattle.terms.specs.Filling.{Binding, Filling, valueOf}
 use Rattle.wire.proofs.Spans.{coverElse}
-
-abbrev pub bound : List Binding → ℕ → Option Ground
-bound [] n = none
-bound (b ∷ bs) n = cond (eqb n (b .name)) (some (b .value)) (bound bs n)
+use Rattle.matcher.specs.Spans.{bound}
 
 abbrev KeysTell : List Binding → ℕ → Option Ground → Type 0
 KeysTell bs n none = occurs n (map (λ b. b .name) bs) ≡ false

@@ -1,4 +1,14 @@
 -- Calls: the answers of match and part are those of the definitions, which keep the calls' promises.
+--
+--   Lent v p s                            the lent inputs are bytes
+--   judged-clear, inputs-read             inputs that are not refused are read
+--   Ensured                               what match ensures of a reply
+--   match-refused, match-length, match-yes, match-no    it does so of each answer
+--   Stands                                what part ensures of where its answer stands
+--   part-refused, part-above, part-none, part-found     it does so of each answer
+--   part-inside                           a span of the table lies in the situation
+--   walked-as, walked-long                what a walk says, by its answer
+--
 use mathlib.Core.Path.{_≡_, refl, sym, ap, ap₂, _∙_, subst, subst₂}
 use mathlib.Core.Bool.{Bool, true, false, cond, _&&_, true≢false, false≢true}
 use mathlib.Core.List.{List, [], append-nil}

@@ -1,4 +1,10 @@
 -- Joined: matching, spans and writings of terms that stand one behind the other.
+--
+--   chained us ts      the terms us, then ts
+--   onward o k         matching goes on behind what has been matched
+--   match-first, match-chained, span-chained, chained-bytes, chained-sorted, chained-names
+--                      how terms that are put in front are matched, found, written, sorted and named
+--
 use mathlib.Core.Path.{_≡_, refl, sym, ap, _∙_}
 use mathlib.Core.List.{List, [], _∷_, _++_, append-assoc}
 use mathlib.Core.Option.{Option, some, none}
@@ -14,9 +20,11 @@ use Rattle.wire.specs.TermBytes.{encodeAt, encodeAll, asTerm, asTerms}
 use Rattle.wire.specs.Matching.{size, Span, spanFrom, spanAll}
 use Rattle.terms.specs.Lists.{orElse}
 use Rattle.wire.proofs.GroundBytes.{joined}
-use Rattle.matcher.proofs.Marks.{chained}
 
--- Matching goes on behind what has been matched.
+abbrev pub chained : Terms → Terms → Terms
+chained nil ts = ts
+chained (cons u us) ts = cons u (chained us ts)
+
 abbrev pub onward : Option Filling → (Filling → Option Filling) → Option Filling
 onward none k = none
 onward (some f) k = k f

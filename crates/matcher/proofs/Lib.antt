@@ -1,30 +1,38 @@
 -- The laws that the proofs of match and part share.
 --
+--   Offsets    what stands at an offset of bytes
+--   Counts     the bits of four maps, counted in one number
 --   Ending     where a ground term ends
 --   Parts      what a name covers, and the table filled
---   Marks      what the frames say of the terms that are due
 --   Joined     matching and spans of terms that stand one behind the other
---   Bound      what a filling gives a name, and matching a name
---   Side       what holds while pattern and situation are gone through side by side
+--   Marks      what maps and frames say of the terms that are due
+--   Bound      what matching a name does to what a filling gives it
+--   Noted      what is noted of a name
+--   Side       the two terms that are due first, and the turn at an open place
 --   Words      the turn at a word
 --   Names      the turn at a name
---   Begin      what holds before the first turn, and behind the last
---   Turns      the loop of the walk, turn by turn, and that turns come to an end
+--   Begin      what is due before the first turn of a walk, and what follows behind the last
+--   Going      the turns of a walk while no open place is due
+--   Framing    the turns of a walk through a word that has open places
+--   Left       .. come to an end
 --   Root       a name or 255 at the root
---   Itself     a pattern that is the situation itself
 --   Answers    different answers have different numbers
 --   Calls      the answers of match and part keep the promises
+pub mod Offsets
+pub mod Counts
 pub mod Ending
 pub mod Parts
-pub mod Marks
 pub mod Joined
+pub mod Marks
 pub mod Bound
+pub mod Noted
 pub mod Side
 pub mod Words
 pub mod Names
 pub mod Begin
-pub mod Turns
+pub mod Going
+pub mod Framing
+pub mod Left
 pub mod Root
-pub mod Itself
 pub mod Answers
 pub mod Calls

@@ -1,13 +1,16 @@
--- Marks: what the frames say of the terms that are due: whether each is written, and at which level.
+-- Marks: what maps and frames say of the terms that are due: whether each is written, and at which level.
 --
---   Mark                 a term that is due: whether it is written, and how many frames are below its frame
---   marks n x            the terms due of the frame x, which has n frames below it
---   marksOf xs n         those of the first n frames of xs, the last of them first
---   Marked ts ms         the terms ts are as the marks ms say, and no deeper than 32 levels allow
---   turnsOf xs n         a bound on the turns that the first n frames of xs take
+--   Mark                        a term that is due: whether it is written, and its level
+--   marksIn d n p w             those of the d lowest bits of a place map p and a written map w, at level n
+--   marks n p w                 those of two maps
+--   marksOf xs n                those of the frames 1 to n of xs, the last of them first
+--   marksDue x xs n             those of the frame x at level n, and of the frames below it
+--   Marked ts ms                the first of the terms ts are as the marks ms say, and no deeper than 32 levels allow; the rest is shut
+--   marked-word                 the arguments of a word are as its maps say
+--   shut-word                   they are shut where its maps are the same
 --
 use mathlib.Core.Path.{_≡_, refl, sym, ap, ap₂, _∙_, subst}
-use mathlib.Core.Bool.{Bool, true, false, not}
+use mathlib.Core.Bool.{Bool, true, false, not, _||_}
 use mathlib.Core.List.{List, [], _∷_, _++_}
 use mathlib.Core.Logic.{_≢_}
 use Prim.Native.Nat.{ℕ, zero, suc, _+_, _*_, _/_, _%_, _^_, _<_, _≤_}
@@ -19,9 +22,12 @@ use lib.Seq.{getD-set-same, getD-set-other}
 use borrow.Author.Tests.{eq-eqb, ne-eqb}
 use Rattle.terms.specs.Signature.{Signature}
 use Rattle.terms.specs.Term.{Terms, nil, cons, SortedAll}
-use Rattle.wire.specs.Map.{flagsIn, flags, bit, number, ones, isOpen, writtenFlags}
+use Rattle.wire.specs.Map.{mapBits, flagsIn, flags, bit, number, ones, isOpen, writtenFlags}
 use Rattle.wire.specs.TermBytes.{levels, levelsAll}
-use Rattle.matcher.specs.Frames.{writtenIn, placesIn, Framed}
+use Rattle.wire.specs.SituationComputed.{someOpen}
+use Rattle.matcher.specs.Frames.{writtenIn, placesIn, TwoMaps}
+use Rattle.matcher.specs.Walking.{Shut}
+use Rattle.matcher.proofs.Joined.{chained}
 
 pub record Mark : Type 0 where
   pub written : Bool
@@ -35,12 +41,16 @@ marksIn : ℕ → ℕ → ℕ → ℕ → List Mark
 marksIn zero n p w = []
 marksIn (suc d) n p w = markIf (eqb (p % 2) 1) (record { written = eqb (w % 2) 1; level = n }) (marksIn d n (p / 2) (w / 2))
 
-pub marks : ℕ → ℕ → List Mark
-marks n x = marksIn 8 n (placesIn x) (writtenIn x)
+pub marks : ℕ → ℕ → ℕ → List Mark
+marks n p w = marksIn mapBits n p w
 
 abbrev pub marksOf : List ℕ → ℕ → List Mark
 marksOf xs zero = []
-marksOf xs (suc n) = marks n (getD xs n 0) ++ marksOf xs n
+marksOf xs (suc n) = marks (suc n) (placesIn (getD xs (suc n) 0)) (writtenIn (getD xs (suc n) 0)) ++ marksOf xs n
+
+abbrev pub marksDue : ℕ → List ℕ → ℕ → List Mark
+marksDue x xs zero = []
+marksDue x xs (suc n) = marks (suc n) (placesIn x) (writtenIn x) ++ marksOf xs n
 
 -- ---- a frame
 
@@ -56,81 +66,56 @@ unfolding marksIn
 no-marks zero n w = refl
 no-marks (suc d) n w = no-marks d n (w / 2)
 
-pub marks-none : (n x : ℕ) → placesIn x ≡ 0 → marks n x ≡ []
+pub marks-none : (n p w : ℕ) → p ≡ 0 → marks n p w ≡ []
 unfolding marks
-marks-none n x e = ap (λ p. marksIn 8 n p (writtenIn x)) e ∙ no-marks 8 n (writtenIn x)
+marks-none n p w e = ap (λ q. marksIn mapBits n q w) e ∙ no-marks mapBits n w
 
 -- y is the frame x without its lowest place.
 abbrev pub Shifted : ℕ → ℕ → Type 0
-Shifted x y = Framed y (writtenIn x / 2) (placesIn x / 2) 0
+Shifted x y = TwoMaps y (writtenIn x / 2) (placesIn x / 2)
 
-marks-halves : (n x y : ℕ) → Shifted x y → marksIn 7 n (placesIn x / 2) (writtenIn x / 2) ≡ marks n y
+marks-halves : (n x y : ℕ) → Shifted x y → marksIn 7 n (placesIn x / 2) (writtenIn x / 2) ≡ marks n (placesIn y) (writtenIn y)
 unfolding marks
 marks-halves n x y h =
     marks-wider 7 n (placesIn x / 2) (writtenIn x / 2) (omega arith)
-    ∙ ap₂ (λ p w. marksIn 8 n p w) (sym (h .places)) (sym (h .written))
+    ∙ ap₂ (λ p w. marksIn mapBits n p w) (sym (h .places)) (sym (h .written))
 
 pub marks-place : (n x y : ℕ) → Shifted x y → placesIn x % 2 ≡ 1 →
-    marks n x ≡ record { written = eqb (writtenIn x % 2) 1; level = n } ∷ marks n y
+    marks n (placesIn x) (writtenIn x) ≡ record { written = eqb (writtenIn x % 2) 1; level = n } ∷ marks n (placesIn y) (writtenIn y)
 unfolding marks marksIn
 marks-place n x y h e =
     ap (λ b. markIf b (record { written = eqb (writtenIn x % 2) 1; level = n }) (marksIn 7 n (placesIn x / 2) (writtenIn x / 2))) (eq-eqb (placesIn x % 2) 1 e)
     ∙ ap {B = List Mark} (λ l. record { written = eqb (writtenIn x % 2) 1; level = n } ∷ l) (marks-halves n x y h)
 
-pub marks-gap : (n x y : ℕ) → Shifted x y → (placesIn x % 2 ≡ 1 → ⊥) → marks n x ≡ marks n y
+pub marks-gap : (n x y : ℕ) → Shifted x y → (placesIn x % 2 ≡ 1 → ⊥) → marks n (placesIn x) (writtenIn x) ≡ marks n (placesIn y) (writtenIn y)
 unfolding marks marksIn
 marks-gap n x y h e =
     ap (λ b. markIf b (record { written = eqb (writtenIn x % 2) 1; level = n }) (marksIn 7 n (placesIn x / 2) (writtenIn x / 2))) (ne-eqb (placesIn x % 2) 1 e)
     ∙ marks-halves n x y h
 
--- A frame of one place.
-pub marks-one : (n x w : ℕ) → Framed x w 1 0 → marks n x ≡ record { written = eqb (w % 2) 1; level = n } ∷ []
-unfolding marks marksIn
-marks-one n x w h = ap₂ (λ p w. marksIn 8 n p w) (h .places) (h .written)
+-- ---- the frames below
 
--- ---- a list of frames
-
-marks-agree : (xs ys : List ℕ) (n : ℕ) → ((i : ℕ) → i < n → getD xs i 0 ≡ getD ys i 0) → marksOf xs n ≡ marksOf ys n
+marks-agree : (xs ys : List ℕ) (n : ℕ) → ((i : ℕ) → i ≤ n → getD xs i 0 ≡ getD ys i 0) → marksOf xs n ≡ marksOf ys n
 marks-agree xs ys zero h = refl
-marks-agree xs ys (suc n) h = ap₂ (λ x l. marks n x ++ l) (h n (omega arith)) (marks-agree xs ys n (λ i p. h i (omega arith)))
+marks-agree xs ys (suc n) h =
+    ap₂ (λ x l. marks (suc n) (placesIn x) (writtenIn x) ++ l) (h (suc n) (omega arith)) (marks-agree xs ys n (λ i p. h i (omega arith)))
 
-pub marks-last : (xs : List ℕ) (n y : ℕ) → n < length xs → marksOf (set xs n y) (suc n) ≡ marks n y ++ marksOf xs n
-marks-last xs n y h =
-    ap₂ (λ x l. marks n x ++ l) (getD-set-same xs n y 0 h)
-    (marks-agree (set xs n y) xs n (λ i p. let apart : i ≢ n = (λ e. omega arith) in getD-set-other xs n i y 0 apart))
+-- A frame is put aside, or is taken up again.
+pub marks-kept : (xs : List ℕ) (n y : ℕ) → suc n < length xs → marksOf (set xs (suc n) y) (suc n) ≡ marksDue y xs (suc n)
+marks-kept xs n y h =
+    ap₂ (λ x l. marks (suc n) (placesIn x) (writtenIn x) ++ l) (getD-set-same xs (suc n) y 0 h)
+    (marks-agree (set xs (suc n) y) xs n (λ i p. let apart : i ≢ suc n = (λ e. omega arith) in getD-set-other xs (suc n) i y 0 apart))
 
--- One turn to leave each frame, and fewer than its place map's number to pass its places.
-abbrev pub turnsOf : List ℕ → ℕ → ℕ
-turnsOf xs zero = 0
-turnsOf xs (suc n) = placesIn (getD xs n 0) + 1 + turnsOf xs n
-
-turns-agree : (xs ys : List ℕ) (n : ℕ) → ((i : ℕ) → i < n → getD xs i 0 ≡ getD ys i 0) → turnsOf xs n ≡ turnsOf ys n
-turns-agree xs ys zero h = refl
-turns-agree xs ys (suc n) h = ap₂ (λ x l. placesIn x + 1 + l) (h n (omega arith)) (turns-agree xs ys n (λ i p. h i (omega arith)))
-
-pub turns-last : (xs : List ℕ) (n y : ℕ) → n < length xs → turnsOf (set xs n y) (suc n) ≡ placesIn y + 1 + turnsOf xs n
-turns-last xs n y h =
-    ap₂ (λ x l. placesIn x + 1 + l) (getD-set-same xs n y 0 h)
-    (turns-agree (set xs n y) xs n (λ i p. let apart : i ≢ n = (λ e. omega arith) in getD-set-other xs n i y 0 apart))
+pub marks-again : (xs : List ℕ) (n : ℕ) → marksOf xs n ≡ marksDue (getD xs n 0) xs n
+marks-again xs zero = refl
+marks-again xs (suc n) = refl
 
 -- ---- the terms that are due
 
 abbrev pub Marked : Terms → List Mark → Type 0
-Marked nil [] = Unit {0}
+Marked ts [] = Shut ts
 Marked nil (m ∷ ms) = ⊥
-Marked (cons t ts) [] = ⊥
 Marked (cons t ts) (m ∷ ms) = (not (isOpen t) ≡ m .written) × (levels t + m .level ≤ 32) × Marked ts ms
-
--- The terms ts, then us.
-abbrev pub chained : Terms → Terms → Terms
-chained nil us = us
-chained (cons t ts) us = cons t (chained ts us)
-
-pub marked-chained : (ts us : Terms) (ms ns : List Mark) → Marked ts ms → Marked us ns → Marked (chained ts us) (ms ++ ns)
-marked-chained nil us [] ns h k = k
-marked-chained nil us (m ∷ ms) ns h k = absurd h
-marked-chained (cons t ts) us [] ns h k = absurd h
-marked-chained (cons t ts) us (m ∷ ms) ns h k = (h .0, h .1, marked-chained ts us ms ns (h .2) k)
 
 odd-bit : (b : Bool) (k : ℕ) → b ≡ eqb ((bit b + 2 * k) % 2) 1
 odd-bit true k = sym (eq-eqb ((1 + 2 * k) % 2) 1 (omega arith))
@@ -140,39 +125,54 @@ half-bit : (b : Bool) (k : ℕ) → k ≡ (bit b + 2 * k) / 2
 half-bit true k = omega arith
 half-bit false k = omega arith
 
--- A word's places, whose written map is that of its terms; then one place more, of which b tells whether it is one.
-abbrev MarkedPlaces : Signature → ℕ → ℕ → ℕ → Type 0
-MarkedPlaces S d n p =
-    (ts : Terms) (ks : List ℕ) → SortedAll S ts ks → length ks ≡ ones (flagsIn d p) → levelsAll ts + n ≤ 32 →
-    Marked ts (marksIn d n p (number (writtenFlags (flagsIn d p) ts)))
+module _ (S : Signature) (us : Terms) (ms : List Mark) (rest : Marked us ms) where
+  -- A word's places, whose written map is that of its terms, and us behind them; then one place more, of which b tells
+  -- whether it is one.
+  abbrev MarkedPlaces : ℕ → ℕ → ℕ → Type 0
+  MarkedPlaces d n p =
+      (ts : Terms) (ks : List ℕ) → SortedAll S ts ks → length ks ≡ ones (flagsIn d p) → levelsAll ts + n ≤ 32 →
+      Marked (chained ts us) (marksIn d n p (number (writtenFlags (flagsIn d p) ts)) ++ ms)
 
-marked-more : (S : Signature) (d n p : ℕ) → MarkedPlaces S d n p → (b : Bool) (ts : Terms) (ks : List ℕ) → SortedAll S ts ks →
-    length ks ≡ ones (b ∷ flagsIn d p) → levelsAll ts + n ≤ 32 →
-    Marked ts (markIf b (record { written = eqb (number (writtenFlags (b ∷ flagsIn d p) ts) % 2) 1; level = n })
-    (marksIn d n p (number (writtenFlags (b ∷ flagsIn d p) ts) / 2)))
-marked-more S d n p on false ts ks h c l =
-    subst (λ w. Marked ts (marksIn d n p w)) (half-bit false (number (writtenFlags (flagsIn d p) ts))) (on ts ks h (omega arith) l)
-marked-more S d n p on true nil [] h c l = absurd (omega arith)
-marked-more S d n p on true nil (k ∷ ks) h c l = absurd h
-marked-more S d n p on true (cons t ts) [] h c l = absurd h
-marked-more S d n p on true (cons t ts) (k ∷ ks) h c l = (
-  odd-bit (not (isOpen t)) (number (writtenFlags (flagsIn d p) ts)),
-  omega arith,
-  subst (λ w. Marked ts (marksIn d n p w)) (half-bit (not (isOpen t)) (number (writtenFlags (flagsIn d p) ts)))
-      (on ts ks (h .1) (omega arith) (omega arith)),
-)
+  marked-more : (d n p : ℕ) → MarkedPlaces d n p → (b : Bool) (ts : Terms) (ks : List ℕ) → SortedAll S ts ks →
+      length ks ≡ ones (b ∷ flagsIn d p) → levelsAll ts + n ≤ 32 →
+      Marked (chained ts us) (markIf b (record { written = eqb (number (writtenFlags (b ∷ flagsIn d p) ts) % 2) 1; level = n })
+      (marksIn d n p (number (writtenFlags (b ∷ flagsIn d p) ts) / 2)) ++ ms)
+  marked-more d n p on false ts ks h c l =
+      subst (λ w. Marked (chained ts us) (marksIn d n p w ++ ms)) (half-bit false (number (writtenFlags (flagsIn d p) ts))) (on ts ks h (omega arith) l)
+  marked-more d n p on true nil [] h c l = absurd (omega arith)
+  marked-more d n p on true nil (k ∷ ks) h c l = absurd h
+  marked-more d n p on true (cons t ts) [] h c l = absurd h
+  marked-more d n p on true (cons t ts) (k ∷ ks) h c l = (
+    odd-bit (not (isOpen t)) (number (writtenFlags (flagsIn d p) ts)),
+    omega arith,
+    subst (λ w. Marked (chained ts us) (marksIn d n p w ++ ms)) (half-bit (not (isOpen t)) (number (writtenFlags (flagsIn d p) ts)))
+        (on ts ks (h .1) (omega arith) (omega arith)),
+  )
 
-marked-places : (S : Signature) (d n p : ℕ) → MarkedPlaces S d n p
-unfolding marksIn
-marked-places S zero n p nil [] h c l = tt
-marked-places S zero n p nil (k ∷ ks) h c l = absurd h
-marked-places S zero n p (cons t ts) [] h c l = absurd h
-marked-places S zero n p (cons t ts) (k ∷ ks) h c l = absurd (omega arith)
-marked-places S (suc d) n p ts ks h c l = marked-more S d n (p / 2) (marked-places S d n (p / 2)) (eqb (p % 2) 1) ts ks h c l
+  marked-places : (d n p : ℕ) → MarkedPlaces d n p
+  unfolding marksIn
+  marked-places zero n p nil [] h c l = rest
+  marked-places zero n p nil (k ∷ ks) h c l = absurd h
+  marked-places zero n p (cons t ts) [] h c l = absurd h
+  marked-places zero n p (cons t ts) (k ∷ ks) h c l = absurd (omega arith)
+  marked-places (suc d) n p ts ks h c l = marked-more d n (p / 2) (marked-places d n (p / 2)) (eqb (p % 2) 1) ts ks h c l
 
-pub marked-word : (S : Signature) (n p x : ℕ) (ts : Terms) (ks : List ℕ) → SortedAll S ts ks → length ks ≡ ones (flags p) → levelsAll ts + n ≤ 32 →
-    Framed x (number (writtenFlags (flags p) ts)) p 0 → Marked ts (marks n x)
-unfolding marks
-marked-word S n p x ts ks h c l f =
-    subst (λ q. Marked ts (marksIn 8 n q (writtenIn x))) (sym (f .places))
-    (subst (λ w. Marked ts (marksIn 8 n p w)) (sym (f .written)) (marked-places S 8 n p ts ks h c l))
+  pub marked-word : (n p : ℕ) (ts : Terms) (ks : List ℕ) → SortedAll S ts ks → length ks ≡ ones (flags p) → levelsAll ts + n ≤ 32 →
+      Marked (chained ts us) (marks n p (number (writtenFlags (flags p) ts)) ++ ms)
+  unfolding marks
+  marked-word n p ts ks h c l = marked-places mapBits n p ts ks h c l
+
+pub shut-word : (ts us : Terms) → someOpen ts ≡ false → levelsAll ts ≤ 32 → Shut us → Shut (chained ts us)
+shut-word ts us w l h = record { written = written ts w; shallow = shallow ts l }
+  where
+    open-more : (a b c : Bool) → (a || b) ≡ false → (b ≡ false → c ≡ false) → (a || c) ≡ false
+    open-more true b c e k = e
+    open-more false b c e k = k e
+
+    written : (ts : Terms) → someOpen ts ≡ false → someOpen (chained ts us) ≡ false
+    written nil e = h .written
+    written (cons t ts) e = open-more (isOpen t) (someOpen ts) (someOpen (chained ts us)) e (written ts)
+
+    shallow : (ts : Terms) → levelsAll ts ≤ 32 → levelsAll (chained ts us) ≤ 32
+    shallow nil e = h .shallow
+    shallow (cons t ts) e = let k = shallow ts (omega arith) in omega arith

@@ -1,103 +1,43 @@
--- Names: the turn at a name: the part is noted for it, or is the part that it covers, or there is no filling.
+-- Names: the turn at a name: the part is noted for it, or is the part that is noted, or there is no filling.
+--
+--   AtName x p s spans ms i j    a name is due first, and behind it what the marks ms say
+--   at-name                      a byte from 128 on is a name
+--   name-inside, name-known, name-spans    its byte is there to read, its number is low, and its span lies in the situation
+--   name-first                   the first time the part is noted
+--   name-goes, name-none         what covering the part answers: the walk goes on, or there is no filling
+--
 use mathlib.Core.Path.{_≡_, refl, sym, ap, ap₂, _∙_, subst, subst₂}
-use mathlib.Core.Bool.{Bool, true, false, cond, true≢false, false≢true}
+use mathlib.Core.Bool.{true, cond, false≢true}
 use mathlib.Core.List.{List, _∷_, _++_}
-use mathlib.Core.Logic.{_≢_, _⊎_, inl, inr}
+use mathlib.Core.Logic.{_⊎_, inl, inr}
 use mathlib.Core.Option.{Option, some, none}
-use Prim.Native.Nat.{ℕ, _+_, _*_, _<_, _≤_}
+use Prim.Native.Nat.{ℕ, _+_, _-_, _*_, _<_, _≤_}
 use native.Mathlib.Decide.{ℕ-discrete}
 use native.Mathlib.Omega.{arith}
 use lib.Dec.{eqb}
-use lib.ListN.{length, getD, take, drop, set, length-set, length-drop, length-append}
-use lib.Seq.{take-at, getD-set-same, getD-set-other}
-use borrow.Author.Tests.{eqb-true, eq-eqb, ne-eqb}
-use Rattle.terms.specs.Term.{Term, var, Terms, cons, Ground, Grounds, gcons}
-use Rattle.terms.specs.Matcher.{same as sameGround, withName, matchName, matchAll, matcher}
+use lib.ListN.{length, getD, take, drop, set, length-set, take-append-drop}
+use lib.Seq.{take-at}
+use borrow.Author.Tests.{ne-eqb}
+use Rattle.terms.specs.Lists.{orElse}
+use Rattle.terms.specs.Term.{Term, any, var, app, Terms, cons, Ground, gapp, Grounds, gcons}
 use Rattle.terms.specs.Filling.{Filling}
+use Rattle.terms.specs.Matcher.{same as sameGround, withName, matchName, matchAll, matcher}
 use Rattle.terms.proofs.Bools.{eqb-refl, false-of-not}
 use Rattle.terms.proofs.Term.{same-true, same-refl}
-use Rattle.wire.specs.Vocabulary.{Vocabulary, InOrder}
+use Rattle.wire.specs.Vocabulary.{Vocabulary, signature, InOrder}
 use Rattle.wire.specs.TermBytes.{nameCount, nameByte, encodeAt, encodeAll, asTerm, asTerms}
-use Rattle.wire.specs.Matching.{size, Span, spanAll, spanFrom, spanIn}
-use Rattle.terms.specs.Lists.{orElse}
-use Rattle.wire.proofs.GroundBytes.{size-least, ground-same}
-use Rattle.wire.proofs.Spans.{coverElse, covers-cut}
-use Rattle.matcher.specs.Walking.{Covered}
-use Rattle.matcher.proofs.Marks.{Mark}
+use Rattle.wire.specs.Matching.{Inputs, size, spanAll, spanFrom, spanIn}
+use Rattle.wire.proofs.Words.{length-symbols}
+use Rattle.wire.proofs.GroundBytes.{size-least, ground-front}
+use Rattle.wire.proofs.Spans.{coverElse}
+use Rattle.matcher.specs.Spans.{withSpan, spanAt, Covered, bound, Told}
+use Rattle.matcher.specs.Walking.{Side}
 use Rattle.matcher.proofs.Joined.{onward, match-first}
-use Rattle.matcher.proofs.Bound.{bound, name-new, name-again, name-other, bound-more}
-use Rattle.matcher.proofs.Side.{noted, spanAt, Holding, Told, Side, due, situation-behind, situation-inside}
-use Rattle.matcher.proofs.Words.{OneByte, one-byte}
-
--- ---- what is noted of a name
-
-pub record NotYet (spans : List ℕ) (o : Option Ground) (n : ℕ) : Type 0 where
-  pub zero : getD spans (2 * n + 1) 0 ≡ 0
-  pub unbound : o ≡ none
-
-pub record Noted (W : Vocabulary) (s spans : List ℕ) (o : Option Ground) (n : ℕ) : Type 0 where
-  pub long : getD spans (2 * n + 1) 0 ≡ 0 → ⊥
-  pub ground : Ground
-  pub bound : o ≡ some ground
-  pub holding : Holding W s (spanIn spans n) ground
-
-pub noted-cases : (W : Vocabulary) (s spans : List ℕ) (o : Option Ground) (n : ℕ) → Told W s (spanAt spans n) o →
-    NotYet spans o n ⊎ Noted W s spans o n
-noted-cases W s spans o n h = go o (eqb (getD spans (2 * n + 1) 0) 0) refl h
-  where
-    go : (o : Option Ground) (b : Bool) → eqb (getD spans (2 * n + 1) 0) 0 ≡ b → Told W s (cond b none (some (spanIn spans n))) o →
-        NotYet spans o n ⊎ Noted W s spans o n
-    go none true e h = inl (record { zero = eqb-true (getD spans (2 * n + 1) 0) 0 e; unbound = refl })
-    go none false e h = absurd h
-    go (some g) true e h = absurd h
-    go (some g) false e h = inr (record {
-      long = λ z. false≢true (sym e ∙ eq-eqb (getD spans (2 * n + 1) 0) 0 z);
-      ground = g;
-      bound = refl;
-      holding = h;
-    })
-
-pub span-new : (spans : List ℕ) (n : ℕ) → getD spans (2 * n + 1) 0 ≡ 0 → spanAt spans n ≡ none
-span-new spans n e = ap (λ b. cond b none (some (spanIn spans n))) (eq-eqb (getD spans (2 * n + 1) 0) 0 e)
-
-pub span-noted : (spans : List ℕ) (n : ℕ) → (getD spans (2 * n + 1) 0 ≡ 0 → ⊥) → spanAt spans n ≡ some (spanIn spans n)
-span-noted spans n d = ap (λ b. cond b none (some (spanIn spans n))) (ne-eqb (getD spans (2 * n + 1) 0) 0 d)
-
-holding-inside : (W : Vocabulary) (s : List ℕ) (x : Span) (h : Ground) → Holding W s x h → x .offset + x .bytes ≤ length s
-holding-inside W s x h c =
-    let l = c .covers .long in
-    omega (arith, size-least W h, length-drop (x .offset) s, ap length (c .covers .stands), length-append (encodeAt W (asTerm h)) (c .covers .behind))
-
--- ---- a table with one name's span set
-
-abbrev withSpan : List ℕ → ℕ → ℕ → ℕ → List ℕ
-withSpan spans n at l = set (set spans (2 * n) at) (2 * n + 1) l
-
-module _ (spans : List ℕ) (n at l : ℕ) (long : length spans ≡ 128) (low : n < 64) where
-  set-length : getD (withSpan spans n at l) (2 * n + 1) 0 ≡ l
-  set-length = getD-set-same (set spans (2 * n) at) (2 * n + 1) l 0 (omega (arith, length-set spans (2 * n) at))
-
-  set-offset : getD (withSpan spans n at l) (2 * n) 0 ≡ at
-  set-offset =
-      let apart : 2 * n ≢ 2 * n + 1 = (λ e. omega arith) in
-      getD-set-other (set spans (2 * n) at) (2 * n + 1) (2 * n) l 0 apart ∙ getD-set-same spans (2 * n) at 0 (omega arith)
-
-  set-elsewhere : (k : ℕ) → (k ≡ 2 * n → ⊥) → (k ≡ 2 * n + 1 → ⊥) → getD (withSpan spans n at l) k 0 ≡ getD spans k 0
-  set-elsewhere k d e =
-      let apart : k ≢ 2 * n = d in
-      let apart2 : k ≢ 2 * n + 1 = e in
-      getD-set-other (set spans (2 * n) at) (2 * n + 1) k l 0 apart2 ∙ getD-set-other spans (2 * n) k at 0 apart
-
-  set-span : (l ≡ 0 → ⊥) → spanAt (withSpan spans n at l) n ≡ some (record { offset = at; bytes = l })
-  set-span d =
-      ap₂ {C = Option Span} (λ a b. noted b (record { offset = a; bytes = b })) set-offset set-length
-      ∙ ap (λ b. cond b none (some (record { offset = at; bytes = l }))) (ne-eqb l 0 d)
-
-  set-other : (m : ℕ) → (m ≡ n → ⊥) → spanAt (withSpan spans n at l) m ≡ spanAt spans m
-  set-other m d =
-      ap₂ {C = Option Span} (λ a b. noted b (record { offset = a; bytes = b }))
-      (set-elsewhere (2 * m) (λ e. d (omega arith)) (λ e. omega arith))
-      (set-elsewhere (2 * m + 1) (λ e. omega arith) (λ e. d (omega arith)))
+use Rattle.matcher.proofs.Bound.{name-new, name-again, name-other, bound-more}
+use Rattle.matcher.proofs.Offsets.{OneByte, one-byte}
+use Rattle.matcher.proofs.Marks.{Mark, Marked}
+use Rattle.matcher.proofs.Noted.{NotYet, Noted, noted-cases, span-new, span-noted, holding-inside, set-length, set-elsewhere, set-span, set-other}
+use Rattle.matcher.proofs.Side.{Facing, due, stands, situation-behind, situation-inside}
 
 else-none : (o : Option Ground) → coverElse o none ≡ o
 else-none none = refl
@@ -105,152 +45,257 @@ else-none (some h) = refl
 
 -- ---- the turn
 
-module _ {W : Vocabulary} {P : Term} {G : Ground} {p s spans : List ℕ} {n : ℕ} {ts : Terms} {g : Ground} {gs : Grounds} {m : Mark} {ms : List Mark} {f : Filling} {i j : ℕ}
-    (c : Side W P G p s spans (cons (var n) ts) (gcons g gs) (m ∷ ms) f i j) where
-  pub pattern-name : OneByte p i (nameByte n) (encodeAll W ts ++ c .behind)
+module _ {x : Inputs} {p s spans : List ℕ} {n : ℕ} {ts : Terms} {g : Ground} {gs : Grounds} {i j : ℕ}
+    (c : Side x p s spans (cons (var n) ts) (gcons g gs) i j) where
+  abbrev W : Vocabulary
+  W = x .vocabulary
+
+  -- How many bytes the part has, and where it ends.
+  abbrev long : ℕ
+  long = size W g
+
+  abbrev end : ℕ
+  end = j + size W g
+
+  pattern-name : OneByte p i (nameByte n) (encodeAll W ts)
   pattern-name = one-byte p i (nameByte n) _ (c .pattern)
 
-  pub name-low : n < 64
+  name-low : n < 64
   name-low = c .named .0
 
-  pub spans-inside : getD spans (2 * n) 0 + getD spans (2 * n + 1) 0 ≤ length s
-  spans-inside = go (noted-cases W s spans (bound (f .named) n) n (c .told n name-low))
+  cases : NotYet spans (bound (c .filling .named) n) n ⊎ Noted W s spans (bound (c .filling .named) n) n
+  cases = noted-cases W s spans (bound (c .filling .named) n) n (c .told n name-low)
+
+  spans-inside : getD spans (2 * n) 0 + getD spans (2 * n + 1) 0 ≤ length s
+  spans-inside = go cases
     where
-      go : NotYet spans (bound (f .named) n) n ⊎ Noted W s spans (bound (f .named) n) n → getD spans (2 * n) 0 + getD spans (2 * n + 1) 0 ≤ length s
+      go : NotYet spans (bound (c .filling .named) n) n ⊎ Noted W s spans (bound (c .filling .named) n) n → getD spans (2 * n) 0 + getD spans (2 * n + 1) 0 ≤ length s
       go (inl h) = let z = h .zero in omega (arith, c .blank n name-low (h .zero))
       go (inr h) = holding-inside W s (spanIn spans n) (h .ground) (h .holding)
 
-  -- What is due next, where the name is bound by f′ and noted in after.
-  next : (f′ : Filling) (after : List ℕ) → matchName n g f ≡ some f′ →
-      ((m : ℕ) → m < nameCount → Told W s (spanAt after m) (bound (f′ .named) m)) →
-      ((m : ℕ) → m < nameCount → orElse (spanAt after m) (spanAll W ts gs m (j + size W g)) ≡ spanFrom W P G m 1) →
+  -- What is reported of the name k, where the spans are `after`.
+  abbrev Reported : List ℕ → ℕ → Type 0
+  Reported after k = orElse (spanAt after k) (spanAll W ts gs k end) ≡ spanFrom W (x .pattern) (x .situation) k 1
+
+  -- What is due next, where the name is bound by f and noted in `after`.
+  next : (f : Filling) (after : List ℕ) → matchName n g (c .filling) ≡ some f →
+      ((m : ℕ) → m < nameCount → Told W s (spanAt after m) (bound (f .named) m)) →
+      ((m : ℕ) → m < nameCount → Reported after m) →
       ((m : ℕ) → m < nameCount → getD after (2 * m + 1) 0 ≡ 0 → getD after (2 * m) 0 ≡ 0) → length after ≡ 128 →
-      Side W P G p s after ts gs ms f′ (i + 1) (j + size W g)
-  next f′ after e told reported blank long = record {
+      Side x p s after ts gs (i + 1) end
+  next f after e told reported blank entries = record {
+    filling = f;
     sorts = due c .1 .0;
     sorted = due c .1 .1 .term .1;
     sortedGrounds = due c .1 .1 .ground .1;
     named = c .named .1;
-    outcome =
-        sym (ap (λ o. onward o (matchAll ts gs)) e) ∙ sym (match-first (var n) ts g gs f) ∙ c .outcome;
-    behind = c .behind;
+    outcome = sym (ap (λ o. onward o (matchAll ts gs)) e) ∙ sym (match-first (var n) ts g gs (c .filling)) ∙ c .outcome;
     pattern = pattern-name .behind;
     situation = situation-behind c;
-    marked = c .marked .2;
     told = told;
     reported = reported;
     blank = blank;
     insidePattern = pattern-name .inside;
     insideSituation = situation-inside c;
-    spanEntries = long;
+    spanEntries = entries;
   }
 
-  -- What is reported of another name than n.
-  report-other : (k : ℕ) → k < nameCount → (k ≡ n → ⊥) → orElse (spanAt spans k) (spanAll W ts gs k (j + size W g)) ≡ spanFrom W P G k 1
+  report-other : (k : ℕ) → k < nameCount → (k ≡ n → ⊥) → Reported spans k
   report-other k l d =
-      ap (λ b. orElse (spanAt spans k) (orElse (cond b (some (record { offset = j; bytes = size W g })) none) (spanAll W ts gs k (j + size W g)))) (sym (ne-eqb k n d))
+      ap (λ b. orElse (spanAt spans k) (orElse (cond b (some (record { offset = j; bytes = long })) none) (spanAll W ts gs k end))) (sym (ne-eqb k n d))
       ∙ c .reported k l
 
-  turn-new : NotYet spans (bound (f .named) n) n →
-      Side W P G p s (withSpan spans n j (size W g)) ts gs ms (withName f n g) (i + 1) (j + size W g)
+  turn-new : NotYet spans (bound (c .filling .named) n) n → Side x p s (withSpan spans n j long) ts gs (i + 1) end
   turn-new h =
-      next (withName f n g) (withSpan spans n j (size W g)) (name-new f n g (h .unbound))
+      next (withName (c .filling) n g) after (name-new (c .filling) n g (h .unbound))
       (λ k l. told k l (ℕ-discrete k n)) (λ k l. reported k l (ℕ-discrete k n)) (λ k l. blank k l (ℕ-discrete k n))
-      (length-set (set spans (2 * n) j) (2 * n + 1) (size W g) ∙ length-set spans (2 * n) j ∙ c .spanEntries)
+      (length-set (set spans (2 * n) j) (2 * n + 1) long ∙ length-set spans (2 * n) j ∙ c .spanEntries)
     where
-      some-bytes : size W g ≡ 0 → ⊥
+      after : List ℕ
+      after = withSpan spans n j long
+
+      bindings : ℕ → Option Ground
+      bindings k = bound (withName (c .filling) n g .named) k
+
+      some-bytes : long ≡ 0 → ⊥
       some-bytes e = omega (arith, size-least W g)
 
-      here : spanAt (withSpan spans n j (size W g)) n ≡ some (record { offset = j; bytes = size W g })
-      here = set-span spans n j (size W g) (c .spanEntries) name-low some-bytes
+      here : spanAt after n ≡ some (record { offset = j; bytes = long })
+      here = set-span spans n j long (c .spanEntries) name-low some-bytes
 
-      told : (k : ℕ) → k < nameCount → Dec (k ≡ n) → Told W s (spanAt (withSpan spans n j (size W g)) k) (bound (withName f n g .named) k)
+      told : (k : ℕ) → k < nameCount → Dec (k ≡ n) → Told W s (spanAt after k) (bindings k)
       told k l (yes e) =
-          subst (λ k. Told W s (spanAt (withSpan spans n j (size W g)) k) (bound (withName f n g .named) k)) (sym e)
+          subst (λ k. Told W s (spanAt after k) (bindings k)) (sym e)
           (subst₂ (λ x o. Told W s x o) (sym here)
-          (sym (bound-more (f .named) n g n ∙ ap₂ (λ o b. coverElse o (cond b (some g) none)) (h .unbound) (eqb-refl n)))
+          (sym (bound-more (c .filling .named) n g n ∙ ap₂ (λ o b. coverElse o (cond b (some g) none)) (h .unbound) (eqb-refl n)))
           (record {
-            covers = record { behind = encodeAll W (asTerms gs); stands = c .situation; long = refl };
             sort = due c .0;
             sorted = due c .1 .1 .ground .0;
+            behind = encodeAll W (asTerms gs);
+            stands = c .situation;
+            long = refl;
           }))
       told k l (no d) =
-          subst₂ (λ x o. Told W s x o) (sym (set-other spans n j (size W g) (c .spanEntries) name-low k d))
-          (sym (bound-more (f .named) n g k ∙ ap (λ b. coverElse (bound (f .named) k) (cond b (some g) none)) (ne-eqb k n d) ∙ else-none (bound (f .named) k)))
+          subst₂ (λ x o. Told W s x o) (sym (set-other spans n j long (c .spanEntries) name-low k d))
+          (sym (bound-more (c .filling .named) n g k
+          ∙ ap (λ b. coverElse (bound (c .filling .named) k) (cond b (some g) none)) (ne-eqb k n d)
+          ∙ else-none (bound (c .filling .named) k)))
           (c .told k l)
 
-      reported : (k : ℕ) → k < nameCount → Dec (k ≡ n) →
-          orElse (spanAt (withSpan spans n j (size W g)) k) (spanAll W ts gs k (j + size W g)) ≡ spanFrom W P G k 1
+      reported : (k : ℕ) → k < nameCount → Dec (k ≡ n) → Reported after k
       reported k l (yes e) =
-          subst (λ k. orElse (spanAt (withSpan spans n j (size W g)) k) (spanAll W ts gs k (j + size W g)) ≡ spanFrom W P G k 1) (sym e)
-          (ap (λ x. orElse x (spanAll W ts gs n (j + size W g))) here
-          ∙ ap₂ (λ x b. orElse x (orElse (cond b (some (record { offset = j; bytes = size W g })) none) (spanAll W ts gs n (j + size W g))))
+          subst (Reported after) (sym e)
+          (ap (λ x. orElse x (spanAll W ts gs n end)) here
+          ∙ ap₂ (λ x b. orElse x (orElse (cond b (some (record { offset = j; bytes = long })) none) (spanAll W ts gs n end)))
           (sym (span-new spans n (h .zero))) (sym (eqb-refl n))
           ∙ c .reported n name-low)
       reported k l (no d) =
-          ap (λ x. orElse x (spanAll W ts gs k (j + size W g))) (set-other spans n j (size W g) (c .spanEntries) name-low k d)
+          ap (λ x. orElse x (spanAll W ts gs k end)) (set-other spans n j long (c .spanEntries) name-low k d)
           ∙ report-other k l d
 
-      blank : (k : ℕ) → k < nameCount → Dec (k ≡ n) → getD (withSpan spans n j (size W g)) (2 * k + 1) 0 ≡ 0 → getD (withSpan spans n j (size W g)) (2 * k) 0 ≡ 0
+      blank : (k : ℕ) → k < nameCount → Dec (k ≡ n) → getD after (2 * k + 1) 0 ≡ 0 → getD after (2 * k) 0 ≡ 0
       blank k l (yes e) z =
-          absurd (some-bytes (sym (set-length spans n j (size W g) (c .spanEntries) name-low) ∙ ap (λ k. getD (withSpan spans n j (size W g)) (2 * k + 1) 0) (sym e) ∙ z))
+          absurd (some-bytes (sym (set-length spans n j long (c .spanEntries) name-low) ∙ ap (λ k. getD after (2 * k + 1) 0) (sym e) ∙ z))
       blank k l (no d) z =
           let low = name-low in
-          set-elsewhere spans n j (size W g) (c .spanEntries) name-low (2 * k) (λ e. d (omega arith)) (λ e. omega arith)
-          ∙ c .blank k l (sym (set-elsewhere spans n j (size W g) (c .spanEntries) name-low (2 * k + 1) (λ e. omega arith) (λ e. d (omega arith))) ∙ z)
+          set-elsewhere spans n j long (c .spanEntries) name-low (2 * k) (λ e. d (omega arith)) (λ e. omega arith)
+          ∙ c .blank k l (sym (set-elsewhere spans n j long (c .spanEntries) name-low (2 * k + 1) (λ e. omega arith) (λ e. d (omega arith))) ∙ z)
 
-  -- The bytes of the part that is due.
-  part-due : take (size W g) (drop j s) ≡ encodeAt W (asTerm g)
-  part-due = ap (take (size W g)) (c .situation) ∙ take-at (encodeAt W (asTerm g)) (encodeAll W (asTerms gs)) (size W g) refl
+  module _ (h : Noted W s spans (bound (c .filling .named) n) n) where
+    abbrev first : ℕ
+    first = getD spans (2 * n) 0
 
-  module _ (h : Noted W s spans (bound (f .named) n) n) where
-    part-noted : take (getD spans (2 * n + 1) 0) (drop (getD spans (2 * n) 0) s) ≡ encodeAt W (asTerm (h .ground))
-    part-noted = covers-cut W s (spanIn spans n) (h .ground) (h .holding .covers)
+    abbrev length-noted : ℕ
+    length-noted = getD spans (2 * n + 1) 0
 
-    turn-again : h .ground ≡ g → Side W P G p s spans ts gs ms f (i + 1) (j + size W g)
+    part-noted : take length-noted (drop first s) ≡ encodeAt W (asTerm (h .ground))
+    part-noted =
+        ap (take length-noted) (h .holding .stands)
+        ∙ take-at (encodeAt W (asTerm (h .ground))) (h .holding .behind) length-noted (sym (h .holding .long))
+
+    -- Where the bytes of the noted part stand here too this is that part: no term's writing goes on in another one's.
+    same-part : InOrder W → take length-noted (drop first s) ≡ take length-noted (drop j s) → h .ground ≡ g
+    same-part inOrder e =
+        ground-front W inOrder (h .ground) g (h .holding .sort) (due c .0) (drop length-noted (drop j s)) (encodeAll W (asTerms gs)) (h .holding .sorted)
+        (due c .1 .1 .ground .0)
+        (ap (λ l. l ++ drop length-noted (drop j s)) (sym part-noted ∙ e) ∙ take-append-drop length-noted (drop j s) ∙ c .situation) .0
+
+    turn-again : h .ground ≡ g → Side x p s spans ts gs (i + 1) end
     turn-again e =
-        next f spans (name-again f n g (h .ground) (h .bound) (subst (λ x. sameGround (h .ground) x ≡ true) e (same-refl (h .ground))))
+        next (c .filling) spans
+        (name-again (c .filling) n g (h .ground) (h .bound) (subst (λ k. sameGround (h .ground) k ≡ true) e (same-refl (h .ground))))
         (c .told) (λ k l. reported k l (ℕ-discrete k n)) (c .blank) (c .spanEntries)
       where
-        reported : (k : ℕ) → k < nameCount → Dec (k ≡ n) → orElse (spanAt spans k) (spanAll W ts gs k (j + size W g)) ≡ spanFrom W P G k 1
+        reported : (k : ℕ) → k < nameCount → Dec (k ≡ n) → Reported spans k
         reported k l (yes e) =
-            subst (λ k. orElse (spanAt spans k) (spanAll W ts gs k (j + size W g)) ≡ spanFrom W P G k 1) (sym e)
-            (ap (λ x. orElse x (spanAll W ts gs n (j + size W g))) (span-noted spans n (h .long))
-            ∙ ap (λ x. orElse x (orElse (cond (eqb n n) (some (record { offset = j; bytes = size W g })) none) (spanAll W ts gs n (j + size W g))))
+            subst (Reported spans) (sym e)
+            (ap (λ x. orElse x (spanAll W ts gs n end)) (span-noted spans n (h .long))
+            ∙ ap (λ x. orElse x (orElse (cond (eqb n n) (some (record { offset = j; bytes = long })) none) (spanAll W ts gs n end)))
             (sym (span-noted spans n (h .long)))
             ∙ c .reported n name-low)
         reported k l (no d) = report-other k l d
 
-    turn-other : (h .ground ≡ g → ⊥) → matcher P G ≡ none
+    turn-other : (h .ground ≡ g → ⊥) → matcher (x .pattern) (x .situation) ≡ none
     turn-other d =
-        sym (c .outcome) ∙ match-first (var n) ts g gs f
+        sym (c .outcome) ∙ match-first (var n) ts g gs (c .filling)
         ∙ ap (λ o. onward o (matchAll ts gs))
-        (name-other f n g (h .ground) (h .bound) (false-of-not (sameGround (h .ground) g) (λ e. d (same-true (h .ground) g e))))
+        (name-other (c .filling) n g (h .ground) (h .bound) (false-of-not (sameGround (h .ground) g) (λ e. d (same-true (h .ground) g e))))
 
-  module _ (inOrder : InOrder W) {after : List ℕ} {r : Bool} (covered : Covered s spans after n j (size W g) r) where
-    pub turn-name : r ≡ true → (f′ : Filling) × Side W P G p s after ts gs ms f′ (i + 1) (j + size W g)
-    turn-name same = go (noted-cases W s spans (bound (f .named) n) n (c .told n name-low))
+  turn-first : (after : List ℕ) → getD spans (2 * n + 1) 0 ≡ 0 → after ≡ withSpan spans n j long → Side x p s after ts gs (i + 1) end
+  turn-first after zero e = go cases
+    where
+      go : NotYet spans (bound (c .filling .named) n) n ⊎ Noted W s spans (bound (c .filling .named) n) n → Side x p s after ts gs (i + 1) end
+      go (inl h) = subst (λ a. Side x p s a ts gs (i + 1) end) (sym e) (turn-new h)
+      go (inr h) = absurd (h .long zero)
+
+  module _ (inOrder : InOrder W) {after : List ℕ} {r : ℕ} (covered : Covered s spans after n j r) where
+    turn-name : (r ≡ 0 → ⊥) → (r ≡ end) × Side x p s after ts gs (i + 1) end
+    turn-name goes = go cases
       where
-        go : NotYet spans (bound (f .named) n) n ⊎ Noted W s spans (bound (f .named) n) n →
-            (f′ : Filling) × Side W P G p s after ts gs ms f′ (i + 1) (j + size W g)
+        go : NotYet spans (bound (c .filling .named) n) n ⊎ Noted W s spans (bound (c .filling .named) n) n → (r ≡ end) × Side x p s after ts gs (i + 1) end
         go (inl h) =
-            (withName f n g, subst (λ a. Side W P G p s a ts gs ms (withName f n g) (i + 1) (j + size W g)) (sym (covered .new (h .zero) .1)) (turn-new h))
+            let new = covered .new (h .zero) (stands c inOrder) in
+            let bytes : r - j ≡ long = omega (arith, new .0) in
+            (new .0, turn-first after (h .zero) (new .1 ∙ ap (withSpan spans n j) bytes))
         go (inr h) =
-            let told = covered .yes (h .long) same in
-            let bytes : encodeAt W (asTerm (h .ground)) ≡ encodeAt W (asTerm g) =
-            sym (part-noted h) ∙ ap (λ l. take l (drop (getD spans (2 * n) 0) s)) (told .0) ∙ told .1 ∙ part-due in (
-              f,
-              subst (λ a. Side W P G p s a ts gs ms f (i + 1) (j + size W g)) (sym (covered .kept (h .long)))
-                  (turn-again h (ground-same W inOrder (h .ground) g (h .holding .sort) (due c .0) (h .holding .sorted) (due c .1 .1 .ground .0) .0 bytes)),
-            )
+            let again = covered .yes (h .long) goes in
+            let e = same-part h inOrder (again .1) in
+            let bytes : getD spans (2 * n + 1) 0 ≡ long = h .holding .long ∙ ap (size W) e in
+            (again .0 ∙ ap (λ l. j + l) bytes, subst (λ a. Side x p s a ts gs (i + 1) end) (sym (covered .kept (h .long))) (turn-again h e))
 
-    pub turn-name-none : r ≡ false → matcher P G ≡ none
-    turn-name-none differs = go (noted-cases W s spans (bound (f .named) n) n (c .told n name-low))
+    turn-none : r ≡ 0 → matcher (x .pattern) (x .situation) ≡ none
+    turn-none zero = go cases
       where
-        go : NotYet spans (bound (f .named) n) n ⊎ Noted W s spans (bound (f .named) n) n → matcher P G ≡ none
-        go (inl h) = absurd (true≢false (sym (covered .new (h .zero) .0) ∙ differs))
+        go : NotYet spans (bound (c .filling .named) n) n ⊎ Noted W s spans (bound (c .filling .named) n) n → matcher (x .pattern) (x .situation) ≡ none
+        go (inl h) = absurd (let new = covered .new (h .zero) (stands c inOrder) .0 in omega (arith, size-least W g))
         go (inr h) =
             turn-other h (λ e.
-            let long : getD spans (2 * n + 1) 0 ≡ size W g = h .holding .covers .long ∙ ap (size W) e in
-            covered .no (h .long) differs long
-            (ap (λ l. take l (drop (getD spans (2 * n) 0) s)) (sym long) ∙ part-noted h ∙ ap (λ x. encodeAt W (asTerm x)) e ∙ sym part-due))
+            let bytes : getD spans (2 * n + 1) 0 ≡ long = h .holding .long ∙ ap (size W) e in
+            let here : take (getD spans (2 * n + 1) 0) (drop j s) ≡ encodeAt W (asTerm g) =
+            ap (take (getD spans (2 * n + 1) 0)) (c .situation) ∙ take-at (encodeAt W (asTerm g)) (encodeAll W (asTerms gs)) (getD spans (2 * n + 1) 0) (sym bytes) in
+            covered .no (h .long) zero (omega (arith, situation-inside c)) (part-noted h ∙ ap (λ k. encodeAt W (asTerm k)) e ∙ sym here))
+
+-- ---- a name that is due
+
+pub record AtName (x : Inputs) (p s spans : List ℕ) (ms : List Mark) (i j : ℕ) : Type 0 where
+  pub name : ℕ
+  pub terms : Terms
+  pub ground : Ground
+  pub grounds : Grounds
+  pub side : Side x p s spans (cons (var name) terms) (gcons ground grounds) i j
+  pub rest : Marked terms ms
+
+pub at-name : {x : Inputs} {p s spans : List ℕ} {l : ℕ} {ms : List Mark} {i j : ℕ} → InOrder (x .vocabulary) →
+    Facing x p s spans (record { written = true; level = l }) ms i j → 128 ≤ getD p i 0 → AtName x p s spans ms i j
+at-name {x} {p} {s} {spans} {l} {ms} {i} {j} inOrder f high = go (f .term) (f .ground) (f .side) (f .marked)
+  where
+    go : (t : Term) (g : Ground) → Side x p s spans (cons t (f .terms)) (gcons g (f .grounds)) i j →
+        Marked (cons t (f .terms)) (record { written = true; level = l } ∷ ms) → AtName x p s spans ms i j
+    go any g c m = absurd (false≢true (m .0))
+    go (var n) g c m = record {
+      name = n;
+      terms = f .terms;
+      ground = g;
+      grounds = f .grounds;
+      side = c;
+      rest = m .2;
+    }
+    go (app k us) (gapp h hs) c m = absurd (omega (arith, one-byte p i _ _ (c .pattern) .first, few (due c .1 .1 .term .0 .0)))
+      where
+        few : k < length (signature (x .vocabulary) .symbols) → k < 96
+        few q = omega (arith, length-symbols (x .vocabulary), inOrder .fewWords)
+
+module _ {x : Inputs} {p s spans : List ℕ} {ms : List Mark} {i j : ℕ} (at : AtName x p s spans ms i j) where
+  name-here : getD p i 0 - 128 ≡ at .name
+  name-here = omega (arith, pattern-name (at .side) .first)
+
+  pub name-inside : i + 1 ≤ length p
+  name-inside = pattern-name (at .side) .inside
+
+  pub name-known : getD p i 0 - 128 < 64
+  name-known = omega (arith, name-here, name-low (at .side))
+
+  pub name-spans : getD spans (2 * (getD p i 0 - 128)) 0 + getD spans (2 * (getD p i 0 - 128) + 1) 0 ≤ length s
+  name-spans = rw name-here (spans-inside (at .side))
+
+  pub name-first : (after : List ℕ) (end : ℕ) → end ≡ j + size (x .vocabulary) (at .ground) → getD spans (2 * (getD p i 0 - 128) + 1) 0 ≡ 0 →
+      after ≡ withSpan spans (getD p i 0 - 128) j (end - j) → Side x p s after (at .terms) (at .grounds) (i + 1) end
+  name-first after end e zero set =
+      let bytes : end - j ≡ size (x .vocabulary) (at .ground) = omega arith in
+      subst (Side x p s after (at .terms) (at .grounds) (i + 1)) (sym e)
+      (turn-first (at .side) after (rw name-here at zero) (set ∙ ap₂ (λ n l. withSpan spans n j l) name-here bytes))
+
+  module _ (inOrder : InOrder (x .vocabulary)) {after : List ℕ} {r : ℕ} (covered : Covered s spans after (getD p i 0 - 128) j r) where
+    covered-here : Covered s spans after (at .name) j r
+    covered-here = subst (λ n. Covered s spans after n j r) name-here covered
+
+    pub name-goes : (r ≡ 0 → ⊥) → Side x p s after (at .terms) (at .grounds) (i + 1) r
+    name-goes goes =
+        let go = turn-name (at .side) inOrder covered-here goes in
+        subst (Side x p s after (at .terms) (at .grounds) (i + 1)) (sym (go .0)) (go .1)
+
+    pub name-later : (r ≡ 0 → ⊥) → j ≤ r
+    name-later goes = omega (arith, turn-name (at .side) inOrder covered-here goes .0)
+
+    pub name-none : r ≡ 0 → matcher (x .pattern) (x .situation) ≡ none
+    name-none zero = turn-none (at .side) inOrder covered-here zero

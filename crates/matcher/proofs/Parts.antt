@@ -1,6 +1,5 @@
 -- Parts: what a name covers, and the table filled.
-use mathlib.Core.Path.{_≡_, refl, sym, ap, _∙_, subst}
-use mathlib.Core.Bool.{Bool, true, false, false≢true}
+use mathlib.Core.Path.{_≡_, refl, sym, ap, ap₂, _∙_}
 use mathlib.Core.List.{List}
 use mathlib.Core.Logic.{_≢_}
 use Prim.Native.Nat.{ℕ, _+_, _-_, _*_, _<_, _≤_}
@@ -8,8 +7,7 @@ use native.Mathlib.Decide.{ℕ-discrete}
 use native.Mathlib.Omega.{arith}
 use lib.ListN.{length, getD, take, drop, set, length-set}
 use lib.Seq.{getD-set-same, getD-set-other, ext-getD}
-use Rattle.slices.specs.Equal.{Equal}
-use Rattle.matcher.specs.Walking.{Covered}
+use Rattle.matcher.specs.Spans.{withSpan, Standing, ends, Covered}
 
 -- The first i numbers of a table are those of the spans.
 pub record Filled (spans table : List ℕ) (i : ℕ) : Type 0 where
@@ -44,32 +42,47 @@ module _ {name : ℕ} (known : name < 64) where
   pub odd-slot : 2 * name + 1 < 128
   odd-slot = omega arith
 
-pub covered-new : (s before : List ℕ) (name at n : ℕ) → getD before (2 * name + 1) 0 ≡ 0 →
-    Covered s before (set (set before (2 * name) at) (2 * name + 1) n) name at n true
-covered-new s before name at n e = record {
-  new = λ q. (refl, refl);
-  kept = λ d. absurd (d e);
-  yes = λ d q. absurd (d e);
-  no = λ d q l h. d e;
-}
+module _ (s before : List ℕ) (name at : ℕ) where
+  abbrev first : ℕ
+  first = getD before (2 * name) 0
 
-pub covered-longer : (s before : List ℕ) (name at n : ℕ) → (getD before (2 * name + 1) 0 ≡ 0 → ⊥) → (getD before (2 * name + 1) 0 ≡ n → ⊥) →
-    Covered s before before name at n false
-covered-longer s before name at n d o = record {
-  new = λ e. absurd (d e);
-  kept = λ q. refl;
-  yes = λ q t. absurd (false≢true t);
-  no = λ q t l h. o l;
-}
+  abbrev long : ℕ
+  long = getD before (2 * name + 1) 0
 
-pub covered-again : (s before : List ℕ) (name at n first : ℕ) (r : Bool) → (getD before (2 * name + 1) 0 ≡ 0 → ⊥) → getD before (2 * name + 1) 0 ≡ n →
-    first ≡ getD before (2 * name) 0 → Equal (take (first + n - first) (drop first s)) (take (at + n - at) (drop at s)) r → Covered s before before name at n r
-covered-again s before name at n first r d e f h = record {
-  new = λ q. absurd (d q);
-  kept = λ q. refl;
-  yes = λ q t. (e, subst (λ a. take n (drop a s) ≡ take n (drop at s)) f (sym (part first) ∙ h .yes t ∙ part at));
-  no = λ q t l k. h .no t (part first ∙ subst (λ a. take n (drop a s) ≡ take n (drop at s)) (sym f) k ∙ sym (part at));
-}
-  where
-    part : (a : ℕ) → take (a + n - a) (drop a s) ≡ take n (drop a s)
-    part a = ap (λ m. take m (drop a s)) (let z : a + n - a ≡ n = omega arith in z)
+  pub covered-new : (after : List ℕ) (end : ℕ) → long ≡ 0 → ((a : Standing s at) → end ≡ ends a) → after ≡ withSpan before name at (end - at) →
+      Covered s before after name at end
+  covered-new after end zero e set = record {
+    new = λ q a. (e a, set);
+    kept = λ d. absurd (d zero);
+    yes = λ d q. absurd (d zero);
+    no = λ d q l h. d zero;
+  }
+
+  module _ (again : long ≡ 0 → ⊥) where
+    pub covered-short : length s < at + long → Covered s before before name at 0
+    covered-short short = record {
+      new = λ q. absurd (again q);
+      kept = λ q. refl;
+      yes = λ q r. absurd (r refl);
+      no = λ q r inside h. omega arith;
+    }
+
+    module _ (from n : ℕ) (start : from ≡ first) (bytes : n ≡ long) where
+      part : (a k : ℕ) → k ≡ a → take (a + n - a) (drop a s) ≡ take long (drop k s)
+      part a k e = ap₂ (λ m o. take m (drop o s)) (let z : a + n - a ≡ n = omega arith in z ∙ bytes) (sym e)
+
+      pub covered-same : take (from + n - from) (drop from s) ≡ take (at + n - at) (drop at s) → Covered s before before name at (at + n)
+      covered-same e = record {
+        new = λ q. absurd (again q);
+        kept = λ q. refl;
+        yes = λ q r. (ap (λ l. at + l) bytes, sym (part from first (sym start)) ∙ e ∙ part at at refl);
+        no = λ q r inside h. again (omega arith);
+      }
+
+      pub covered-other : (take (from + n - from) (drop from s) ≡ take (at + n - at) (drop at s) → ⊥) → Covered s before before name at 0
+      covered-other d = record {
+        new = λ q. absurd (again q);
+        kept = λ q. refl;
+        yes = λ q r. absurd (r refl);
+        no = λ q r inside h. d (part from first (sym start) ∙ h ∙ sym (part at at refl));
+      }

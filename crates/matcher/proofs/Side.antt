@@ -1,81 +1,67 @@
--- Side: what holds while a pattern and a situation are gone through side by side, and how each turn goes on.
+-- Side: the two terms that are due first, and the turn at an open place.
 --
---   spanAt spans n     the span noted for the name n, where there is one
---   Told W s x o       a span is noted exactly where the name is bound, and it holds what the name is bound to
---   Side               the terms ts of the pattern and gs of the situation are still due, and f is found so far
+--   Facing x p s spans m ms i j    they are as the mark m says, and the rest as the marks ms
+--   facing, facing-shut            the first two of marked terms, and of shut ones
+--   facing-inside                  a written term has a byte
+--   due                            they have one sort
+--   stands                         the second stands in the situation
+--   situation-behind, situation-inside    what stands behind it
+--   turn-open                      an open place takes the part
 --
 use mathlib.Core.Path.{_≡_, refl, sym, ap, _∙_}
-use mathlib.Core.Bool.{true, false, cond, true≢false}
-use mathlib.Core.List.{List, [], _∷_, _++_}
-use mathlib.Core.Option.{Option, some, none}
-use Prim.Native.Nat.{ℕ, _+_, _*_, _<_, _≤_}
+use mathlib.Core.Bool.{true, false, not, true≢false}
+use mathlib.Core.List.{List, [], _∷_}
+use Prim.Native.Nat.{ℕ, _+_, _<_, _≤_}
 use native.Mathlib.Omega.{arith}
-use lib.Dec.{eqb}
-use lib.ListN.{length, getD, drop, length-drop, length-append}
+use lib.ListN.{length, length-drop, length-append, drop}
 use lib.Seq.{drop-drop, drop-at}
-use Rattle.terms.specs.Lists.{All, orElse}
-use Rattle.terms.specs.Term.{Term, any, var, app, Terms, nil, cons, Ground, Grounds, gnil, gcons, SortedAll, SortedG, SortedGs, namesAll}
-use Rattle.terms.specs.Matcher.{withOpen, matchAll, matcher}
-use Rattle.terms.specs.Filling.{Filling}
+use Rattle.terms.specs.Term.{Term, any, var, app, Terms, nil, cons, Ground, Grounds, gnil, gcons, SortedAll, SortedGs}
+use Rattle.terms.specs.Matcher.{withOpen}
+use Rattle.terms.proofs.Bools.{or-parts}
 use Rattle.wire.specs.Vocabulary.{Vocabulary, signature, InOrder}
-use Rattle.wire.specs.TermBytes.{nameCount, encodeAt, encodeAll, asTerm, asTerms}
-use Rattle.wire.specs.Matching.{size, Span, spanFrom, spanAll, spanIn}
-use Rattle.wire.proofs.Spans.{Covers}
-use Rattle.matcher.specs.Walking.{Standing}
+use Rattle.wire.specs.Map.{isOpen}
+use Rattle.wire.specs.TermBytes.{encodeAt, encodeAll, asTerm, asTerms}
+use Rattle.wire.specs.SituationComputed.{someOpen}
+use Rattle.wire.specs.Matching.{Inputs, size}
+use Rattle.matcher.specs.Spans.{Standing}
+use Rattle.matcher.specs.Walking.{Side, Shut}
 use Rattle.matcher.proofs.Marks.{Mark, Marked}
-use Rattle.matcher.proofs.Bound.{bound}
 
-abbrev pub noted : ℕ → Span → Option Span
-noted l x = cond (eqb l 0) none (some x)
-
-abbrev pub spanAt : List ℕ → ℕ → Option Span
-spanAt spans n = noted (getD spans (2 * n + 1) 0) (spanIn spans n)
-
-pub record Holding (W : Vocabulary) (s : List ℕ) (x : Span) (h : Ground) : Type 0 where
-  pub covers : Covers W s x h
-  pub sort : ℕ
-  pub sorted : SortedG (signature W) h sort
-
-abbrev pub Told : Vocabulary → List ℕ → Option Span → Option Ground → Type 0
-Told W s none none = Unit {0}
-Told W s none (some h) = ⊥
-Told W s (some x) none = ⊥
-Told W s (some x) (some h) = Holding W s x h
-
-pub record Side (W : Vocabulary) (P : Term) (G : Ground) (p s spans : List ℕ) (ts : Terms) (gs : Grounds) (ms : List Mark) (f : Filling) (i j : ℕ) : Type 0 where
-  pub sorts : List ℕ
-  pub sorted : SortedAll (signature W) ts sorts
-  pub sortedGrounds : SortedGs (signature W) gs sorts
-  pub named : All (λ n. n < nameCount) (namesAll ts)
-  pub outcome : matchAll ts gs f ≡ matcher P G
-  pub behind : List ℕ
-  pub pattern : drop i p ≡ encodeAll W ts ++ behind
-  pub situation : drop j s ≡ encodeAll W (asTerms gs)
-  pub marked : Marked ts ms
-  pub told : (n : ℕ) → n < nameCount → Told W s (spanAt spans n) (bound (f .named) n)
-  pub reported : (n : ℕ) → n < nameCount → orElse (spanAt spans n) (spanAll W ts gs n j) ≡ spanFrom W P G n 1
-  pub blank : (n : ℕ) → n < nameCount → getD spans (2 * n + 1) 0 ≡ 0 → getD spans (2 * n) 0 ≡ 0
-  pub insidePattern : i ≤ length p
-  pub insideSituation : j ≤ length s
-  pub spanEntries : length spans ≡ 128
-
--- The term and the ground term that are due first.
-pub record Facing (W : Vocabulary) (P : Term) (G : Ground) (p s spans : List ℕ) (m : Mark) (ms : List Mark) (f : Filling) (i j : ℕ) : Type 0 where
+pub record Facing (x : Inputs) (p s spans : List ℕ) (m : Mark) (ms : List Mark) (i j : ℕ) : Type 0 where
   pub term : Term
   pub terms : Terms
   pub ground : Ground
   pub grounds : Grounds
-  pub side : Side W P G p s spans (cons term terms) (gcons ground grounds) (m ∷ ms) f i j
+  pub side : Side x p s spans (cons term terms) (gcons ground grounds) i j
+  pub marked : Marked (cons term terms) (m ∷ ms)
 
 no-ground : (W : Vocabulary) (t : Term) (ts : Terms) (ks : List ℕ) → SortedAll (signature W) (cons t ts) ks → SortedGs (signature W) gnil ks → ⊥
 no-ground W t ts [] h k = h
 no-ground W t ts (x ∷ ks) h k = k
 
-module _ {W : Vocabulary} {P : Term} {G : Ground} {p s spans : List ℕ} {f : Filling} {i j : ℕ} where
-  pub facing : {ts : Terms} {gs : Grounds} {m : Mark} {ms : List Mark} → Side W P G p s spans ts gs (m ∷ ms) f i j → Facing W P G p s spans m ms f i j
-  facing {ts = nil} c = absurd (c .marked)
-  facing {ts = cons t ts} {gs = gnil} c = absurd (no-ground W t ts (c .sorts) (c .sorted) (c .sortedGrounds))
-  facing {ts = cons t ts} {gs = gcons g gs} c = record { term = t; terms = ts; ground = g; grounds = gs; side = c }
+module _ {x : Inputs} {p s spans : List ℕ} {i j : ℕ} where
+  pub facing : {ts : Terms} {gs : Grounds} {m : Mark} {ms : List Mark} → Side x p s spans ts gs i j → Marked ts (m ∷ ms) → Facing x p s spans m ms i j
+  facing {ts = nil} c k = absurd k
+  facing {ts = cons t ts} {gs = gnil} c k = absurd (no-ground (x .vocabulary) t ts (c .sorts) (c .sorted) (c .sortedGrounds))
+  facing {ts = cons t ts} {gs = gcons g gs} c k = record { term = t; terms = ts; ground = g; grounds = gs; side = c; marked = k }
+
+  pub facing-shut : {ts : Terms} {gs : Grounds} → Side x p s spans ts gs i j → Shut ts → i < length p →
+      Facing x p s spans (record { written = true; level = 0 }) [] i j
+  facing-shut {ts = nil} c k l = absurd (omega (arith, length-drop i p, ap length (c .pattern)))
+  facing-shut {ts = cons t ts} c k l =
+      let shut = or-parts (isOpen t) (someOpen ts) (k .written) in
+      let deep = k .shallow in
+      facing c (ap not (shut .0), omega arith, record { written = shut .1; shallow = omega arith })
+
+  -- A written term has a byte.
+  pub facing-inside : {l : ℕ} {ms : List Mark} → Facing x p s spans (record { written = true; level = l }) ms i j → i < length p
+  facing-inside {l} {ms} f = go (f .term) (f .side) (f .marked)
+    where
+      go : (t : Term) → Side x p s spans (cons t (f .terms)) (gcons (f .ground) (f .grounds)) i j →
+          Marked (cons t (f .terms)) (record { written = true; level = l } ∷ ms) → i < length p
+      go any c m = absurd (true≢false (sym (m .0)))
+      go (var n) c m = omega (arith, length-drop i p, ap length (c .pattern))
+      go (app k us) c m = omega (arith, length-drop i p, ap length (c .pattern))
 
 -- What is due first has one sort.
 pub record Firsts (W : Vocabulary) (t : Term) (ts : Terms) (g : Ground) (gs : Grounds) (k : ℕ) (ks : List ℕ) : Type 0 where
@@ -87,8 +73,11 @@ pub firsts : (W : Vocabulary) (t : Term) (ts : Terms) (g : Ground) (gs : Grounds
 firsts W t ts g gs [] h k = absurd h
 firsts W t ts g gs (x ∷ ks) h k = (x, (ks, record { term = h; ground = k }))
 
-module _ {W : Vocabulary} {P : Term} {G : Ground} {p s spans : List ℕ} {t : Term} {ts : Terms} {g : Ground} {gs : Grounds} {m : Mark} {ms : List Mark} {f : Filling} {i j : ℕ}
-    (c : Side W P G p s spans (cons t ts) (gcons g gs) (m ∷ ms) f i j) where
+module _ {x : Inputs} {p s spans : List ℕ} {t : Term} {ts : Terms} {g : Ground} {gs : Grounds} {i j : ℕ}
+    (c : Side x p s spans (cons t ts) (gcons g gs) i j) where
+  abbrev W : Vocabulary
+  W = x .vocabulary
+
   abbrev pub due : (k : ℕ) × ((js : List ℕ) × Firsts W t ts g gs k js)
   due = firsts W t ts g gs (c .sorts) (c .sorted) (c .sortedGrounds)
 
@@ -115,26 +104,23 @@ module _ {W : Vocabulary} {P : Term} {G : Ground} {p s spans : List ℕ} {t : Te
 
 -- ---- an open place
 
-module _ {W : Vocabulary} {P : Term} {G : Ground} {p s spans : List ℕ} {f : Filling} {i j : ℕ} where
-  pub turn-open : {t : Term} {ts : Terms} {g : Ground} {gs : Grounds} {m : Mark} {ms : List Mark} →
-      Side W P G p s spans (cons t ts) (gcons g gs) (m ∷ ms) f i j → m .written ≡ false →
-      Side W P G p s spans ts gs ms (withOpen f g) i (j + size W g)
-  turn-open {t = any} c e = record {
-    sorts = due c .1 .0;
-    sorted = due c .1 .1 .term .1;
-    sortedGrounds = due c .1 .1 .ground .1;
-    named = c .named;
-    outcome = c .outcome;
-    behind = c .behind;
-    pattern = c .pattern;
-    situation = situation-behind c;
-    marked = c .marked .2;
-    told = c .told;
-    reported = c .reported;
-    blank = c .blank;
-    insidePattern = c .insidePattern;
-    insideSituation = situation-inside c;
-    spanEntries = c .spanEntries;
-  }
-  turn-open {t = var n} c e = absurd (true≢false (c .marked .0 ∙ e))
-  turn-open {t = app k us} c e = absurd (true≢false (c .marked .0 ∙ e))
+pub turn-open : {x : Inputs} {p s spans : List ℕ} {t : Term} {ts : Terms} {g : Ground} {gs : Grounds} {i j : ℕ} →
+    Side x p s spans (cons t ts) (gcons g gs) i j → not (isOpen t) ≡ false → Side x p s spans ts gs i (j + size (x .vocabulary) g)
+turn-open {t = any} {g = g} c e = record {
+  filling = withOpen (c .filling) g;
+  sorts = due c .1 .0;
+  sorted = due c .1 .1 .term .1;
+  sortedGrounds = due c .1 .1 .ground .1;
+  named = c .named;
+  outcome = c .outcome;
+  pattern = c .pattern;
+  situation = situation-behind c;
+  told = c .told;
+  reported = c .reported;
+  blank = c .blank;
+  insidePattern = c .insidePattern;
+  insideSituation = situation-inside c;
+  spanEntries = c .spanEntries;
+}
+turn-open {t = var n} c e = absurd (true≢false e)
+turn-open {t = app k us} c e = absurd (true≢false e)

@@ -1,23 +1,25 @@
--- Frames: a word whose places are due, packed into a number; no public contract cites it.
+-- Frames: the maps of words as they are gone through; no public contract cites it.
 --
---   writtenIn x           the frame's written map, past the places that are gone through
---   placesIn x            its place map, past the same places
---   kindsIn x             the number above the two
---   Framed x w p k        x is the frame of these three
+--   mapAt t at       the map of the word at an offset of the bytes t
+--   writtenIn x      the written map of the frame x, past the places that are done
+--   placesIn x       its place map, past the same places
+--   TwoMaps x w p    x is the frame of these two
 --
 use mathlib.Core.Path.{_≡_}
-use Prim.Native.Nat.{ℕ, _/_, _%_}
+use mathlib.Core.List.{List}
+use Prim.Native.Nat.{ℕ, _+_, _/_, _%_}
+use lib.ListN.{getD}
 
+abbrev pub mapAt : List ℕ → ℕ → ℕ
+mapAt t at = getD t (at + 1) 0
+
+-- A map is below 256.
 abbrev pub writtenIn : ℕ → ℕ
 writtenIn x = x % 256
 
 abbrev pub placesIn : ℕ → ℕ
 placesIn x = x / 256 % 256
 
-abbrev pub kindsIn : ℕ → ℕ
-kindsIn x = x / 65536
-
-pub record Framed (x w p k : ℕ) : Type 0 where
+pub record TwoMaps (x w p : ℕ) : Type 0 where
   pub written : writtenIn x ≡ w
   pub places : placesIn x ≡ p
-  pub kinds : kindsIn x ≡ k

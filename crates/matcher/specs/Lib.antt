@@ -2,9 +2,14 @@
 --
 --   Answers    document 01's number and values for each case of match's answer
 --   Places     where in the lent situation the answer of part stands
---   Frames     what the private functions promise each other of the places that are due; no public contract cites it
---   Walking    what the private functions promise each other; no public contract cites it
+--
+-- What the private functions promise each other; no public contract cites it.
+--
+--   Frames     the maps of words as they are gone through
+--   Spans      what is noted of names on the way
+--   Walking    what is due of a pattern and a situation, and what the walk answers
 pub mod Answers
 pub mod Places
 pub mod Frames
+pub mod Spans
 pub mod Walking

@@ -7,84 +7,119 @@ use denote.Ref.{now}
 use lib.Dec.{lit<}
 use lib.ListN.{length}
 use borrow.Author.Needs.{scaled-fits}
-use Rattle.matcher.proofs.Parts.{even-slot, odd-slot, covered-new, covered-longer, covered-again}
+use Rattle.matcher.proofs.Offsets.{offset-fits}
+use Rattle.matcher.proofs.Ending.{ends-inside}
+use Rattle.matcher.proofs.Parts.{even-slot, odd-slot, covered-new, covered-short, covered-same, covered-other}
 use Rattle.matcher.proofs.cover.Statement.{statement}
 use Rattle.matcher.proofs.cover.Tie as tie
 
+-- The part that is noted lies in the situation, and so do as many bytes here.
+noted-inside : (c : tie.After-wide162) →
+    let at-wide16 = c .before .before .before .before in
+    let a = at-wide16 .before .before .before .args in
+    c .wide162 .result + at-wide16 .wide16 .result ≤ length (now (a .s))
+noted-inside c =
+    let at-wide16 = c .before .before .before .before in
+    let inside = at-wide16 .before .before .before .pre .1 .1 in
+    let first = c .wide162 .ensures .0 in
+    let long = at-wide16 .wide16 .ensures .0 in
+    omega arith
+
+part-inside : (c : tie.After-wide162) →
+    let at-wide16 = c .before .before .before .before in
+    let a = at-wide16 .before .before .before .args in
+    a .at + at-wide16 .wide16 .result ≤ length (now (a .s))
+part-inside c =
+    let at-if2 = c .before .before in
+    let inside = at-if2 .before .before .before .before .before .pre .0 .inside in
+    let room = at-if2 .if2 .left in
+    omega arith
+
 mul-wide16 : tie.Need-mul-wide16
-mul-wide16 c = fits-lt (even-slot (c .before .pre .0 .0)) (fits-lit tt)
+mul-wide16 c =
+    let start = c .before in
+    fits-lt (even-slot (start .pre .1 .0 .0)) (fits-lit tt)
 
 add-wide16 : tie.Need-add-wide16
-add-wide16 c = fits-lt (odd-slot (c .before .pre .0 .0)) (fits-lit tt)
+add-wide16 c =
+    let start = c .before in
+    fits-lt (odd-slot (start .pre .1 .0 .0)) (fits-lit tt)
 
 mul-wide16-2 : tie.Need-mul-wide16-2
-mul-wide16-2 c = scaled-fits _ 128 2 (odd-slot (c .before .pre .0 .0)) (lit< tt)
+mul-wide16-2 c =
+    let start = c .before in
+    scaled-fits _ 128 2 (odd-slot (start .pre .1 .0 .0)) (lit< tt)
 
 element-copy-out-wide16 : tie.Need-element-copy-out-wide16
-element-copy-out-wide16 c = odd-slot (c .before .pre .0 .0)
+element-copy-out-wide16 c =
+    let start = c .before in
+    odd-slot (start .pre .1 .0 .0)
 
 wide16-requires : tie.Need-wide16-requires
 wide16-requires c κs = tt
 
-cast-spans : tie.Need-cast-spans
-cast-spans c = let inside = c .before .before .before .before .pre .0 in record { fits = omega arith }
+end-of-requires : tie.Need-end-of-requires
+end-of-requires c κs =
+    let start = c .before .before .before .before in
+    start .pre .0
 
-mul-spans : tie.Need-mul-spans
-mul-spans c = fits-lt (even-slot (c .before .before .before .before .pre .0 .0)) (fits-lit tt)
+sub-note : tie.Need-sub-note
+sub-note c =
+    let at-end-of = c .before in
+    let start = at-end-of .before .before .before .before .before in
+    omega (arith, at-end-of .end-of .ensures (start .pre .0))
 
-mul-spans-2 : tie.Need-mul-spans-2
-mul-spans-2 c = scaled-fits _ 128 2 (even-slot (c .before .before .before .before .pre .0 .0)) (lit< tt)
-
-element-write-spans : tie.Need-element-write-spans
-element-write-spans c = even-slot (c .before .before .before .before .pre .0 .0)
-
-cast-spans-2 : tie.Need-cast-spans-2
-cast-spans-2 c = let inside = c .before .before .before .before .pre .0 in record { fits = omega arith }
-
-mul-spans-3 : tie.Need-mul-spans-3
-mul-spans-3 c = fits-lt (even-slot (c .before .before .before .before .pre .0 .0)) (fits-lit tt)
-
-add-spans : tie.Need-add-spans
-add-spans c = fits-lt (odd-slot (c .before .before .before .before .pre .0 .0)) (fits-lit tt)
-
-mul-spans-4 : tie.Need-mul-spans-4
-mul-spans-4 c = scaled-fits _ 128 2 (odd-slot (c .before .before .before .before .pre .0 .0)) (lit< tt)
-
-element-write-spans-2 : tie.Need-element-write-spans-2
-element-write-spans-2 c = odd-slot (c .before .before .before .before .pre .0 .0)
+note-requires : tie.Need-note-requires
+note-requires c κs =
+    let at-end-of = c .before in
+    let start = at-end-of .before .before .before .before .before in
+    let known = start .pre .1 .0 in
+    let end = at-end-of .end-of .ensures (start .pre .0) in
+    let inside = ends-inside (start .pre .0) in
+    (known .0, omega arith, omega arith)
 
 returns : tie.Need-returns
-returns c = covered-new _ _ (c .before .before .before .before .args .name) _ _ (sym (c .before .wide16 .ensures .0) ∙ c .if1 .taken)
+returns c =
+    let at-end-of = c .before .before in
+    let at-if1 = at-end-of .before in
+    let at-wide16 = at-if1 .before in
+    covered-new _ _ _ _ _ _ (sym (at-wide16 .wide16 .ensures .0) ∙ at-if1 .if1 .taken) (at-end-of .end-of .ensures) (c .note .ensures)
+
+sub-if2 : tie.Need-sub-if2
+sub-if2 c =
+    let start = c .before .before .before .before in
+    start .pre .0 .inside
 
 returns-2 : tie.Need-returns-2
 returns-2 c =
-    let before = c .before .before .wide16 .ensures .0 in
-    covered-longer _ _ _ _ _ (λ e. c .before .if1 .left (before ∙ e)) (λ e. c .if2 .taken (before ∙ e))
+    let at-if1 = c .before in
+    let at-wide16 = at-if1 .before in
+    let short = c .if2 .taken in
+    let n = at-wide16 .wide16 .ensures .0 in
+    covered-short _ _ _ _ (λ e. at-if1 .if1 .left (n ∙ e)) (omega arith)
 
 mul-wide16-3 : tie.Need-mul-wide16-3
-mul-wide16-3 c = fits-lt (even-slot (c .before .before .before .before .before .pre .0 .0)) (fits-lit tt)
+mul-wide16-3 c =
+    let start = c .before .before .before .before .before in
+    fits-lt (even-slot (start .pre .1 .0 .0)) (fits-lit tt)
 
 mul-wide16-4 : tie.Need-mul-wide16-4
-mul-wide16-4 c = scaled-fits _ 128 2 (even-slot (c .before .before .before .before .before .pre .0 .0)) (lit< tt)
+mul-wide16-4 c =
+    let start = c .before .before .before .before .before in
+    scaled-fits _ 128 2 (even-slot (start .pre .1 .0 .0)) (lit< tt)
 
 element-copy-out-wide16-2 : tie.Need-element-copy-out-wide16-2
-element-copy-out-wide16-2 c = even-slot (c .before .before .before .before .before .pre .0 .0)
+element-copy-out-wide16-2 c =
+    let start = c .before .before .before .before .before in
+    even-slot (start .pre .1 .0 .0)
 
 wide16-requires-2 : tie.Need-wide16-requires-2
 wide16-requires-2 c κs = tt
 
--- The part that was noted lies in the situation, and so does this one.
-noted-inside : (c : tie.After-wide162) → let a = c .before .before .before .before .before .before .before .args in
-    c .wide162 .result + a .n ≤ length (now (a .s))
-noted-inside c =
-    let before = c .before .before .before .before .wide16 .ensures .0 in
-    let first = c .wide162 .ensures .0 in
-    let equal = c .before .before .if2 .left in
-    let noted = c .before .before .before .before .before .before .before .pre .1 in
-    omega arith
-
 add-equal : tie.Need-add-equal
-add-equal c = let inside = noted-inside c in let small = c .before .before .before .before .before .before .before .pre .0 .2 in record { fits = omega arith }
+add-equal c =
+    let start = c .before .before .before .before .before .before .before in
+    offset-fits (noted-inside c) (start .pre .1 .0 .1)
 
 sub-equal : tie.Need-sub-equal
 sub-equal c = omega arith
@@ -97,9 +132,9 @@ part-equal-end c = noted-inside c
 
 add-equal-2 : tie.Need-add-equal-2
 add-equal-2 c =
-    let here = c .before .before .before .before .before .before .before .before .pre .0 .1 in
-    let small = c .before .before .before .before .before .before .before .before .pre .0 .2 in
-    record { fits = omega arith }
+    let at-wide162 = c .before in
+    let start = at-wide162 .before .before .before .before .before .before .before in
+    offset-fits (part-inside at-wide162) (start .pre .1 .0 .1)
 
 sub-equal-2 : tie.Need-sub-equal-2
 sub-equal-2 c = omega arith
@@ -108,19 +143,36 @@ part-equal-start-2 : tie.Need-part-equal-start-2
 part-equal-start-2 c = omega arith
 
 part-equal-end-2 : tie.Need-part-equal-end-2
-part-equal-end-2 c = c .before .before .before .before .before .before .before .before .pre .0 .1
+part-equal-end-2 c =
+    let at-wide162 = c .before in
+    part-inside at-wide162
 
 equal-requires : tie.Need-equal-requires
 equal-requires c κs = tt
 
+add-result : tie.Need-add-result
+add-result c =
+    let at-wide162 = c .before .before .before .before in
+    let start = at-wide162 .before .before .before .before .before .before .before in
+    offset-fits (part-inside at-wide162) (start .pre .1 .0 .1)
+
 returns-3 : tie.Need-returns-3
 returns-3 c =
-    let at-first = c .before .before .before in
-    let at-if2 = at-first .before .before in
-    let before = at-if2 .before .before .wide16 .ensures .0 in
-    let start = at-if2 .before .before .before .before .before in
-    covered-again (now (start .args .s)) (now (start .args .spans)) (start .args .name) (start .args .at) (start .args .n) (at-first .wide162 .result) (c .equal .result)
-    (λ e. at-if2 .before .if1 .left (before ∙ e)) (sym before ∙ at-if2 .if2 .left) (at-first .wide162 .ensures .0) (c .equal .ensures)
+    let at-equal = c .before in
+    let at-wide162 = at-equal .before .before .before in
+    let at-if1 = at-wide162 .before .before .before in
+    let at-wide16 = at-if1 .before in
+    let n = at-wide16 .wide16 .ensures .0 in
+    covered-same _ _ _ _ (λ e. at-if1 .if1 .left (n ∙ e)) _ _ (at-wide162 .wide162 .ensures .0) n (at-equal .equal .ensures .yes (c .if3 .taken))
+
+returns-4 : tie.Need-returns-4
+returns-4 c =
+    let at-equal = c .before in
+    let at-wide162 = at-equal .before .before .before in
+    let at-if1 = at-wide162 .before .before .before in
+    let at-wide16 = at-if1 .before in
+    let n = at-wide16 .wide16 .ensures .0 in
+    covered-other _ _ _ _ (λ e. at-if1 .if1 .left (n ∙ e)) _ _ (at-wide162 .wide162 .ensures .0) n (at-equal .equal .ensures .no (c .if3 .left))
 
 pub cover-spec : {M : Type 1} → statement M
 cover-spec =
@@ -131,16 +183,11 @@ cover-spec =
     mul-wide16-2
     element-copy-out-wide16
     wide16-requires
-    cast-spans
-    mul-spans
-    mul-spans-2
-    element-write-spans
-    cast-spans-2
-    mul-spans-3
-    add-spans
-    mul-spans-4
-    element-write-spans-2
+    end-of-requires
+    sub-note
+    note-requires
     returns
+    sub-if2
     returns-2
     mul-wide16-3
     mul-wide16-4
@@ -155,4 +202,6 @@ cover-spec =
     part-equal-start-2
     part-equal-end-2
     equal-requires
-    returns-3)
+    add-result
+    returns-3
+    returns-4)

@@ -13,14 +13,24 @@ use Rattle.matcher.proofs.Calls.{Lent, inputs-read, match-refused, matc
 use Rattle.matcher.proofs.match_pattern.Statement.{statement}
 use Rattle.matcher.proofs.match_pattern.Tie as tie
 
-lent : (c : tie.After-judge) → let a = c .before .before .before .before .before .args in Lent (now (a .vocabulary)) (now (a .pattern)) (now (a .situation))
-lent c = record {
-  vocabulary = bytes-of (c .before .before .before .before .before .args .vocabulary .now) (λ i. c .before .before .before .before .shared-slice-known .given i .fits);
-  pattern = bytes-of (c .before .before .before .before .before .args .pattern .now) (λ i. c .before .before .before .shared-slice-known2 .given i .fits);
-  situation = bytes-of (c .before .before .before .before .before .args .situation .now) (λ i. c .before .before .shared-slice-known3 .given i .fits);
-}
+-- The lent inputs are bytes.
+lent : (c : tie.After-judge) →
+    let a = c .before .before .before .before .before .args in
+    Lent (now (a .vocabulary)) (now (a .pattern)) (now (a .situation))
+lent c =
+    let at-third = c .before .before in
+    let at-second = at-third .before in
+    let at-first = at-second .before in
+    let a = at-first .before .args in
+    record {
+      vocabulary = bytes-of (a .vocabulary .now) (λ i. at-first .shared-slice-known .given i .fits);
+      pattern = bytes-of (a .pattern .now) (λ i. at-second .shared-slice-known2 .given i .fits);
+      situation = bytes-of (a .situation .now) (λ i. at-third .shared-slice-known3 .given i .fits);
+    }
 
-clears : (c : tie.After-judge) → c .judge .result ≡ Clear → let a = c .before .before .before .before .before .args in
+-- The inputs are judged to be in order.
+clears : (c : tie.After-judge) → c .judge .result ≡ Clear →
+    let a = c .before .before .before .before .before .args in
     accepted [] ≡ clearReply (judged (now (a .vocabulary)) (now (a .pattern)) (now (a .situation)))
 clears c e = sym (ap inputsNumbers e) ∙ c .judge .ensures
 
@@ -31,28 +41,64 @@ enum-known-why : tie.Need-enum-known-why
 enum-known-why c = c .match .keys1
 
 returns : tie.Need-returns
-returns c = match-refused (lent (c .before .before .before)) _ _ (c .before .why .given .0 .0) (sym (ap inputsNumbers (c .before .why .given .1)) ∙ c .before .before .before .judge .ensures) refl
+returns c =
+    let at-why = c .before in
+    let at-judge = at-why .before .before in
+    let refusal = sym (ap inputsNumbers (at-why .why .given .1)) ∙ at-judge .judge .ensures in
+    match-refused (lent at-judge) _ _ (at-why .why .given .0 .0) refusal refl
 
 enum-told : tie.Need-enum-told
 enum-told c = c .match .keys2
 
 returns-2 : tie.Need-returns-2
-returns-2 c = match-length (lent (c .before .before .before)) _ _ (clears (c .before .before .before) (c .before .enum-told .given .1)) (c .if1 .taken) refl
+returns-2 c =
+    let at-enum-told = c .before in
+    let at-judge = at-enum-told .before .before in
+    let clear = clears at-judge (at-enum-told .enum-told .given .1) in
+    match-length (lent at-judge) _ _ clear (c .if1 .taken) refl
 
 walk-requires : tie.Need-walk-requires
-walk-requires c κs = (inputs-read (lent (c .before .before .before .before)) (clears (c .before .before .before .before) (c .before .before .enum-told .given .1)), refl)
+walk-requires c κs =
+    let at-enum-told = c .before .before in
+    let at-judge = at-enum-told .before .before in
+    let clear = clears at-judge (at-enum-told .enum-told .given .1) in
+    (inputs-read (lent at-judge) clear, refl)
 
 fill-table-requires : tie.Need-fill-table-requires
-fill-table-requires c κs = (c .before .before .before .before .before .if1 .left, walked-long (inputs-read (lent (c .before .before .before .before .before .before .before .before)) (clears (c .before .before .before .before .before .before .before .before) (c .before .before .before .before .before .before .enum-told .given .1))) (walked-as true (c .before .before .if2 .taken) (c .before .before .before .walk .ensures)))
+fill-table-requires c κs =
+    let at-if2 = c .before .before in
+    let at-walk = at-if2 .before in
+    let at-if1 = at-walk .before .before in
+    let at-enum-told = at-if1 .before in
+    let at-judge = at-enum-told .before .before in
+    let clear = clears at-judge (at-enum-told .enum-told .given .1) in
+    let walked = walked-as true (at-if2 .if2 .taken) (at-walk .walk .ensures) in
+    (at-if1 .if1 .left, walked-long (inputs-read (lent at-judge) clear) walked)
 
 same-length : tie.Need-same-length
 same-length c = search needs
 
 returns-3 : tie.Need-returns-3
-returns-3 c = match-yes (lent (c .before .before .before .before .before .before .before .before .before .before .before)) _ _ (clears (c .before .before .before .before .before .before .before .before .before .before .before) (c .before .before .before .before .before .before .before .before .before .enum-told .given .1)) (c .before .before .before .before .before .before .before .before .if1 .left) (walked-as true (c .before .before .before .before .before .if2 .taken) (c .before .before .before .before .before .before .walk .ensures)) (c .before .before .fill-table .ensures)
+returns-3 c =
+    let at-fill-table = c .before .before in
+    let at-if2 = at-fill-table .before .before .before in
+    let at-walk = at-if2 .before in
+    let at-if1 = at-walk .before .before in
+    let at-enum-told = at-if1 .before in
+    let at-judge = at-enum-told .before .before in
+    let clear = clears at-judge (at-enum-told .enum-told .given .1) in
+    let walked = walked-as true (at-if2 .if2 .taken) (at-walk .walk .ensures) in
+    match-yes (lent at-judge) _ _ clear (at-if1 .if1 .left) walked (at-fill-table .fill-table .ensures)
 
 returns-4 : tie.Need-returns-4
-returns-4 c = match-no (lent (c .before .before .before .before .before .before)) _ _ (clears (c .before .before .before .before .before .before) (c .before .before .before .before .enum-told .given .1)) (c .before .before .before .if1 .left) (walked-as false (c .if2 .left) (c .before .walk .ensures)) refl
+returns-4 c =
+    let at-walk = c .before in
+    let at-if1 = at-walk .before .before in
+    let at-enum-told = at-if1 .before in
+    let at-judge = at-enum-told .before .before in
+    let clear = clears at-judge (at-enum-told .enum-told .given .1) in
+    let walked = walked-as false (c .if2 .left) (at-walk .walk .ensures) in
+    match-no (lent at-judge) _ _ clear (at-if1 .if1 .left) walked refl
 
 pub match-pattern-spec : {M : Type 1} → statement M
 match-pattern-spec =

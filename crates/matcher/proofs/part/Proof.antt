@@ -17,14 +17,24 @@ use Rattle.matcher.proofs.Calls.{Lent, inputs-read, part-refused, part-
 use Rattle.matcher.proofs.part.Statement.{statement}
 use Rattle.matcher.proofs.part.Tie as tie
 
-lent : (c : tie.After-judge) → let a = c .before .before .before .before .args in Lent (now (a .vocabulary)) (now (a .pattern)) (now (a .situation))
-lent c = record {
-  vocabulary = bytes-of (c .before .before .before .before .args .vocabulary .now) (λ i. c .before .before .before .shared-slice-known .given i .fits);
-  pattern = bytes-of (c .before .before .before .before .args .pattern .now) (λ i. c .before .before .shared-slice-known2 .given i .fits);
-  situation = bytes-of (c .before .before .before .before .args .situation .now) (λ i. c .before .shared-slice-known3 .given i .fits);
-}
+-- The lent inputs are bytes.
+lent : (c : tie.After-judge) →
+    let a = c .before .before .before .before .args in
+    Lent (now (a .vocabulary)) (now (a .pattern)) (now (a .situation))
+lent c =
+    let at-third = c .before in
+    let at-second = at-third .before in
+    let at-first = at-second .before in
+    let a = at-first .before .args in
+    record {
+      vocabulary = bytes-of (a .vocabulary .now) (λ i. at-first .shared-slice-known .given i .fits);
+      pattern = bytes-of (a .pattern .now) (λ i. at-second .shared-slice-known2 .given i .fits);
+      situation = bytes-of (a .situation .now) (λ i. at-third .shared-slice-known3 .given i .fits);
+    }
 
-clears : (c : tie.After-judge) → c .judge .result ≡ Clear → let a = c .before .before .before .before .args in
+-- The inputs are judged to be in order.
+clears : (c : tie.After-judge) → c .judge .result ≡ Clear →
+    let a = c .before .before .before .before .args in
     accepted [] ≡ clearReply (judged (now (a .vocabulary)) (now (a .pattern)) (now (a .situation)))
 clears c e = sym (ap inputsNumbers e) ∙ c .judge .ensures
 
@@ -45,8 +55,12 @@ part-result-end c = zero≤
 
 returns : tie.Need-returns
 returns c =
-    let h = part-refused (lent (c .before .before .before)) _ (c .before .enum-told .given .0 .0) (sym (ap inputsNumbers (c .before .enum-told .given .1)) ∙ c .before .before .before .judge .ensures) in
-    let at = h (c .before .before .before .before .before .before .before .args .situation .ptr .1) in
+    let at-enum-told = c .before in
+    let at-judge = at-enum-told .before .before in
+    let start = at-judge .before .before .before .before in
+    let refusal = sym (ap inputsNumbers (at-enum-told .enum-told .given .1)) ∙ at-judge .judge .ensures in
+    let h = part-refused (lent at-judge) _ (at-enum-told .enum-told .given .0 .0) refusal in
+    let at = h (start .args .situation .ptr .1) in
     (at .0, (refl, (omega arith, at .1)))
 
 enum-told-2 : tie.Need-enum-told-2
@@ -63,43 +77,67 @@ part-result-end-2 c = zero≤
 
 returns-2 : tie.Need-returns-2
 returns-2 c =
-    let h = part-above (lent (c .before .before .before .before)) _ (clears (c .before .before .before .before) (c .before .before .enum-told2 .given .1)) (c .before .if1 .taken) in
-    let at = h (c .before .before .before .before .before .before .before .before .args .situation .ptr .1) in
+    let at-if1 = c .before in
+    let at-enum-told2 = at-if1 .before in
+    let at-judge = at-enum-told2 .before .before in
+    let start = at-judge .before .before .before .before in
+    let clear = clears at-judge (at-enum-told2 .enum-told2 .given .1) in
+    let h = part-above (lent at-judge) _ clear (at-if1 .if1 .taken) in
+    let at = h (start .args .situation .ptr .1) in
     (at .0, (refl, (omega arith, at .1)))
 
 walk-requires : tie.Need-walk-requires
-walk-requires c κs = (inputs-read (lent (c .before .before .before .before)) (clears (c .before .before .before .before) (c .before .before .enum-told2 .given .1)), refl)
+walk-requires c κs =
+    let at-enum-told2 = c .before .before in
+    let at-judge = at-enum-told2 .before .before in
+    let clear = clears at-judge (at-enum-told2 .enum-told2 .given .1) in
+    (inputs-read (lent at-judge) clear, refl)
 
 mul-wide16 : tie.Need-mul-wide16
-mul-wide16 c = fits-lt (even-slot (name-low (c .before .before .before .if1 .left))) (fits-lit tt)
+mul-wide16 c =
+    let at-if1 = c .before .before .before in
+    fits-lt (even-slot (name-low (at-if1 .if1 .left))) (fits-lit tt)
 
 mul-wide16-2 : tie.Need-mul-wide16-2
-mul-wide16-2 c = scaled-fits _ 128 2 (even-slot (name-low (c .before .before .before .if1 .left))) (lit< tt)
+mul-wide16-2 c =
+    let at-if1 = c .before .before .before in
+    scaled-fits _ 128 2 (even-slot (name-low (at-if1 .if1 .left))) (lit< tt)
 
 array-read-wide16 : tie.Need-array-read-wide16
-array-read-wide16 c = even-slot (name-low (c .before .before .before .if1 .left))
+array-read-wide16 c =
+    let at-if1 = c .before .before .before in
+    even-slot (name-low (at-if1 .if1 .left))
 
 wide16-requires : tie.Need-wide16-requires
 wide16-requires c κs = tt
 
 mul-wide16-3 : tie.Need-mul-wide16-3
-mul-wide16-3 c = fits-lt (even-slot (name-low (c .before .before .before .before .if1 .left))) (fits-lit tt)
+mul-wide16-3 c =
+    let at-if1 = c .before .before .before .before in
+    fits-lt (even-slot (name-low (at-if1 .if1 .left))) (fits-lit tt)
 
 add-wide16 : tie.Need-add-wide16
-add-wide16 c = fits-lt (odd-slot (name-low (c .before .before .before .before .if1 .left))) (fits-lit tt)
+add-wide16 c =
+    let at-if1 = c .before .before .before .before in
+    fits-lt (odd-slot (name-low (at-if1 .if1 .left))) (fits-lit tt)
 
 mul-wide16-4 : tie.Need-mul-wide16-4
-mul-wide16-4 c = scaled-fits _ 128 2 (odd-slot (name-low (c .before .before .before .before .if1 .left))) (lit< tt)
+mul-wide16-4 c =
+    let at-if1 = c .before .before .before .before in
+    scaled-fits _ 128 2 (odd-slot (name-low (at-if1 .if1 .left))) (lit< tt)
 
 array-read-wide16-2 : tie.Need-array-read-wide16-2
-array-read-wide16-2 c = odd-slot (name-low (c .before .before .before .before .if1 .left))
+array-read-wide16-2 c =
+    let at-if1 = c .before .before .before .before in
+    odd-slot (name-low (at-if1 .if1 .left))
 
 wide16-requires-2 : tie.Need-wide16-requires-2
 wide16-requires-2 c κs = tt
 
 add-to : tie.Need-add-to
 add-to c =
-    let from = c .before .wide16 .ensures .1 in
+    let at-wide16 = c .before in
+    let from = at-wide16 .wide16 .ensures .1 in
     let long = c .wide162 .ensures .1 in
     record { fits = omega arith }
 
@@ -111,16 +149,35 @@ part-result-start-3 c = omega arith
 
 part-result-end-3 : tie.Need-part-result-end-3
 part-result-end-3 c =
-    let inside = part-inside (lent (c .before .before .before .before .before .before .before .before)) (c .before .before .before .before .before .before .before .before .before .before .before .before .args .name) (clears (c .before .before .before .before .before .before .before .before) (c .before .before .before .before .before .before .enum-told2 .given .1)) (name-low (c .before .before .before .before .before .if1 .left)) (walked-as true (c .before .before .if2 .taken) (c .before .before .before .walk .ensures)) in
-    let from = c .before .wide16 .ensures .0 in
+    let at-wide16 = c .before in
+    let at-if2 = at-wide16 .before in
+    let at-walk = at-if2 .before in
+    let at-if1 = at-walk .before .before in
+    let at-enum-told2 = at-if1 .before in
+    let at-judge = at-enum-told2 .before .before in
+    let start = at-judge .before .before .before .before in
+    let clear = clears at-judge (at-enum-told2 .enum-told2 .given .1) in
+    let walked = walked-as true (at-if2 .if2 .taken) (at-walk .walk .ensures) in
+    let inside = part-inside (lent at-judge) (start .args .name) clear (name-low (at-if1 .if1 .left)) walked in
+    let from = at-wide16 .wide16 .ensures .0 in
     let long = c .wide162 .ensures .0 in
     omega arith
 
 returns-3 : tie.Need-returns-3
 returns-3 c =
-    let h = part-found (lent (c .before .before .before .before .before .before .before .before .before)) (c .before .before .before .before .before .before .before .before .before .before .before .before .before .args .name) (clears (c .before .before .before .before .before .before .before .before .before) (c .before .before .before .before .before .before .before .enum-told2 .given .1)) (name-low (c .before .before .before .before .before .before .if1 .left)) (walked-as true (c .before .before .before .if2 .taken) (c .before .before .before .before .walk .ensures))
-    (c .before .before .wide16 .result) (c .before .wide162 .result) (c .before .before .wide16 .ensures .0) (c .before .wide162 .ensures .0) in
-    let at = h (c .before .before .before .before .before .before .before .before .before .before .before .before .before .args .situation .ptr .1) in
+    let at-wide162 = c .before in
+    let at-wide16 = at-wide162 .before in
+    let at-if2 = at-wide16 .before in
+    let at-walk = at-if2 .before in
+    let at-if1 = at-walk .before .before in
+    let at-enum-told2 = at-if1 .before in
+    let at-judge = at-enum-told2 .before .before in
+    let start = at-judge .before .before .before .before in
+    let clear = clears at-judge (at-enum-told2 .enum-told2 .given .1) in
+    let walked = walked-as true (at-if2 .if2 .taken) (at-walk .walk .ensures) in
+    let h = part-found (lent at-judge) (start .args .name) clear (name-low (at-if1 .if1 .left)) walked
+    (at-wide16 .wide16 .result) (at-wide162 .wide162 .result) (at-wide16 .wide16 .ensures .0) (at-wide162 .wide162 .ensures .0) in
+    let at = h (start .args .situation .ptr .1) in
     (at .0, (refl, (omega arith, at .1)))
 
 sub-result-4 : tie.Need-sub-result-4
@@ -134,8 +191,15 @@ part-result-end-4 c = zero≤
 
 returns-4 : tie.Need-returns-4
 returns-4 c =
-    let h = part-none (lent (c .before .before .before .before .before .before .before)) _ (clears (c .before .before .before .before .before .before .before) (c .before .before .before .before .before .enum-told2 .given .1)) (walked-as false (c .before .if2 .left) (c .before .before .walk .ensures)) in
-    let at = h (c .before .before .before .before .before .before .before .before .before .before .before .args .situation .ptr .1) in
+    let at-if2 = c .before in
+    let at-walk = at-if2 .before in
+    let at-enum-told2 = at-walk .before .before .before in
+    let at-judge = at-enum-told2 .before .before in
+    let start = at-judge .before .before .before .before in
+    let clear = clears at-judge (at-enum-told2 .enum-told2 .given .1) in
+    let walked = walked-as false (at-if2 .if2 .left) (at-walk .walk .ensures) in
+    let h = part-none (lent at-judge) _ clear walked in
+    let at = h (start .args .situation .ptr .1) in
     (at .0, (refl, (omega arith, at .1)))
 
 pub part-spec : {M : Type 1} → statement M
