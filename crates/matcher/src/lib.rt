@@ -15,9 +15,6 @@ ghost use Rattle.matcher.specs.Walking.{InputsRead, Walked, AtSharedWord
 use inputs::InputsAnswer;
 use inputs::InputsRefusal;
 
-// The bytes of a word's node: the word and its map.
-const NODE: usize = 2;
-
 // Yes or no, or why there is no answer.
 pub enum MatchAnswer {
     Yes,
@@ -43,7 +40,7 @@ fn map_at(t: &[u8], at: usize) -> u8
     requires { ⌜ at + (1 + mapBytes) ≤ length (now t) ⌝ }
     ensures { λ r. ⌜ r ≡ mapAt (now (t .entry)) at ⌝ }
 {
-    t[at + 1]
+    maps::read(t, at + 1)
 }
 
 // How many bits of a map stand.
@@ -73,11 +70,11 @@ fn end_of(s: &[u8], at: usize) -> usize
     while 0 < due {
         if due < 4 {
             due = due - 1 + count(map_at(s, end));
-            end += NODE;
+            end += maps::NODE;
         } else {
-            let second = end + NODE;
-            let third = second + NODE;
-            let fourth = third + NODE;
+            let second = end + maps::NODE;
+            let third = second + maps::NODE;
+            let fourth = third + maps::NODE;
             due = due - 4
                 + count_four(
                     map_at(s, end),
@@ -85,7 +82,7 @@ fn end_of(s: &[u8], at: usize) -> usize
                     map_at(s, third),
                     map_at(s, fourth),
                 );
-            end = fourth + NODE;
+            end = fourth + maps::NODE;
         }
     }
     end
@@ -163,8 +160,8 @@ fn walk_word(p: &[u8], s: &[u8], spans: &mut [u16; 128], from: usize, at: usize)
     let mut frames = [0u16; 32];
     let mut due = frame(map_at(p, from), map_at(s, at));
     let mut depth: usize = 1;
-    let mut i = from + NODE;
-    let mut j = at + NODE;
+    let mut i = from + maps::NODE;
+    let mut j = at + maps::NODE;
     while 0 < depth {
         let places = places_due(due);
         if places == 0 {
@@ -187,8 +184,8 @@ fn walk_word(p: &[u8], s: &[u8], spans: &mut [u16; 128], from: usize, at: usize)
                         }
                         let map = map_at(s, j);
                         let inner = frame(map_at(p, i), map);
-                        i += NODE;
-                        j += NODE;
+                        i += maps::NODE;
+                        j += maps::NODE;
                         if map != 0 {
                             frames[depth] = due;
                             due = inner;

@@ -1,39 +1,34 @@
 // Nodes compared: a word's byte and its map.
-ghost use Prim.Native.Nat.{_≤_};
+ghost use mathlib.Core.Path.{_≡_};
+ghost use Prim.Native.Nat.{_≤_, min};
 ghost use lib.ListN.{length};
 ghost use Rattle.slices.specs.Equal.{Equal};
-ghost use Rattle.nodes.specs.Same.{SameNodes};
-
-// The bytes of a node.
-const NODE: usize = 2;
+ghost use Rattle.nodes.specs.Same.{SameNodes, SharedFront};
 
 // The bytes of 32 nodes, which are compared in one go.
-const BLOCK: usize = 32 * NODE;
+const BLOCK: usize = 32 * maps::NODE;
 
 fn least(a: usize, b: usize) -> usize
-    ensures { λ r. ⌜ (r ≤ a) × (r ≤ b) ⌝ }
+    ensures { λ r. ⌜ r ≡ min a b ⌝ }
 {
-    if a < b {
-        return a;
-    }
-    b
+    if a < b { a } else { b }
 }
 
 // How many bytes of the nodes at the front of two slices are the same. Where a block is the same, the next ones are
 // compared as blocks.
 pub fn same_front(a: &[u8], b: &[u8]) -> usize
-    ensures { λ r. ⌜ SameNodes (now (a .entry)) (now (b .entry)) r ⌝ }
+    ensures { λ r. ⌜ SharedFront (now (a .entry)) (now (b .entry)) r ⌝ }
 {
     let most = least(a.len(), b.len());
     let mut n: usize = 0;
-    while NODE <= most - n {
+    while maps::NODE <= most - n {
         if a[n] != b[n] {
             return n;
         }
         if a[n + 1] != b[n + 1] {
             return n;
         }
-        n += NODE;
+        n += maps::NODE;
         if n % BLOCK == 0 {
             n = same_blocks(a, b, n, most);
         }
@@ -62,10 +57,10 @@ fn same_blocks(a: &[u8], b: &[u8], known: usize, most: usize) -> usize
 pub fn equal(a: &[u8], b: &[u8]) -> bool
     ensures { λ r. ⌜ Equal (now (a .entry)) (now (b .entry)) r ⌝ }
 {
-    if a.len() != NODE {
+    if a.len() != maps::NODE {
         return slices::equal(a, b);
     }
-    if b.len() != NODE {
+    if b.len() != maps::NODE {
         return false;
     }
     if a[0] != b[0] {

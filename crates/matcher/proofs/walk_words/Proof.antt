@@ -27,7 +27,7 @@ on : (c : tie.After-same-front Inv-loop μ-loop) →
     let a = at-loop .before .before .before .args in
     let l = at-loop .loop in
     Going (now (a .p)) (now (a .s)) (l .spans) (l .i + c .same-front .result) (l .j + c .same-front .result)
-on c = let at-loop = c .before .before .before .before in going-same (read c) (at-loop .loop .inv) (c .same-front .ensures)
+on c = let at-loop = c .before .before .before .before in going-same (read c) (at-loop .loop .inv) (c .same-front .ensures .shares)
 
 loop-holds : tie.Need-loop-holds Inv-loop μ-loop
 loop-holds c =
@@ -64,12 +64,12 @@ same-front-requires c κs = tt
 add-i : tie.Need-add-i Inv-loop μ-loop
 add-i c =
     let at-loop = c .before .before .before .before in
-    offset-fits (same-pattern (read c) (at-loop .loop .inv) (c .same-front .ensures)) (read c .held .pattern .limits .most)
+    offset-fits (same-pattern (read c) (at-loop .loop .inv) (c .same-front .ensures .shares)) (read c .held .pattern .limits .most)
 
 add-j : tie.Need-add-j Inv-loop μ-loop
 add-j c =
     let at-loop = c .before .before .before .before in
-    offset-fits (same-situation (read c) (at-loop .loop .inv) (c .same-front .ensures)) (read c .held .situation .limits .most)
+    offset-fits (same-situation (read c) (at-loop .loop .inv) (c .same-front .ensures .shares)) (read c .held .situation .limits .most)
 
 shared-slice-read-b : tie.Need-shared-slice-read-b Inv-loop μ-loop
 shared-slice-read-b c =

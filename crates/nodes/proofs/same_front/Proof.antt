@@ -1,5 +1,6 @@
 -- `nodes::same_front` meets its contract.
-use Prim.Native.Nat.{_+_, _-_, _≤_}
+use mathlib.Core.Path.{_≡_}
+use Prim.Native.Nat.{_+_, _-_, _≤_, min}
 use native.Mathlib.Omega.{arith}
 use denote.Ref.{now}
 use lib.ListN.{length}
@@ -10,7 +11,7 @@ use Rattle.nodes.proofs.same_front.Statement.{statement}
 use Rattle.nodes.proofs.same_front.Tie as tie
 
 abbrev Inv-loop : tie.InvT-loop
-Inv-loop a b most n₀ n = SameNodes a b n × (n ≤ most) × (most ≤ length a) × (most ≤ length b)
+Inv-loop a b most n₀ n = SameNodes a b n × (n ≤ most) × (most ≤ length a) × (most ≤ length b) × (most ≡ min (length a) (length b))
 
 abbrev μ-loop : tie.MeasureT-loop
 μ-loop a b most n₀ n = most - n
@@ -32,7 +33,7 @@ least-requires : tie.Need-least-requires Inv-loop μ-loop
 least-requires c κs = search needs
 
 loop-holds : tie.Need-loop-holds Inv-loop μ-loop
-loop-holds c = let most = c .least .ensures in (same-none, omega arith, most .0, most .1)
+loop-holds c = let most = c .least .ensures in (same-none, omega arith, omega arith, omega arith, most)
 
 sub-loop : tie.Need-sub-loop Inv-loop μ-loop
 sub-loop c = search needs
@@ -46,7 +47,7 @@ shared-slice-read-if1-2 c = search needs
 returns : tie.Need-returns Inv-loop μ-loop
 returns c =
     let at-loop = c .before .before .before .before in
-    at-loop .loop .inv .0
+    record { shares = at-loop .loop .inv .0; most = λ first second word map. c .if1 .taken word }
 
 add-if2 : tie.Need-add-if2 Inv-loop μ-loop
 add-if2 c = search needs
@@ -63,7 +64,7 @@ shared-slice-read-if2-2 c = search needs
 returns-2 : tie.Need-returns-2 Inv-loop μ-loop
 returns-2 c =
     let at-loop = c .before .before .before .before .before .before .before in
-    at-loop .loop .inv .0
+    record { shares = at-loop .loop .inv .0; most = λ first second word map. c .if2 .taken map }
 
 add-n : tie.Need-add-n Inv-loop μ-loop
 add-n c = search needs
@@ -83,7 +84,7 @@ loop-less c =
 loop-again : tie.Need-loop-again Inv-loop μ-loop
 loop-again c =
     let at-loop = c .before .before .before .before .before .before .before .before .before in
-    (c .same-blocks .ensures .0, c .same-blocks .ensures .1 .1, at-loop .loop .inv .2, at-loop .loop .inv .3)
+    (c .same-blocks .ensures .0, c .same-blocks .ensures .1 .1, at-loop .loop .inv .2, at-loop .loop .inv .3, at-loop .loop .inv .4)
 
 loop-less-2 : tie.Need-loop-less-2 Inv-loop μ-loop
 loop-less-2 c =
@@ -95,12 +96,14 @@ loop-again-2 c =
     let at-if2 = c .before in
     let at-loop-test = at-if2 .before .before .before .before .before .before in
     let at-loop = at-loop-test .before in
-    let room = at-loop-test .loop-test .taken in (longer at-if2, omega arith, at-loop .loop .inv .2, at-loop .loop .inv .3)
+    let room = at-loop-test .loop-test .taken in (longer at-if2, omega arith, at-loop .loop .inv .2, at-loop .loop .inv .3, at-loop .loop .inv .4)
 
 returns-3 : tie.Need-returns-3 Inv-loop μ-loop
 returns-3 c =
     let at-loop = c .before in
-    at-loop .loop .inv .0
+    let over = c .loop-test .left in
+    let most = at-loop .loop .inv .4 in
+    record { shares = at-loop .loop .inv .0; most = λ first second word map. omega arith }
 
 pub same-front-spec : {M : Type 1} → statement M
 same-front-spec =
