@@ -1,5 +1,7 @@
 -- `matcher::count_four` meets its contract.
+use Prim.Native.Nat.{_+_, _*_, _≤_}
 use native.Mathlib.Omega.{arith}
+use lib.Count.{ones}
 use borrow.Author.Needs.{needs}
 use Rattle.matcher.proofs.Counts.{ones-four, four-few}
 use Rattle.matcher.proofs.count_four.Statement.{statement}
@@ -23,11 +25,19 @@ mul-result c = search needs
 add-result : tie.Need-add-result
 add-result c = search needs
 
+-- At most 32 bits stand.
+few : (c : tie.Start) → let a = c .args in ones (a .a + 256 * a .b + 65536 * (a .c + 256 * a .d)) ≤ 32
+few c =
+    let a = c .args in
+    four-few (a .a) (a .b) (a .c) (a .d) (omega arith) (omega arith) (omega arith) (omega arith)
+
 cast-result : tie.Need-cast-result
-cast-result c = omega (arith, four-few (c .args .a) (c .args .b) (c .args .c) (c .args .d) (omega arith) (omega arith) (omega arith) (omega arith))
+cast-result c = omega (arith, few c)
 
 returns : tie.Need-returns
-returns c = (ones-four (c .args .a) (c .args .b) (c .args .c) (c .args .d) (omega arith) (omega arith) (omega arith), four-few (c .args .a) (c .args .b) (c .args .c) (c .args .d) (omega arith) (omega arith) (omega arith) (omega arith))
+returns c =
+    let a = c .args in
+    (ones-four (a .a) (a .b) (a .c) (a .d) (omega arith) (omega arith) (omega arith), few c)
 
 pub count-four-spec : {M : Type 1} → statement M
 count-four-spec =

@@ -132,7 +132,13 @@ loop-again-2 c =
     let at-map-at2 = at-map-at3 .before in
     let at-if1 = at-map-at2 .before in
     let at-loop = at-if1 .before .before in
-    rw (c .count-four .ensures .0, at-map-at2 .map-at2 .ensures, at-map-at3 .map-at3 .ensures, at-map-at4 .map-at4 .ensures, at-map-at5 .map-at5 .ensures) (ending-four (at-loop .loop .inv) (at-if1 .if1 .left))
+    rw (
+      c .count-four .ensures .0,
+      at-map-at2 .map-at2 .ensures,
+      at-map-at3 .map-at3 .ensures,
+      at-map-at4 .map-at4 .ensures,
+      at-map-at5 .map-at5 .ensures,
+    ) (ending-four (at-loop .loop .inv) (at-if1 .if1 .left))
 
 returns : tie.Need-returns Inv-loop μ-loop
 returns c =
