@@ -6,7 +6,7 @@ use mir.Facts.{fits-lt, fits-lit}
 use denote.Ref.{now}
 use lib.Dec.{lit<}
 use lib.ListN.{length}
-use borrow.Author.Needs.{scaled-fits}
+use borrow.Author.Needs.{needs, scaled-fits}
 use Rattle.matcher.proofs.Offsets.{offset-fits}
 use Rattle.matcher.proofs.Ending.{ends-inside}
 use Rattle.matcher.proofs.Parts.{even-slot, odd-slot, covered-new, covered-short, covered-same, covered-other}
@@ -131,10 +131,7 @@ part-equal-end : tie.Need-part-equal-end
 part-equal-end c = noted-inside c
 
 add-equal-2 : tie.Need-add-equal-2
-add-equal-2 c =
-    let at-wide162 = c .before in
-    let start = at-wide162 .before .before .before .before .before .before .before in
-    offset-fits (part-inside at-wide162) (start .pre .1 .0 .1)
+add-equal-2 c = search needs
 
 sub-equal-2 : tie.Need-sub-equal-2
 sub-equal-2 c = omega arith
@@ -143,9 +140,7 @@ part-equal-start-2 : tie.Need-part-equal-start-2
 part-equal-start-2 c = omega arith
 
 part-equal-end-2 : tie.Need-part-equal-end-2
-part-equal-end-2 c =
-    let at-wide162 = c .before in
-    part-inside at-wide162
+part-equal-end-2 c = search needs
 
 equal-requires : tie.Need-equal-requires
 equal-requires c κs = tt
