@@ -31,6 +31,8 @@ use Rattle.wire.specs.EntryBytes.{spots, spotsBytes}
 use Rattle.wire.specs.EntryMaps.{Stands, bitSpots}
 use Rattle.wire.proofs.EntryBytes.{spots-bytes-append}
 use Rattle.wire.proofs.EntryWalk.{flags-at, copy-patched}
+use Rattle.maps.specs.Writing.{mapPut}
+use Rattle.maps.proofs.Writing.{map-set}
 use Rattle.complement.specs.Entering.{Written, TermAt, TermListed, PlacesAt, PlacesListed}
 use Rattle.complement.proofs.Writing.{part, back, part-room, written-none, written-more, written-length}
 
@@ -143,9 +145,10 @@ module _ {copy : List ℕ} {at map words : ℕ} {results : List ℕ} {left : ℕ
   }
 
   module _ {b next n bits : ℕ} {copied out : List ℕ} (r : Reached b next n bits copied out) where
-    set-map : (k : ℕ) → set copied (at + 1) k ≡ kept-up-to k
-    set-map k =
-        ap₂ (λ l i. set l (i + 1) k) (r .stands) (sym (h .begins))
+    put-map : (k : ℕ) → mapPut k copied (at + 1) ≡ kept-up-to k
+    put-map k =
+        sym (map-set copied (at + 1) k)
+        ∙ ap₂ (λ l i. set l (i + 1) k) (r .stands) (sym (h .begins))
         ∙ copy-patched (h .front) f (r .current) k (encodeAll W (h .terms) ++ h .rest)
 
     pub copied-length : length copied ≡ length copy
@@ -169,8 +172,8 @@ module _ {copy : List ℕ} {at map words : ℕ} {results : List ℕ} {left : ℕ
     done-inside = omega (arith, r .written .count, room-done, out-length)
 
     -- No bit stands from b on.
-    pub reached-all : bits ≡ 0 → PlacesListed h (set copied (at + 1) map) before out next n
-    reached-all z =
+    pub reached-all : {restored : List ℕ} → restored ≡ mapPut map copied (at + 1) → bits ≡ 0 → PlacesListed h restored before out next n
+    reached-all put z =
         let low = r .low in
         let off = none-above (mapBits - b) b map (omega arith) (sym (r .shifted) ∙ z) in
         let none : r .terms ≡ nil = terms-none W (drop b (flags map)) (r .terms) off (r .due) in
@@ -182,7 +185,7 @@ module _ {copy : List ℕ} {at map words : ℕ} {results : List ℕ} {left : ℕ
         ∙ append-nil (r .done) in
         record {
           passed = omega (arith, r .offset, ap length body-is);
-          restored = set-map map ∙ sym (h .stands);
+          restored = put ∙ put-map map ∙ sym (h .stands);
           written = subst (λ bytes. Written bytes before n out) (sym all-done) (r .written);
         }
 
@@ -216,7 +219,7 @@ module _ {copy : List ℕ} {at map words : ℕ} {results : List ℕ} {left : ℕ
             written = r .written;
           }
 
-      module _ {k : ℕ} (one : bits % 2 ≡ 1) (keeps : k ≡ map % 2 ^ suc b) where
+      module _ {k : ℕ} (one : bits % 2 ≡ 1) (keeps : k ≡ map % 2 ^ suc b) {patched : List ℕ} (put : patched ≡ mapPut k copied (at + 1)) where
         abbrev ws : List Bool
         ws = drop (b + 1) (flags map)
 
@@ -264,7 +267,7 @@ module _ {copy : List ℕ} {at map words : ℕ} {results : List ℕ} {left : ℕ
         deep-both = subst (λ ts. suc (levelsAll ts) ≤ left) (split .same) (r .deep)
 
         -- The term at this bit, in the copy whose map is kept up to it.
-        pub place-term : TermAt (set copied (at + 1) k) next words results (left - 1) (length (part n out))
+        pub place-term : TermAt patched next words results (left - 1) (length (part n out))
         place-term = record {
           vocabulary = W;
           front = next-front;
@@ -273,12 +276,13 @@ module _ {copy : List ℕ} {at map words : ℕ} {results : List ℕ} {left : ℕ
           rest = encodeAll W us ++ h .rest;
           inOrder = h .inOrder;
           tabled = h .tabled;
-          size = omega (arith, length-set copied (at + 1) k, copied-length, h .size);
+          size = omega (arith, ap length (put ∙ sym (map-set copied (at + 1) k)), length-set copied (at + 1) k, copied-length, h .size);
           begins = omega (arith, length-append (h .front) (f ∷ (writeMap k ++ r .body)), h .begins, r .offset);
           sorted = here .0 .1;
           closed = here .1;
           stands =
-              set-map k
+              put
+              ∙ put-map k
               ∙ ap (λ l. h .front ++ (f ∷ (writeMap k ++ (l ++ h .rest)))) (sym whole-here)
               ∙ simp append-assoc;
           deep = let d = deep-both in omega (arith, le-max-left (levels t) (levelsAll us));
@@ -296,7 +300,7 @@ module _ {copy : List ℕ} {at map words : ℕ} {results : List ℕ} {left : ℕ
             low = omega (arith, is-bit);
             shifted = shifted-next;
             whole = append-assoc (r .body) (encodeAt W t) (encodeAll W us) ∙ whole-here;
-            stands = l .restored ∙ set-map k;
+            stands = l .restored ∙ put ∙ put-map k;
             offset = omega (arith, l .passed, r .offset, length-append (r .body) (encodeAt W t));
             due = here .2;
             deep = let d = deep-both in omega (arith, le-max-right (levels t) (levelsAll us));
@@ -311,5 +315,5 @@ module _ {copy : List ℕ} {at map words : ℕ} {results : List ℕ} {left : ℕ
   -- A word with no written bit.
   pub places-none : map ≡ 0 → PlacesListed h copy before before (at + 2) 0
   places-none e =
-      let p = reached-all (reached-none {bits = map} refl) e in
+      let p = reached-all (reached-none {bits = map} refl) refl e in
       record { passed = p .passed; restored = refl; written = p .written }

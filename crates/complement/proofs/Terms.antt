@@ -128,21 +128,21 @@ module _ {copy : List ℕ} {at words : ℕ} {results : List ℕ} {left room : �
 
 -- A word: its own entries, then those of its places.
 module _ {copy : List ℕ} {at words : ℕ} {results : List ℕ} {left : ℕ} (before : List ℕ)
-    (h : TermAt copy at words results left (length before)) (w : Word h) {g : ℕ} (same : g ≡ getD copy at 0) where
+    (h : TermAt copy at words results left (length before)) (w : Word h) {g : ℕ} (same : g ≡ getD copy at 0) {m : ℕ} (mapped : m ≡ getD copy (at + 1) 0) where
   abbrev U : Vocabulary
   U = h .vocabulary
 
   abbrev f : ℕ
   f = getD copy at 0
 
-  abbrev m : ℕ
-  m = getD copy (at + 1) 0
-
   abbrev ts : Terms
   ts = closed (w .terms)
 
   sorted : Sorted (signature U) (app f (w .terms)) (h .kind)
   sorted = subst (λ t. Sorted (signature U) t (h .kind)) (w .same) (h .sorted)
+
+  map-is : m ≡ writtenMap U f (w .terms)
+  map-is = mapped ∙ w .map
 
   abbrev own-bytes : List ℕ
   own-bytes = othersBytes (take at copy) (othersIn words results g)
@@ -162,7 +162,7 @@ module _ {copy : List ℕ} {at words : ℕ} {results : List ℕ} {left : ℕ} (b
   all-bytes =
       ap (λ t. spotsBytes U (spots U t (h .front))) (w .same)
       ∙ ap (spotsBytes U) (spots-by-bits U (h .inOrder) f (w .terms) (h .kind) sorted (h .front))
-      ∙ ap₂ (λ l m. l ++ spotsBytes U (bitSpots U f m (h .front) (flags m) 0 [] ts)) own-others (sym (w .map))
+      ∙ ap₂ (λ l m. l ++ spotsBytes U (bitSpots U f m (h .front) (flags m) 0 [] ts)) own-others (sym map-is)
 
   room-both : length own-bytes + length place-bytes ≤ length before
   room-both = let fits = h .fits in omega (arith, ap length all-bytes, length-append own-bytes place-bytes)
@@ -175,7 +175,7 @@ module _ {copy : List ℕ} {at words : ℕ} {results : List ℕ} {left : ℕ} (b
       h .stands
       ∙ ap (λ t. h .front ++ (encodeAt U t ++ h .rest)) (w .same)
       ∙ ap (λ l. h .front ++ l) (word-bytes U f (w .terms) (h .rest))
-      ∙ ap (λ m. h .front ++ (f ∷ (writeMap m ++ (encodeAll U ts ++ h .rest)))) (sym (w .map))
+      ∙ ap (λ m. h .front ++ (f ∷ (writeMap m ++ (encodeAll U ts ++ h .rest)))) (sym map-is)
 
   module _ {after : List ℕ} {n : ℕ} (l : Written own-bytes before n after) where
     pub own-length : length after ≡ length before
@@ -196,7 +196,7 @@ module _ {copy : List ℕ} {at words : ℕ} {results : List ℕ} {left : ℕ} (b
       size = h .size;
       begins = h .begins;
       stands = stands-here;
-      due = subst (λ m. Stands U (flags m) ts) (sym (w .map)) (closed-stands U (h .inOrder) f (w .terms) (h .kind) sorted);
+      due = subst (λ m. Stands U (flags m) ts) (sym map-is) (closed-stands U (h .inOrder) f (w .terms) (h .kind) sorted);
       deep = omega (arith, h .deep, ap levels (w .same), closed-levels (w .terms));
       fits = omega (arith, room-both, part-room l own-room);
     }

@@ -3,7 +3,7 @@ ghost use mathlib.Core.Path.{_≡_};
 ghost use mathlib.Core.List.{_∷_, _++_};
 ghost use Prim.Native.Nat.{_+_, _≤_, _<_, _%_, _^_, suc};
 ghost use lib.ListN.{length, take, drop};
-ghost use Rattle.wire.specs.Map.{writeMap};
+ghost use Rattle.wire.specs.Map.{mapBits, mapBytes, writeMap};
 ghost use Rattle.wire.specs.Leftovers.{ListPromise};
 ghost use Rattle.wire.specs.Effect.{HasEffect};
 ghost use Rattle.wire.specs.ListComputed.{listed};
@@ -34,7 +34,7 @@ fn wide(b: u8) -> usize
 
 // The lowest bits of a map, up to bit b.
 fn kept(map: u8, b: usize) -> u8
-    requires { ⌜ b < 8 ⌝ }
+    requires { ⌜ b < mapBits ⌝ }
     ensures { λ r. ⌜ r ≡ map % 2 ^ suc b ⌝ }
 {
     (wide(map) % (2usize << b)) as u8
@@ -43,12 +43,12 @@ fn kept(map: u8, b: usize) -> u8
 // Writes the first n bytes of the copy, a word's number and an empty map.
 fn write_entry(copy: &[u8], n: usize, word: u8, out: &mut [u8])
     requires { ⌜ n ≤ length (now copy) ⌝ }
-    requires { ⌜ n + 2 ≤ length (now out) ⌝ }
-    ensures { λ _. ⌜ now (out .exit) ≡ (take n (now (copy .entry)) ++ (word ∷ writeMap 0)) ++ drop (n + 2) (now (out .entry)) ⌝ }
+    requires { ⌜ n + (1 + mapBytes) ≤ length (now out) ⌝ }
+    ensures { λ _. ⌜ now (out .exit) ≡ (take n (now (copy .entry)) ++ (word ∷ writeMap 0)) ++ drop (n + (1 + mapBytes)) (now (out .entry)) ⌝ }
 {
     slices::copy(&copy[..n], &mut out[..n]);
     out[n] = word;
-    out[n + 1] = 0;
+    maps::write(0, out, n + 1);
 }
 
 // An entry for every other word of the result kind of f, each into the rest of the lent slice behind the one before it.
@@ -111,10 +111,10 @@ fn list_term(
             written: 0,
         };
     }
-    let map = copy[at + 1];
+    let map = maps::read(copy, at + 1);
     let n = write_others(copy, at, wide(first), words, results, chains, out);
     if map == 0 {
-        let end = at + 2;
+        let end = at + maps::NODE;
         return Progress {
             at: end,
             written: n,
@@ -143,7 +143,7 @@ fn list_places(
     ensures { λ r. ⌜ ListsPlaces (now (copy .entry)) at map words (now (results .entry)) left (now (out .entry)) (now (copy .exit)) (now (out .exit)) (r .at) (r .written) ⌝ }
 {
     let mut n = 0;
-    let mut next = at + 2;
+    let mut next = at + maps::NODE;
     let mut b = 0;
     let mut bits = wide(map);
     while bits != 0 {
@@ -152,13 +152,13 @@ fn list_places(
         b += 1;
         bits = bits / 2;
         if bit == 1 {
-            copy[at + 1] = kept(map, place);
+            maps::write(kept(map, place), copy, at + 1);
             let here = list_term(copy, next, words, results, chains, left - 1, &mut out[n..]);
             next = here.at;
             n = n + here.written;
         }
     }
-    copy[at + 1] = map;
+    maps::write(map, copy, at + 1);
     Progress {
         at: next,
         written: n,
@@ -198,8 +198,8 @@ fn measure(p: &[u8], words: usize, results: &[u8; 96]) -> Size
         if f < words {
             let n = sibling_count(f, words, results, &counts);
             entries += n;
-            bytes += n * (at + 2);
-            at += 2;
+            bytes += n * (at + maps::NODE);
+            at += maps::NODE;
         } else {
             at += 1;
         }

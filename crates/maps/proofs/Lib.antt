@@ -1,2 +1,3 @@
--- Proofs about reading a map.
+-- Proofs about reading and writing a map.
 pub mod Reading
+pub mod Writing

@@ -1,2 +1,3 @@
--- What the contract of reading a map cites.
+-- What the contracts of reading and writing a map cite.
 pub mod Reading
+pub mod Writing

@@ -1,6 +1,7 @@
 // The width of place maps and written maps: the code has it here and nowhere else.
 ghost use mathlib.Core.Path.{_≡_};
 ghost use Rattle.maps.specs.Reading.{mapAt};
+ghost use Rattle.maps.specs.Writing.{mapPut};
 
 // A map has so many bytes.
 pub const BYTES: usize = 1;
@@ -16,4 +17,14 @@ pub fn read(bytes: &[u8], at: usize) -> u8
         return 0;
     }
     bytes[at]
+}
+
+// Writes a map at an offset. Where a byte of it has no room the bytes are left as they were.
+pub fn write(map: u8, bytes: &mut [u8], at: usize)
+    ensures { λ _. ⌜ now (bytes .exit) ≡ mapPut map (now (bytes .entry)) at ⌝ }
+{
+    if bytes.len() <= at {
+        return;
+    }
+    bytes[at] = map;
 }

@@ -19,7 +19,7 @@ pub fn first_repeat(p: &[u8], words: usize) -> Repeat
         let b = p[at] as usize;
         let here = at;
         if b < words {
-            at = here + 2;
+            at = here + maps::NODE;
         } else {
             at = here + 1;
             if 128 <= b {

@@ -75,10 +75,12 @@ module _ (v : List ℕ) (at k : ℕ) where
     behind-map Ends read = record { reads = reads-as Ends read; inside = tt }
     behind-map (NoSuchKind q) read = record { reads = reads-as (NoSuchKind q) read; inside = read .inside }
 
-    pub record-kinds : (r : WordRead) → KindsRead v (at + 2) (Count.ones (byteAt v (at + 1))) k r → RecordRead v at k r
-    unfolding n
-    record-kinds r read = behind-map r (rw (ones-count (byteAt v (at + 1)) (small (at + 1))) at read)
+    -- The map as it is read.
+    module _ (map : ℕ) (is : map ≡ byteAt v (at + 1)) where
+      pub record-kinds : (r : WordRead) → KindsRead v (at + 2) (Count.ones map) k r → RecordRead v at k r
+      unfolding n
+      record-kinds r read = behind-map r (rw (is, ones-count (byteAt v (at + 1)) (small (at + 1))) at read)
 
-    -- A map of no places.
-    pub record-bare : byteAt v (at + 1) ≡ 0 → RecordRead v at k (Whole 0)
-    record-bare e = record-kinds (Whole 0) (rw (no-ones (byteAt v (at + 1)) e) (kinds-read-whole v (at + 2) k 0 (omega arith) (below-none _)))
+      -- A map of no places.
+      pub record-bare : map ≡ 0 → RecordRead v at k (Whole 0)
+      record-bare e = record-kinds (Whole 0) (rw (no-ones map e) (kinds-read-whole v (at + 2) k 0 (omega arith) (below-none _)))

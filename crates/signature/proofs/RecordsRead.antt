@@ -241,7 +241,7 @@ module _ (v : List ℕ) (n w at : ℕ) (o₀ r₀ m₀ o r m : List ℕ) (tabled
             )
             (tabled .entries f old)
 
-    pub tabled-more : Tabled v n (w + 1) (at + 2 + p) o₀ r₀ m₀ (set o w at) (set r w (byteAt v at)) (set m w (byteAt v (at + 1)))
+    tabled-more : Tabled v n (w + 1) (at + 2 + p) o₀ r₀ m₀ (set o w at) (set r w (byteAt v at)) (set m w (byteAt v (at + 1)))
     tabled-more = record {
       words = tabled .words ++ (wordAt v at p ∷ []);
       passed = omega arith;
@@ -260,3 +260,7 @@ module _ (v : List ℕ) (n w at : ℕ) (o₀ r₀ m₀ o r m : List ℕ) (tabled
       sameResults = length-set r w (byteAt v at) ∙ tabled .sameResults;
       sameMaps = length-set m w (byteAt v (at + 1)) ∙ tabled .sameMaps;
     }
+
+    -- The map as it is read.
+    pub tabled-next : (map : ℕ) → map ≡ byteAt v (at + 1) → Tabled v n (w + 1) (at + 2 + p) o₀ r₀ m₀ (set o w at) (set r w (byteAt v at)) (set m w map)
+    tabled-next map e = rw e tabled-more

@@ -74,15 +74,15 @@ fn read_word(v: &[u8], at: usize, kinds: u8) -> WordRead
     if kinds <= v[at] {
         return WordRead::NoSuchKind(at);
     }
-    if v.len() - at < 2 {
+    if v.len() - at < maps::NODE {
         return WordRead::Ends;
     }
-    let map = v[at + 1];
+    let map = maps::read(v, at + 1);
     if map == 0 {
         return WordRead::Whole(0);
     }
     let places = u8::count_ones(map);
-    read_kinds(v, at + 2, places as usize, kinds)
+    read_kinds(v, at + maps::NODE, places as usize, kinds)
 }
 
 // Reads all records into the tables, and sees that nothing follows the last. An array that is lent on as a slice is
@@ -108,8 +108,8 @@ fn read_words(
             WordRead::Whole(places) => {
                 offsets[w] = at as u16;
                 results[w] = v[at];
-                maps[w] = v[at + 1];
-                at = at + 2 + places;
+                maps[w] = maps::read(v, at + 1);
+                at = at + maps::NODE + places;
                 w += 1;
             }
             WordRead::Ends => {
@@ -160,7 +160,7 @@ fn places_covered<'a>(
     }
     let at = offsets[w] as usize;
     let n = u8::count_ones(map);
-    covered(v, at + 2, n as usize, marked)
+    covered(v, at + maps::NODE, n as usize, marked)
 }
 
 // One round: marks the result kind of every word whose places' kinds are marked. A word of a marked kind adds nothing.

@@ -17,7 +17,7 @@ use lib.Seq.{take-at, drop-at}
 use borrow.Author.Tests.{lt-ltb, le-ltb}
 use Rattle.terms.specs.Lists.{All}
 use Rattle.terms.specs.Term.{Term, any, var, app, Terms, nil, cons, Sorted, SortedAll}
-use Rattle.wire.specs.Map.{flags, bit, ones, isOpen, writtenFlags}
+use Rattle.wire.specs.Map.{mapBytes, flags, bit, ones, isOpen, writtenFlags}
 use Rattle.wire.specs.Vocabulary.{Vocabulary, InOrder, signature, word, mapOf}
 use Rattle.wire.specs.TermBytes.{firstNameByte, writtenMap, encodeAt, encodeAll, encodeRoot, encodeTerm}
 use Rattle.wire.specs.Reply.{Kinded}
@@ -43,7 +43,7 @@ pub due-name : (b : ℕ) (l : List ℕ) (k : ℕ) → firstNameByte ≤ b → du
 due-name b [] k h = refl
 due-name b (m ∷ l) k h = cond-false (ltb b firstNameByte) _ _ (le-ltb b firstNameByte h)
 
-pub due-word : (b m : ℕ) (l : List ℕ) (k : ℕ) → b < firstNameByte → dueSize (b ∷ m ∷ l) (suc k) ≡ suc (suc (dueSize l (ones (flags m) + k)))
+pub due-word : (b m : ℕ) (l : List ℕ) (k : ℕ) → b < firstNameByte → dueSize (b ∷ m ∷ l) (suc k) ≡ 1 + mapBytes + dueSize l (ones (flags m) + k)
 due-word b m l k h = cond-true (ltb b firstNameByte) _ _ (lt-ltb b firstNameByte h)
 
 -- It never goes past the end.
@@ -56,7 +56,7 @@ due-within (b ∷ m ∷ l) (suc k) =
     go (ltb b firstNameByte) (due-within l (ones (flags m) + k)) (due-within (m ∷ l) k)
   where
     go : (t : Bool) → dueSize l (ones (flags m) + k) ≤ length l → dueSize (m ∷ l) k ≤ suc (length l) →
-        cond t (suc (suc (dueSize l (ones (flags m) + k)))) (suc (dueSize (m ∷ l) k)) ≤ suc (suc (length l))
+        cond t (1 + mapBytes + dueSize l (ones (flags m) + k)) (suc (dueSize (m ∷ l) k)) ≤ suc (suc (length l))
     go true h g = omega arith
     go false h g = omega arith
 
@@ -106,8 +106,8 @@ module _ (W : Vocabulary) (inOrder : InOrder W) where
         let l : List ℕ = encodeAll W ts ++ r in
         ap (dueSize (f ∷ writtenMap W f ts ∷ l)) (let e : 1 + k ≡ suc k = omega arith in e)
         ∙ due-word f (writtenMap W f ts) l k (omega arith)
-        ∙ ap (λ (n : ℕ). suc (suc (dueSize l (n + k)))) (map-ones f ts s h)
-        ∙ ap (λ (n : ℕ). suc (suc n)) (due-all ts _ (h .2) k r)
+        ∙ ap (λ (n : ℕ). 1 + mapBytes + dueSize l (n + k)) (map-ones f ts s h)
+        ∙ ap (λ (n : ℕ). 1 + mapBytes + n) (due-all ts _ (h .2) k r)
         ∙ omega arith
 
     due-all : (ts : Terms) (ks : List ℕ) → SortedAll (signature W) ts ks → (k : ℕ) (r : List ℕ) →

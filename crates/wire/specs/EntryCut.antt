@@ -12,7 +12,7 @@ use mathlib.Core.List.{List, [], _∷_}
 use Prim.Native.Nat.{ℕ, zero, suc, _+_}
 use lib.Dec.{ltb}
 use lib.ListN.{take, drop}
-use Rattle.wire.specs.Map.{flags, ones}
+use Rattle.wire.specs.Map.{mapBytes, flags, ones}
 use Rattle.wire.specs.TermBytes.{firstNameByte}
 
 -- A word's number is followed by its map, which makes as many terms due as it has ones; every other byte is a term.
@@ -21,7 +21,7 @@ dueSize [] k = 0
 dueSize (b ∷ []) zero = 0
 dueSize (b ∷ []) (suc k) = 1
 dueSize (b ∷ m ∷ l) zero = 0
-dueSize (b ∷ m ∷ l) (suc k) = cond (ltb b firstNameByte) (suc (suc (dueSize l (ones (flags m) + k)))) (suc (dueSize (m ∷ l) k))
+dueSize (b ∷ m ∷ l) (suc k) = cond (ltb b firstNameByte) (1 + mapBytes + dueSize l (ones (flags m) + k)) (suc (dueSize (m ∷ l) k))
 
 abbrev pub entrySize : List ℕ → ℕ
 entrySize [] = 0

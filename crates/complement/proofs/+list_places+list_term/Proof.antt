@@ -11,14 +11,15 @@
 use borrow.Author.Needs.{needs}
 use borrow.Fn.Kinds.{In, Out}
 use borrow.Fn.PlainCycle.{Measures, is, falls, and}
-use mathlib.Core.Path.{_≡_, ap}
+use mathlib.Core.Path.{_≡_, sym, ap, _∙_}
 use mathlib.Core.List.{List}
 use Prim.Native.Nat.{ℕ, _+_, _-_, _*_, _<_, _≤_}
 use native.Mathlib.Omega.{arith}
 use denote.Ref.{now}
-use lib.ListN.{length, getD, set}
-use Rattle.complement.specs.Entering.{TermAt, TermListed, PlacesAt}
-use Rattle.complement.proofs.Places.{Reached, reached-none, copied-length, map-inside, out-length, done-inside, reached-all, is-bit, reached-clear, place-term, reached-term, both-inside}
+use lib.ListN.{length, getD}
+use Rattle.maps.proofs.Reading.{map-at}
+use Rattle.complement.specs.Entering.{TermAt, TermListed, PlacesAt, PlacesListed}
+use Rattle.complement.proofs.Places.{Reached, reached-none, map-inside, out-length, done-inside, reached-all, is-bit, reached-clear, place-term, reached-term, both-inside}
 use Rattle.complement.proofs.Terms.{Word, term-begun, term-word, name-listed, own-room, own-length, own-inside, word-places, word-listed, word-bare}
 use Rattle.complement.proofs.Writing.{part, back, written-length}
 use Rattle.complement.proofs.list_places.Reads as list-places
@@ -29,6 +30,8 @@ use Rattle.complement.proofs.list_term.Kinds as list-term-kinds
 use Rattle.complement.proofs.+list_places+list_term.Lts-list_term as list-term-lts
 use Rattle.complement.proofs.kept.Reads as kept-reads
 use Rattle.complement.proofs.wide.Reads as wide-reads
+use Rattle.maps.proofs.read.Reads as read-reads
+use Rattle.maps.proofs.write.Reads as write-reads
 use Rattle.complement.proofs.write_others.Reads as write-others-reads
 use Rattle.complement.proofs.+list_places+list_term.{statement}
 use Rattle.complement.proofs.+list_places+list_term.Tie.{close}
@@ -67,12 +70,16 @@ places-claims t = (
   wide-reads.Learnt,
   kept-reads.Asked,
   kept-reads.Learnt,
+  write-reads.Asked,
+  write-reads.Learnt,
   list-term-below t,
   list-term.Post,
 )
 
 abbrev term-claims : ℕ → list-term-lts.Claims
 term-claims t = (
+  read-reads.Asked,
+  read-reads.Learnt,
   wide-reads.Asked,
   wide-reads.Learnt,
   write-others-reads.Asked,
@@ -106,11 +113,11 @@ module _ (t : ℕ) (c : InPlaces list-places-lts.At-loop t) where
   abbrev places : Places
   places = start .pre .1 .1
 
+  small : start .args .map < 256
+  small = omega arith
+
   reached : (h : Places) → Reached before h (c .loop .b) (c .loop .next) (c .loop .n) (c .loop .bits) (c .loop .copy) (c .loop .out)
   reached h = c .loop .inv h
-
-  map-there : start .args .at + 1 < length (c .loop .copy)
-  map-there = omega (arith, map-inside places, copied-length before places (reached places))
 
 list-places-add-next : (t : ℕ) → InPlaces list-places-lts.Need-add-next t
 list-places-add-next t c = let z = map-inside (c .before .before .pre .1 .1) in search needs
@@ -129,57 +136,62 @@ list-places-kept-requires t c κs =
     let at-loop = c .before .before in
     is-bit _ _ (reached t at-loop (places t at-loop)) (omega arith) (c .before .loop-test .taken)
 
-list-places-add-copy : (t : ℕ) → InPlaces list-places-lts.Need-add-copy t
-list-places-add-copy t c = let z = map-inside (places t (c .before .before .before)) in search needs
+list-places-add-write : (t : ℕ) → InPlaces list-places-lts.Need-add-write t
+list-places-add-write t c = let z = map-inside (places t (c .before .before .before .before)) in search needs
 
-list-places-slice-write-copy : (t : ℕ) → InPlaces list-places-lts.Need-slice-write-copy t
-list-places-slice-write-copy t c = let z = map-there t (c .before .before .before) in search needs
+list-places-write-requires : (t : ℕ) → InPlaces list-places-lts.Need-write-requires t
+list-places-write-requires t c κs = search needs
 
 -- ---- list_places, at a bit that stands
 
-module _ (t : ℕ) (c : InPlaces list-places-lts.After-kept t) where
+module _ (t : ℕ) (c : InPlaces list-places-lts.After-write t) where
+  abbrev at-kept : InPlaces list-places-lts.After-kept t
+  at-kept = c .before .before
+
   abbrev at-bit : InPlaces list-places-lts.At-loop t
-  at-bit = c .before .before .before
+  at-bit = at-kept .before .before .before
 
   -- The bit's term stands in the copy.
   abbrev BitTerm : Type 0
   BitTerm =
-      TermAt (set (at-bit .loop .copy) (start t at-bit .args .at + 1) (c .kept .result)) (at-bit .loop .next) (start t at-bit .args .words)
+      TermAt (c .write .last .1 .0) (at-bit .loop .next) (start t at-bit .args .words)
       (now (start t at-bit .args .results)) (start t at-bit .args .left - 1) (length (part (at-bit .loop .n) (at-bit .loop .out)))
 
   abbrev bit-term : (h : Places t at-bit) → BitTerm
   bit-term h =
-      place-term (before t at-bit) h (reached t at-bit h) (omega arith) (c .before .before .loop-test .taken) (c .before .if1 .taken) (c .kept .ensures)
+      place-term (before t at-bit) h (reached t at-bit h) (small t at-bit) (at-kept .before .before .loop-test .taken) (at-kept .before .if1 .taken)
+      (at-kept .kept .ensures) (c .write .ensures)
 
   bit-inside : at-bit .loop .n ≤ length (at-bit .loop .out)
   bit-inside = done-inside _ _ (reached t at-bit (places t at-bit))
 
 list-places-sub-list-term : (t : ℕ) → InPlaces list-places-lts.Need-sub-list-term t
-list-places-sub-list-term t c = let d = places t (at-bit t (c .before)) .deep in omega arith
+list-places-sub-list-term t c = let d = places t (at-bit t (c .before .before .before)) .deep in omega arith
 
 list-places-sub-list-term-2 : (t : ℕ) → InPlaces list-places-lts.Need-sub-list-term-2 t
-list-places-sub-list-term-2 t c = bit-inside t (c .before)
+list-places-sub-list-term-2 t c = bit-inside t (c .before .before .before)
 
 list-places-part-list-term-start : (t : ℕ) → InPlaces list-places-lts.Need-part-list-term-start t
-list-places-part-list-term-start t c = bit-inside t (c .before)
+list-places-part-list-term-start t c = bit-inside t (c .before .before .before)
 
 list-places-part-list-term-end : (t : ℕ) → InPlaces list-places-lts.Need-part-list-term-end t
 list-places-part-list-term-end t c = search needs
 
 list-places-list-term-requires : (t : ℕ) → InPlaces list-places-lts.Need-list-term-requires t
 list-places-list-term-requires t c κs =
-    let at-kept = c .before .before in
-    let at-loop = at-bit t at-kept in
+    let at-write = c .before .before .before .before in
+    let at-loop = at-bit t at-write in
     let begun = start t at-loop in
-    (omega (arith, begun .pre .0, places t at-loop .deep), (begun .pre .1 .0, bit-term t at-kept (places t at-loop)))
+    (omega (arith, begun .pre .0, places t at-loop .deep), (begun .pre .1 .0, bit-term t at-write (places t at-loop)))
 
 list-places-add-n : (t : ℕ) → InPlaces list-places-lts.Need-add-n t
 list-places-add-n t c =
     let at-term = c .before .before .before .before .before in
-    let at-kept = at-term .before .before .before in
-    let at-loop = at-bit t at-kept in
+    let at-write = at-term .before .before .before .before .before in
+    let kept = at-kept t at-write in
+    let at-loop = at-bit t at-write in
     let h = places t at-loop in
-    let z = both-inside _ h (reached t at-loop h) (omega arith) (at-kept .before .before .loop-test .taken) (at-kept .before .if1 .taken) (at-kept .kept .ensures) (at-term .list-term .ensures (bit-term t at-kept h)) in
+    let z = both-inside _ h (reached t at-loop h) (small t at-loop) (kept .before .before .loop-test .taken) (kept .before .if1 .taken) (kept .kept .ensures) (at-write .write .ensures) (at-term .list-term .ensures (bit-term t at-write h)) in
     record { fits = omega (arith, z, start t at-loop .good .1 .1 .1 .1 .1 .1 .1 .0 .0) }
 
 list-places-loop-less : (t : ℕ) → InPlaces list-places-lts.Need-loop-less t
@@ -188,8 +200,10 @@ list-places-loop-less t c = search needs
 list-places-loop-again : (t : ℕ) → InPlaces list-places-lts.Need-loop-again t
 list-places-loop-again t c =
     let at-term = c .before .before .before .before .before in
-    let at-kept = at-term .before .before .before in
-    λ h. reached-term _ h (reached t (at-bit t at-kept) h) (omega arith) (at-kept .before .before .loop-test .taken) (at-kept .before .if1 .taken) (at-kept .kept .ensures) (at-term .list-term .ensures (bit-term t at-kept h))
+    let at-write = at-term .before .before .before .before .before in
+    let kept = at-kept t at-write in
+    let at-loop = at-bit t at-write in
+    λ h. reached-term _ h (reached t at-loop h) (small t at-loop) (kept .before .before .loop-test .taken) (kept .before .if1 .taken) (kept .kept .ensures) (at-write .write .ensures) (at-term .list-term .ensures (bit-term t at-write h))
 
 -- ---- list_places, at a bit that is clear, and at the end
 
@@ -200,22 +214,32 @@ list-places-loop-again-2 : (t : ℕ) → InPlaces list-places-lts.Need-loop-agai
 list-places-loop-again-2 t c =
     λ h. reached-clear _ h (reached t (c .before .before) h) (omega arith) (c .before .loop-test .taken) (c .if1 .left)
 
-list-places-add-copy-2 : (t : ℕ) → InPlaces list-places-lts.Need-add-copy-2 t
-list-places-add-copy-2 t c = let z = map-inside (places t (c .before)) in search needs
+list-places-add-write-2 : (t : ℕ) → InPlaces list-places-lts.Need-add-write-2 t
+list-places-add-write-2 t c = let z = map-inside (places t (c .before .before)) in search needs
 
-list-places-slice-write-copy-2 : (t : ℕ) → InPlaces list-places-lts.Need-slice-write-copy-2 t
-list-places-slice-write-copy-2 t c = let z = map-there t (c .before) in search needs
+list-places-write-requires-2 : (t : ℕ) → InPlaces list-places-lts.Need-write-requires-2 t
+list-places-write-requires-2 t c κs = search needs
+
+-- The map is the pattern's again.
+module _ (t : ℕ) (c : InPlaces list-places-lts.After-write2 t) where
+  abbrev at-end : InPlaces list-places-lts.At-loop t
+  at-end = c .before .before .before
+
+  all-places : (h : Places t at-end) → PlacesListed h (c .write2 .last .1 .0) (before t at-end) (at-end .loop .out) (at-end .loop .next) (at-end .loop .n)
+  all-places h = reached-all _ h (reached t at-end h) (c .write2 .ensures) (c .before .before .loop-test .left)
 
 list-places-same-length : (t : ℕ) → InPlaces list-places-lts.Need-same-length t
 list-places-same-length t c =
-    let at-loop = c .before in
-    ap length (reached-all _ _ (reached t at-loop (places t at-loop)) (c .loop-test .left) .restored)
+    let at-write = c .before .before in
+    ap length (all-places t at-write (places t (at-end t at-write)) .restored)
 
 list-places-same-length-2 : (t : ℕ) → InPlaces list-places-lts.Need-same-length-2 t
-list-places-same-length-2 t c = out-length _ _ (reached t (c .before) (places t (c .before)))
+list-places-same-length-2 t c =
+    let at-loop = at-end t (c .before .before) in
+    out-length _ _ (reached t at-loop (places t at-loop))
 
 list-places-returns : (t : ℕ) → InPlaces list-places-lts.Need-returns t
-list-places-returns t c = λ h. reached-all _ h (reached t (c .before) h) (c .loop-test .left)
+list-places-returns t c = λ h. all-places t (c .before .before) h
 
 -- ---- list_term, at a term
 
@@ -228,11 +252,11 @@ list-term-add-end t c = let z = term-begun (c .before .before .before .before .p
 list-term-returns : (t : ℕ) → InTerm list-term-lts.Need-returns t
 list-term-returns t c = λ h. name-listed h (c .if1 .taken) _
 
-list-term-add-map : (t : ℕ) → InTerm list-term-lts.Need-add-map t
-list-term-add-map t c = let z = term-word (c .before .before .before .before .pre .1 .1) (c .if1 .left) .inside in search needs
+list-term-add-read : (t : ℕ) → InTerm list-term-lts.Need-add-read t
+list-term-add-read t c = let z = term-word (c .before .before .before .before .before .pre .1 .1) (c .before .if1 .left) .inside in search needs
 
-list-term-slice-read-map : (t : ℕ) → InTerm list-term-lts.Need-slice-read-map t
-list-term-slice-read-map t c = let z = term-word (c .before .before .before .before .before .pre .1 .1) (c .before .if1 .left) .inside in search needs
+list-term-read-requires : (t : ℕ) → InTerm list-term-lts.Need-read-requires t
+list-term-read-requires t c κs = search needs
 
 list-term-wide-requires : (t : ℕ) → InTerm list-term-lts.Need-wide-requires t
 list-term-wide-requires t c κs = search needs
@@ -241,7 +265,7 @@ list-term-wide-requires t c κs = search needs
 
 module _ (t : ℕ) (c : InTerm list-term-lts.After-wide t) where
   abbrev word-start : InTerm list-term-lts.Start t
-  word-start = c .before .before .before .before .before .before .before
+  word-start = c .before .before .before .before .before .before .before .before
 
   abbrev room : List ℕ
   room = now (word-start .args .out)
@@ -257,7 +281,17 @@ module _ (t : ℕ) (c : InTerm list-term-lts.After-wide t) where
 
   -- It is a word.
   abbrev word : (h : Standing) → Word h
-  word h = term-word h (c .before .before .before .if1 .left)
+  word h = term-word h (c .before .before .before .before .if1 .left)
+
+  abbrev byte : c .wide .result ≡ getD (now (word-start .args .copy)) (word-start .args .at) 0
+  byte = c .wide .ensures .same
+
+  -- Its map is read.
+  abbrev map : ℕ
+  map = c .before .before .read .result
+
+  mapped : map ≡ getD (now (word-start .args .copy)) (word-start .args .at + 1) 0
+  mapped = c .before .before .read .ensures ∙ sym (map-at (now (word-start .args .copy)) (word-start .args .at + 1))
 
 list-term-write-others-requires : (t : ℕ) → InTerm list-term-lts.Need-write-others-requires t
 list-term-write-others-requires t c κs =
@@ -266,16 +300,12 @@ list-term-write-others-requires t c κs =
     let h = standing t at-wide in
     let w = word t at-wide h in
     let z = term-begun h in
-    let byte = at-wide .wide .ensures .same in
-    (omega (arith, z .inside), (omega (arith, z .inside, h .size), (z .few, (omega (arith, w .known, byte), (begun .pre .1 .0, own-room (room t at-wide) h w byte)))))
+    (omega (arith, z .inside), (omega (arith, z .inside, h .size), (z .few, (omega (arith, w .known, byte t at-wide), (begun .pre .1 .0, own-room (room t at-wide) h w (byte t at-wide) (mapped t at-wide))))))
 
 -- Its own entries are written.
 module _ (t : ℕ) (c : InTerm list-term-lts.After-write-others t) where
   abbrev at-word : InTerm list-term-lts.After-wide t
   at-word = c .before .before
-
-  abbrev byte : at-word .wide .result ≡ getD (now (word-start t at-word .args .copy)) (word-start t at-word .args .at) 0
-  byte = at-word .wide .ensures .same
 
   abbrev own-after : List ℕ
   own-after = c .write-others .last .1 .1 .1 .1 .1 .1 .0
@@ -284,14 +314,14 @@ module _ (t : ℕ) (c : InTerm list-term-lts.After-write-others t) where
   abbrev WordTerms : Type 0
   WordTerms =
       PlacesAt (now (word-start t at-word .args .copy)) (word-start t at-word .args .at)
-      (getD (now (word-start t at-word .args .copy)) (word-start t at-word .args .at + 1) 0) (word-start t at-word .args .words)
+      (map t at-word) (word-start t at-word .args .words)
       (now (word-start t at-word .args .results)) (word-start t at-word .args .left) (length (part (c .write-others .result) own-after))
 
   abbrev word-terms : (h : Standing t at-word) → WordTerms
-  word-terms h = word-places (room t at-word) h (word t at-word h) byte (c .write-others .ensures)
+  word-terms h = word-places (room t at-word) h (word t at-word h) (byte t at-word) (mapped t at-word) (c .write-others .ensures)
 
   own-entries-inside : c .write-others .result ≤ length own-after
-  own-entries-inside = own-inside (room t at-word) (standing t at-word) (word t at-word (standing t at-word)) byte (c .write-others .ensures)
+  own-entries-inside = own-inside (room t at-word) (standing t at-word) (word t at-word (standing t at-word)) (byte t at-word) (mapped t at-word) (c .write-others .ensures)
 
 list-term-add-end-2 : (t : ℕ) → InTerm list-term-lts.Need-add-end-2 t
 list-term-add-end-2 t c =
@@ -306,12 +336,12 @@ list-term-same-length-2 : (t : ℕ) → InTerm list-term-lts.Need-same-length-2 
 list-term-same-length-2 t c =
     let own = c .before .before .before in
     let h = standing t (at-word t own) in
-    own-length (room t (at-word t own)) h (word t (at-word t own) h) (byte t own) (own .write-others .ensures)
+    own-length (room t (at-word t own)) h (word t (at-word t own) h) (byte t (at-word t own)) (mapped t (at-word t own)) (own .write-others .ensures)
 
 list-term-returns-2 : (t : ℕ) → InTerm list-term-lts.Need-returns-2 t
 list-term-returns-2 t c =
     let own = c .before .before .before in
-    λ h. word-bare (room t (at-word t own)) h (word t (at-word t own) h) (byte t own) (own .write-others .ensures) (c .if2 .taken)
+    λ h. word-bare (room t (at-word t own)) h (word t (at-word t own) h) (byte t (at-word t own)) (mapped t (at-word t own)) (own .write-others .ensures) (c .if2 .taken)
 
 list-term-sub-list-places : (t : ℕ) → InTerm list-term-lts.Need-sub-list-places t
 list-term-sub-list-places t c = own-entries-inside t (c .before .before .before .before)
@@ -341,7 +371,7 @@ module _ (t : ℕ) (c : InTerm list-term-lts.After-list-places t) where
       (back (own-done .write-others .result) (own-after t own-done) (c .list-places .last .1 .1 .1 .1 .1 .1 .1 .0))
       (c .list-places .result .at) (own-done .write-others .result + c .list-places .result .written)
   all-listed h =
-      word-listed (room t (at-word t own-done)) h (word t (at-word t own-done) h) (byte t own-done) (own-done .write-others .ensures)
+      word-listed (room t (at-word t own-done)) h (word t (at-word t own-done) h) (byte t (at-word t own-done)) (mapped t (at-word t own-done)) (own-done .write-others .ensures)
       (c .list-places .ensures (word-terms t own-done h))
 
 list-term-add-written : (t : ℕ) → InTerm list-term-lts.Need-add-written t
@@ -374,8 +404,8 @@ pub +list-places+list-term-spec : {M : Type 1} → statement M
     (list-places-loop-holds t)
     (list-places-add-b t)
     (list-places-kept-requires t)
-    (list-places-add-copy t)
-    (list-places-slice-write-copy t)
+    (list-places-add-write t)
+    (list-places-write-requires t)
     (list-places-sub-list-term t)
     (list-places-sub-list-term-2 t)
     (list-places-part-list-term-start t)
@@ -386,8 +416,8 @@ pub +list-places+list-term-spec : {M : Type 1} → statement M
     (list-places-loop-again t)
     (list-places-loop-less-2 t)
     (list-places-loop-again-2 t)
-    (list-places-add-copy-2 t)
-    (list-places-slice-write-copy-2 t)
+    (list-places-add-write-2 t)
+    (list-places-write-requires-2 t)
     (list-places-same-length t)
     (list-places-same-length-2 t)
     (list-places-returns t))
@@ -395,8 +425,8 @@ pub +list-places+list-term-spec : {M : Type 1} → statement M
     (list-term-slice-read-first t)
     (list-term-add-end t)
     (list-term-returns t)
-    (list-term-add-map t)
-    (list-term-slice-read-map t)
+    (list-term-add-read t)
+    (list-term-read-requires t)
     (list-term-wide-requires t)
     (list-term-write-others-requires t)
     (list-term-add-end-2 t)

@@ -1,12 +1,26 @@
 -- `signature::read_word` meets its contract: each case of its answer is one of `readWord`.
-use Prim.Native.Nat.{_+_}
+use mathlib.Core.Path.{_≡_, sym, _∙_}
+use Prim.Native.Nat.{_+_, _<_}
 use native.Mathlib.Omega.{arith}
+use denote.Ref.{now}
 use lib.Count.{ones-le}
 use borrow.Author.Needs.{needs}
+use Rattle.maps.proofs.Reading.{map-at}
 use Rattle.wire.specs.VocabularyLines.{byteAt}
 use Rattle.signature.proofs.RecordBytes.{record-missing, record-unknown, record-short, record-bare, record-kinds}
 use Rattle.signature.proofs.read_word.Statement.{statement}
 use Rattle.signature.proofs.read_word.Tie as tie
+
+-- The map is the byte behind the result kind.
+behind : (c : tie.After-read) →
+    let a = c .before .before .before .before .before .before .args in
+    c .read .result ≡ byteAt (now (a .v)) (a .at + 1)
+behind c =
+    let a = c .before .before .before .before .before .before .args in
+    c .read .ensures ∙ sym (map-at (now (a .v)) (a .at + 1))
+
+small : (c : tie.After-read) → c .read .result < 256
+small c = rw (behind c) (c .before .before .before .shared-slice-known2 .given _ .fits)
 
 returns : tie.Need-returns
 returns c = record-missing _ _ _ (c .if1 .taken)
@@ -23,33 +37,32 @@ sub-if3 c = search needs
 returns-3 : tie.Need-returns-3
 returns-3 c = record-short _ _ _ (c .before .before .before .if1 .left) (c .before .if2 .left) (omega arith)
 
-add-map : tie.Need-add-map
-add-map c = search needs
+add-read : tie.Need-add-read
+add-read c = search needs
 
-shared-slice-read-map : tie.Need-shared-slice-read-map
-shared-slice-read-map c = search needs
+read-requires : tie.Need-read-requires
+read-requires c κs = search needs
 
 returns-4 : tie.Need-returns-4
 returns-4 c =
-    let known = c .before in
-    record-bare _ _ _ (λ i. known .shared-slice-known3 .given i .fits) (omega arith) (known .before .before .if2 .left) (c .if4 .taken)
+    let read = c .before in
+    let known = read .before .before .before in
+    record-bare _ _ _ (λ i. known .shared-slice-known2 .given i .fits) (omega arith) (read .before .before .if2 .left) _ (behind read) (c .if4 .taken)
 
 add-read-kinds : tie.Need-add-read-kinds
 add-read-kinds c = search needs
 
 cast-read-kinds : tie.Need-cast-read-kinds
-cast-read-kinds c =
-    let known = c .before in
-    let args = known .before .before .before .before .before .before .args in
-    omega (arith, ones-le 8 (byteAt (args .v .now) (args .at + 1)) (known .shared-slice-known3 .given _ .fits))
+cast-read-kinds c = omega (arith, ones-le 8 (c .before .read .result) (small (c .before)))
 
 read-kinds-requires : tie.Need-read-kinds-requires
 read-kinds-requires c κs = search needs
 
 returns-5 : tie.Need-returns-5
 returns-5 c =
-    let known = c .before .before in
-    record-kinds _ _ _ (λ i. known .shared-slice-known3 .given i .fits) (omega arith) (known .before .before .if2 .left) _ (c .read-kinds .ensures)
+    let read = c .before .before in
+    let known = read .before .before .before in
+    record-kinds _ _ _ (λ i. known .shared-slice-known2 .given i .fits) (omega arith) (read .before .before .if2 .left) _ (behind read) _ (c .read-kinds .ensures)
 
 pub read-word-spec : {M : Type 1} → statement M
 read-word-spec =
@@ -60,8 +73,8 @@ read-word-spec =
     returns-2
     sub-if3
     returns-3
-    add-map
-    shared-slice-read-map
+    add-read
+    read-requires
     returns-4
     add-read-kinds
     cast-read-kinds

@@ -1,8 +1,11 @@
 -- `signature::read_words` meets its contract. The loop's invariant: the records passed stand in the tables, which are as before behind them. The measure is the number of records left.
-use Prim.Native.Nat.{_-_}
+use mathlib.Core.Path.{sym, _∙_}
+use Prim.Native.Nat.{_+_, _-_}
 use native.Mathlib.Omega.{arith}
+use denote.Ref.{now}
 use borrow.Author.Needs.{needs}
-use Rattle.signature.proofs.RecordsRead.{record-as, whole-inside, Tabled, tabled-none, tabled-room, tabled-more, tabled-ends, tabled-unknown, tabled-continues, tabled-filled}
+use Rattle.maps.proofs.Reading.{map-at}
+use Rattle.signature.proofs.RecordsRead.{record-as, whole-inside, Tabled, tabled-none, tabled-room, tabled-next, tabled-ends, tabled-unknown, tabled-continues, tabled-filled}
 use Rattle.signature.proofs.read_words.Statement.{statement}
 use Rattle.signature.proofs.read_words.Tie as tie
 
@@ -44,11 +47,11 @@ slice-write-results c =
     let pre = turn .before .before .before .before .before .before .pre .1 .1 in
     tabled-room _ _ _ _ _ _ _ _ _ _ (turn .before .loop .inv) (pre .0) (pre .1) (turn .loop-test .taken) .1
 
-add-maps : tie.Need-add-maps Inv-loop μ-loop
-add-maps c = omega (arith, whole-inside (c .before .before .before .before .read-word .ensures) (c .before .before .places .given .1))
+add-read : tie.Need-add-read Inv-loop μ-loop
+add-read c = omega (arith, whole-inside (c .before .before .before .before .read-word .ensures) (c .before .before .places .given .1))
 
-shared-slice-read-maps : tie.Need-shared-slice-read-maps Inv-loop μ-loop
-shared-slice-read-maps c = omega (arith, whole-inside (c .before .before .before .before .before .read-word .ensures) (c .before .before .before .places .given .1))
+read-requires : tie.Need-read-requires Inv-loop μ-loop
+read-requires c κs = search needs
 
 slice-write-maps : tie.Need-slice-write-maps Inv-loop μ-loop
 slice-write-maps c =
@@ -72,8 +75,10 @@ loop-again : tie.Need-loop-again Inv-loop μ-loop
 loop-again c =
     let read = c .before .before .before .before .before in
     let pre = read .before .before .before .before .before .before .before .pre in
-    tabled-more _ _ _ _ _ _ _ _ _ _ (read .before .before .loop .inv) (pre .1 .1 .0) (pre .1 .1 .1) (read .before .loop-test .taken) _
-    (record-as (read .read-word .ensures) (c .before .before .before .places .given .1) (pre .1 .0))
+    let v = now (read .before .before .before .before .before .before .before .args .v) in
+    tabled-next _ _ _ _ _ _ _ _ _ _ (read .before .before .loop .inv) (pre .1 .1 .0) (pre .1 .1 .1) (read .before .loop-test .taken) _
+    (record-as (read .read-word .ensures) (c .before .before .before .places .given .1) (pre .1 .0)) _
+    (c .read .ensures ∙ sym (map-at v (read .before .before .loop .at + 1)))
 
 enum-told : tie.Need-enum-told Inv-loop μ-loop
 enum-told c = search needs
@@ -149,8 +154,8 @@ read-words-spec =
     slice-write-offsets
     shared-slice-read-results
     slice-write-results
-    add-maps
-    shared-slice-read-maps
+    add-read
+    read-requires
     slice-write-maps
     add-at
     add-at-2
