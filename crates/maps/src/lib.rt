@@ -16,7 +16,8 @@ pub fn read(bytes: &[u8], at: usize) -> u8
     if bytes.len() <= at {
         return 0;
     }
-    bytes[at]
+    let map = bytes[at];
+    map
 }
 
 // Writes a map at an offset. Where a byte of it has no room the bytes are left as they were.
