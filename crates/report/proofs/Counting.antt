@@ -59,19 +59,20 @@ module _ {l : List ℕ} {at due : ℕ} (h : Counting l at due) (more : at < leng
       last : dueSize (b ∷ drop (at + 1) l) (suc (due - 1)) ≡ 1
       last = ap (λ (r : List ℕ). dueSize (b ∷ r) (suc (due - 1))) (drop-of-length-le l end)
 
-  pub counting-word : b < 128 → at + 1 < length l → getD l (at + 1) 0 < 256 →
-      Counting l (at + 1 + 1) (due - 1 + Count.ones (getD l (at + 1) 0))
-  counting-word low inner byte = record {
+  -- The map as it is read.
+  pub counting-word : {map : ℕ} → map ≡ getD l (at + 1) 0 → map < 256 → b < 128 → at + 1 < length l →
+      Counting l (at + 1 + 1) (due - 1 + Count.ones map)
+  counting-word {map} is byte low inner = record {
     inside = omega arith;
-    few = let f = h .few in let s = some in omega (arith, Count.ones-le 8 (getD l (at + 1) 0) byte);
+    few = let f = h .few in let s = some in omega (arith, Count.ones-le 8 map byte);
     left = omega (arith, h .left, begun, word, ap (dueSize (drop (at + 1 + 1) l)) due-then);
   }
     where
       m : ℕ
       m = getD l (at + 1) 0
 
-      due-then : due - 1 + Count.ones m ≡ ones (flags m) + (due - 1)
-      due-then = omega (arith, ones-count m byte)
+      due-then : due - 1 + Count.ones map ≡ ones (flags m) + (due - 1)
+      due-then = omega (arith, ones-count map byte, ap (λ (n : ℕ). ones (flags n)) is)
 
       word : dueSize (b ∷ drop (at + 1) l) (suc (due - 1)) ≡ 2 + dueSize (drop (at + 1 + 1) l) (ones (flags m) + (due - 1))
       word =

@@ -105,8 +105,8 @@ fn entry_size(listing: &[u8]) -> usize
         due -= 1;
         if b < 128 {
             if at < listing.len() {
-                let ones = u8::count_ones(listing[at]);
-                at += 1;
+                let ones = u8::count_ones(maps::read(listing, at));
+                at += maps::BYTES;
                 due += ones as usize;
             }
         }

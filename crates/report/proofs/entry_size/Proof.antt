@@ -1,10 +1,13 @@
 -- `report::entry_size` meets its contract. The loop's invariant: the terms that are due from `at` on end where the entry does. The measure is the number of bytes left.
 use borrow.Author.Needs.{needs}
+use mathlib.Core.Path.{_≡_, sym, _∙_}
+use mathlib.Core.List.{List}
 use lib.ListN.{length, getD}
 use lib.Count
 use denote.Ref.{now}
-use Prim.Native.Nat.{_+_, _-_}
+use Prim.Native.Nat.{ℕ, _+_, _-_, _<_, _≤_}
 use native.Mathlib.Omega.{arith}
+use Rattle.maps.proofs.Reading.{map-at}
 use Rattle.report.proofs.Counting.{Counting, counting-empty, counting-begins, counting-none, counting-ends, counting-name, counting-last, counting-word}
 use Rattle.report.proofs.entry_size.Statement.{statement}
 use Rattle.report.proofs.entry_size.Tie as tie
@@ -16,7 +19,7 @@ abbrev μ-loop : tie.MeasureT-loop
 μ-loop listing at₀ due₀ at due = length listing - at
 
 returns : tie.Need-returns Inv-loop μ-loop
-returns c = counting-empty (now (c .before .args .listing)) (c .if1 .taken)
+returns c = counting-empty (now (c .before .before .args .listing)) (c .if1 .taken)
 
 loop-holds : tie.Need-loop-holds Inv-loop μ-loop
 loop-holds c = counting-begins _ (omega arith)
@@ -33,32 +36,42 @@ add-at c = search needs
 sub-due : tie.Need-sub-due Inv-loop μ-loop
 sub-due c = search needs
 
-shared-slice-read-ones : tie.Need-shared-slice-read-ones Inv-loop μ-loop
-shared-slice-read-ones c = search needs
+read-requires : tie.Need-read-requires Inv-loop μ-loop
+read-requires c κs = search needs
+
+module _ (c : tie.After-read Inv-loop μ-loop) where
+  abbrev at-loop : tie.At-loop Inv-loop μ-loop
+  at-loop = c .before .before .before .before .before .before
+
+  abbrev listing : List ℕ
+  listing = now (at-loop .before .before .before .args .listing)
+
+  -- The map is the byte behind the word.
+  behind : c .read .result ≡ getD listing (at-loop .loop .at + 1) 0
+  behind = c .read .ensures ∙ sym (map-at listing (at-loop .loop .at + 1))
+
+  small : c .read .result < 256
+  small = rw behind (c .before .before .before .shared-slice-known2 .given (at-loop .loop .at + 1) .fits)
+
+  few-ones : Count.ones (c .read .result) ≤ 8
+  few-ones = Count.ones-le 8 (c .read .result) small
 
 add-at-2 : tie.Need-add-at-2 Inv-loop μ-loop
 add-at-2 c = search needs
 
 cast-due : tie.Need-cast-due Inv-loop μ-loop
-cast-due c =
-    let at-loop = c .before .before .before .before .before .before in
-    let start = at-loop .before .before in
-    omega (arith, Count.ones-le 8 (getD (now (start .args .listing)) (at-loop .loop .at + 1) 0) (c .shared-slice-known2 .given (at-loop .loop .at + 1) .fits))
+cast-due c = omega (arith, few-ones c)
 
 add-due : tie.Need-add-due Inv-loop μ-loop
-add-due c =
-    let at-loop = c .before .before .before .before .before .before in
-    let start = at-loop .before .before in
-    let f = at-loop .loop .inv .few in omega (arith, Count.ones-le 8 (getD (now (start .args .listing)) (at-loop .loop .at + 1) 0) (c .shared-slice-known2 .given (at-loop .loop .at + 1) .fits))
+add-due c = let f = at-loop c .loop .inv .few in omega (arith, few-ones c)
 
 loop-less : tie.Need-loop-less Inv-loop μ-loop
 loop-less c = search needs
 
 loop-again : tie.Need-loop-again Inv-loop μ-loop
 loop-again c =
-    let at-loop-test = c .before .before .before .before .before in
-    let at-loop = at-loop-test .before in
-    counting-word (at-loop .loop .inv) (at-loop-test .loop-test .taken) (omega arith) (c .before .before .if3 .taken) (c .before .if4 .taken) (c .shared-slice-known2 .given _ .fits)
+    counting-word (at-loop c .loop .inv) (c .before .before .before .before .before .loop-test .taken) (omega arith) (behind c) (small c) (c .before .before .if3 .taken)
+    (c .before .if4 .taken)
 
 loop-less-2 : tie.Need-loop-less-2 Inv-loop μ-loop
 loop-less-2 c = search needs
@@ -87,7 +100,7 @@ entry-size-spec =
     shared-slice-read-b
     add-at
     sub-due
-    shared-slice-read-ones
+    read-requires
     add-at-2
     cast-due
     add-due
