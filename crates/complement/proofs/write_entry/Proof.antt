@@ -62,10 +62,11 @@ module _ (c : tie.After-write) where
   written : c .write .last .1 .0 ≡ (front ++ (start .args .word ∷ writeMap 0)) ++ drop (n + 2) out
   written = c .write .ensures ∙ entry-written front out n (start .args .word) front-length room (at-copy .copy .ensures)
 
+  written-length : length (c .write .last .1 .0) ≡ length out
+  written-length = ap length written ∙ entry-length front out n (start .args .word) front-length room
+
 same-length : tie.Need-same-length
-same-length c =
-    let at-write = c .before .before in
-    ap length (written at-write) ∙ entry-length (front at-write) (out at-write) (n at-write) (start at-write .args .word) (front-length at-write) (room at-write)
+same-length c = let l = written-length (c .before .before) in search needs
 
 returns : tie.Need-returns
 returns c = written (c .before .before)
