@@ -17,6 +17,8 @@ use Rattle.wire.proofs.Map.{ones-count}
 use Rattle.wire.proofs.Bytes.{bytes-of}
 use Rattle.wire.proofs.Inverse.{ReadOff}
 use Rattle.wire.proofs.WordsInverse.{word-inverse}
+use Rattle.maps.specs.Reading.{mapAt}
+use Rattle.maps.proofs.Reading.{map-at}
 use Rattle.signature.specs.declared.WordRead.{WordRead}
 use Rattle.signature.specs.declared.WordRead.the-variants.{Whole, Ends, NoSuchKind}
 use Rattle.signature.specs.Loading.{kindsGot, KindsRead, wordGot, RecordRead}
@@ -48,14 +50,20 @@ module _ (v : List ℕ) (at k : ℕ) where
   -- Behind a result kind and a map stand the kinds of the places.
   module _ (small : (i : ℕ) → byteAt v i < 256) (long : at + 2 ≤ length v) (result : byteAt v at < k) where
     n : ℕ
-    n = ones (flags (byteAt v (at + 1)))
+    n = ones (flags (mapAt v (at + 1)))
+
+    map-small : mapAt v (at + 1) < 256
+    map-small = subst (λ m. m < 256) (map-at v (at + 1)) (small (at + 1))
+
+    map-cons : drop (at + 1) v ≡ mapAt v (at + 1) ∷ drop (at + 2) v
+    map-cons = byte-cons v (at + 1) (at + 2) (omega arith) (omega arith) ∙ ap (λ m. m ∷ drop (at + 2) v) (map-at v (at + 1))
 
     withKinds : List ℕ → List ℕ → Got Word
-    withKinds ks r = got (record { result = byteAt v at; placeMap = byteAt v (at + 1); kinds = ks }) r
+    withKinds ks r = got (record { result = byteAt v at; placeMap = mapAt v (at + 1); kinds = ks }) r
 
     word-read : readWord k (drop at v) ≡ andThen (readKinds k n (drop (at + 2) v)) withKinds
     unfolding n withKinds
-    word-read = rw (first-byte (omega arith), lt-ltb (byteAt v at) k result, byte-cons v (at + 1) (at + 2) (omega arith) (omega arith))
+    word-read = rw (first-byte (omega arith), lt-ltb (byteAt v at) k result, map-cons)
 
     -- The record is read as its kinds are.
     reads-as : (r : WordRead) → KindsRead v (at + 2) n k r → andThen (kindsGot v (at + 2) r) withKinds ≡ readWord k (drop at v)
@@ -76,10 +84,10 @@ module _ (v : List ℕ) (at k : ℕ) where
     behind-map (NoSuchKind q) read = record { reads = reads-as (NoSuchKind q) read; inside = read .inside }
 
     -- The map as it is read.
-    module _ (map : ℕ) (is : map ≡ byteAt v (at + 1)) where
+    module _ (map : ℕ) (is : map ≡ mapAt v (at + 1)) where
       pub record-kinds : (r : WordRead) → KindsRead v (at + 2) (Count.ones map) k r → RecordRead v at k r
       unfolding n
-      record-kinds r read = behind-map r (rw (is, ones-count (byteAt v (at + 1)) (small (at + 1))) at read)
+      record-kinds r read = behind-map r (rw (is, ones-count (mapAt v (at + 1)) map-small) at read)
 
       -- A map of no places.
       pub record-bare : map ≡ 0 → RecordRead v at k (Whole 0)

@@ -22,6 +22,8 @@ use Rattle.wire.specs.VocabularyLines.{byteAt, placesOf, recordAt}
 use Rattle.wire.proofs.Map.{length-flagsIn}
 use Rattle.wire.proofs.Row.{row-last, row-stopped}
 use Rattle.wire.proofs.Records.{behind, behind-is, places-at, record-behind}
+use Rattle.maps.specs.Reading.{mapAt}
+use Rattle.maps.proofs.Reading.{map-at}
 use Rattle.signature.specs.Answers.{vocabularyRefused}
 use Rattle.signature.specs.Tables.{offsetsOf, resultsOf, mapsOf, Laid}
 use Rattle.signature.specs.declared.VocabularyRefusal.{VocabularyRefusal}
@@ -100,14 +102,15 @@ module _ (v : List ℕ) (at p : ℕ) (fits : at + 2 + p ≤ length v) (sound : W
   place-count = length-take-le p (drop (at + 2) v) (rw length-drop (omega arith))
 
   pub places-few : p ≤ 8
-  places-few = omega (arith, place-count, sound .count, ones-most (flags (byteAt v (at + 1))), length-flagsIn 8 (byteAt v (at + 1)))
+  places-few = omega (arith, place-count, sound .count, ones-most (flags (mapAt v (at + 1))), length-flagsIn 8 (mapAt v (at + 1)))
 
   pub places-there : placesOf v at ≡ p
   places-there =
       places-at v at (byteAt v (suc at)) (drop (suc (suc at)) v) (drop-cons v (suc at) 0 (omega arith))
-      ∙ ap (λ (i : ℕ). ones (flags (byteAt v i))) (sym (add-one at)) ∙ sym (sound .count) ∙ place-count
+      ∙ ap (λ (i : ℕ). ones (flags (byteAt v i))) (sym (add-one at))
+      ∙ ap (λ (m : ℕ). ones (flags m)) (map-at v (at + 1)) ∙ sym (sound .count) ∙ place-count
 
-  entry-at : Entry v at (byteAt v at) (byteAt v (at + 1)) (wordAt v at p)
+  entry-at : Entry v at (byteAt v at) (mapAt v (at + 1)) (wordAt v at p)
   entry-at = record { result = refl; placeMap = refl; inside = rw place-count fits; kinds = rw place-count; sound = sound }
 
 module _ (v : List ℕ) (n w at : ℕ) (o₀ r₀ m₀ o r m : List ℕ) (tabled : Tabled v n w at o₀ r₀ m₀ o r m) where
@@ -198,7 +201,7 @@ module _ (v : List ℕ) (n w at : ℕ) (o₀ r₀ m₀ o r m : List ℕ) (tabled
     next-column : (field : Word → ℕ) → map field (tabled .words) ++ (field (wordAt v at p) ∷ []) ≡ map field (tabled .words ++ (wordAt v at p ∷ []))
     next-column field = sym (map-append field (tabled .words) (wordAt v at p ∷ []))
 
-    next-laid : Laid v (tabled .words ++ (wordAt v at p ∷ [])) o₀ r₀ m₀ (set o w at) (set r w (byteAt v at)) (set m w (byteAt v (at + 1)))
+    next-laid : Laid v (tabled .words ++ (wordAt v at p ∷ [])) o₀ r₀ m₀ (set o w at) (set r w (byteAt v at)) (set m w (mapAt v (at + 1)))
     next-laid =
         let held = tabled .holds in
         record {
@@ -208,17 +211,17 @@ module _ (v : List ℕ) (n w at : ℕ) (o₀ r₀ m₀ o r m : List ℕ) (tabled
               laid-more r₀ r (resultsOf (tabled .words)) _ w (byteAt v at) (held .results) (column-count (λ x. x .result))
               (omega (arith, room, sized .results)) (next-column (λ x. x .result));
           maps =
-              laid-more m₀ m (mapsOf (tabled .words)) _ w (byteAt v (at + 1)) (held .maps) (column-count (λ x. x .placeMap))
+              laid-more m₀ m (mapsOf (tabled .words)) _ w (mapAt v (at + 1)) (held .maps) (column-count (λ x. x .placeMap))
               (omega (arith, room, sized .maps)) (next-column (λ x. x .placeMap));
         }
 
     next-entries : (f : ℕ) → f < w + 1 →
-        Entry v (getD (set o w at) f 0) (getD (set r w (byteAt v at)) f 0) (getD (set m w (byteAt v (at + 1))) f 0)
+        Entry v (getD (set o w at) f 0) (getD (set r w (byteAt v at)) f 0) (getD (set m w (mapAt v (at + 1))) f 0)
         (getD (tabled .words ++ (wordAt v at p ∷ [])) f noWord)
     next-entries f c = go (ℕ-discrete f w)
       where
         go : Dec (f ≡ w) →
-            Entry v (getD (set o w at) f 0) (getD (set r w (byteAt v at)) f 0) (getD (set m w (byteAt v (at + 1))) f 0)
+            Entry v (getD (set o w at) f 0) (getD (set r w (byteAt v at)) f 0) (getD (set m w (mapAt v (at + 1))) f 0)
             (getD (tabled .words ++ (wordAt v at p ∷ [])) f noWord)
         go (yes e) =
             let inside = tabled-room few sized b in
@@ -226,7 +229,7 @@ module _ (v : List ℕ) (n w at : ℕ) (o₀ r₀ m₀ o r m : List ℕ) (tabled
               e,
               getD-set-same o w at 0 (inside .0),
               getD-set-same r w (byteAt v at) 0 (inside .1),
-              getD-set-same m w (byteAt v (at + 1)) 0 (inside .2),
+              getD-set-same m w (mapAt v (at + 1)) 0 (inside .2),
               getD-at (tabled .words) (wordAt v at p) [] noWord w (tabled .count),
             )
             (entry-at v at p (read .inside .0) (read .inside .1))
@@ -236,12 +239,12 @@ module _ (v : List ℕ) (n w at : ℕ) (o₀ r₀ m₀ o r m : List ℕ) (tabled
             rw (
               getD-set-other o w f at 0 e,
               getD-set-other r w f (byteAt v at) 0 e,
-              getD-set-other m w f (byteAt v (at + 1)) 0 e,
+              getD-set-other m w f (mapAt v (at + 1)) 0 e,
               List·getD-append (tabled .words) (wordAt v at p ∷ []) noWord f inside,
             )
             (tabled .entries f old)
 
-    tabled-more : Tabled v n (w + 1) (at + 2 + p) o₀ r₀ m₀ (set o w at) (set r w (byteAt v at)) (set m w (byteAt v (at + 1)))
+    tabled-more : Tabled v n (w + 1) (at + 2 + p) o₀ r₀ m₀ (set o w at) (set r w (byteAt v at)) (set m w (mapAt v (at + 1)))
     tabled-more = record {
       words = tabled .words ++ (wordAt v at p ∷ []);
       passed = omega arith;
@@ -258,9 +261,9 @@ module _ (v : List ℕ) (n w at : ℕ) (o₀ r₀ m₀ o r m : List ℕ) (tabled
       holds = next-laid;
       sameOffsets = length-set o w at ∙ tabled .sameOffsets;
       sameResults = length-set r w (byteAt v at) ∙ tabled .sameResults;
-      sameMaps = length-set m w (byteAt v (at + 1)) ∙ tabled .sameMaps;
+      sameMaps = length-set m w (mapAt v (at + 1)) ∙ tabled .sameMaps;
     }
 
     -- The map as it is read.
-    pub tabled-next : (map : ℕ) → map ≡ byteAt v (at + 1) → Tabled v n (w + 1) (at + 2 + p) o₀ r₀ m₀ (set o w at) (set r w (byteAt v at)) (set m w map)
+    pub tabled-next : (map : ℕ) → map ≡ mapAt v (at + 1) → Tabled v n (w + 1) (at + 2 + p) o₀ r₀ m₀ (set o w at) (set r w (byteAt v at)) (set m w map)
     tabled-next map e = rw e tabled-more

@@ -43,6 +43,7 @@ use Rattle.wire.specs.Parser.{Reading, accept, Got, got, stop, readKinds, readW
 use Rattle.wire.specs.CheckComputed.{replyOf}
 use Rattle.wire.specs.Vocabulary.{Word, Vocabulary, noWord, symbolOf, mostWords, WordInOrder}
 use Rattle.wire.specs.VocabularyLines.{byteAt}
+use Rattle.maps.specs.Reading.{mapAt}
 use Rattle.signature.specs.Answers.{vocabularyRefused, vocabularyNumbers}
 use Rattle.signature.specs.Tables.{wordsUpTo, Laid}
 use Rattle.signature.specs.declared.VocabularyRefusal.{VocabularyRefusal}
@@ -74,7 +75,7 @@ pub record KindsRead (v : List ℕ) (at n kinds : ℕ) (r : WordRead) : Type 0 w
 
 -- The word whose record stands at an offset and has n places.
 abbrev pub wordAt : List ℕ → ℕ → ℕ → Word
-wordAt v at n = record { result = byteAt v at; placeMap = byteAt v (at + 1); kinds = take n (drop (at + (1 + mapBytes)) v) }
+wordAt v at n = record { result = byteAt v at; placeMap = mapAt v (at + 1); kinds = take n (drop (at + (1 + mapBytes)) v) }
 
 abbrev pub wordGot : List ℕ → ℕ → WordRead → Got Word
 wordGot v at (Whole n) = got (wordAt v at n) (drop (at + (1 + mapBytes) + n) v)

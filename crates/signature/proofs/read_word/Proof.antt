@@ -1,26 +1,20 @@
 -- `signature::read_word` meets its contract: each case of its answer is one of `readWord`.
-use mathlib.Core.Path.{_≡_, sym, _∙_}
+use mathlib.Core.Path.{sym, _∙_}
 use Prim.Native.Nat.{_+_, _<_}
 use native.Mathlib.Omega.{arith}
 use denote.Ref.{now}
 use lib.Count.{ones-le}
 use borrow.Author.Needs.{needs}
 use Rattle.maps.proofs.Reading.{map-at}
-use Rattle.wire.specs.VocabularyLines.{byteAt}
 use Rattle.signature.proofs.RecordBytes.{record-missing, record-unknown, record-short, record-bare, record-kinds}
 use Rattle.signature.proofs.read_word.Statement.{statement}
 use Rattle.signature.proofs.read_word.Tie as tie
 
--- The map is the byte behind the result kind.
-behind : (c : tie.After-read) →
-    let a = c .before .before .before .before .before .before .args in
-    c .read .result ≡ byteAt (now (a .v)) (a .at + 1)
-behind c =
-    let a = c .before .before .before .before .before .before .args in
-    c .read .ensures ∙ sym (map-at (now (a .v)) (a .at + 1))
-
+-- The map is a byte.
 small : (c : tie.After-read) → c .read .result < 256
-small c = rw (behind c) (c .before .before .before .shared-slice-known2 .given _ .fits)
+small c =
+    let a = c .before .before .before .before .before .before .args in
+    rw (c .read .ensures ∙ sym (map-at (now (a .v)) (a .at + 1))) (c .before .before .before .shared-slice-known2 .given _ .fits)
 
 returns : tie.Need-returns
 returns c = record-missing _ _ _ (c .if1 .taken)
@@ -47,7 +41,7 @@ returns-4 : tie.Need-returns-4
 returns-4 c =
     let read = c .before in
     let known = read .before .before .before in
-    record-bare _ _ _ (λ i. known .shared-slice-known2 .given i .fits) (omega arith) (read .before .before .if2 .left) _ (behind read) (c .if4 .taken)
+    record-bare _ _ _ (λ i. known .shared-slice-known2 .given i .fits) (omega arith) (read .before .before .if2 .left) _ (read .read .ensures) (c .if4 .taken)
 
 add-read-kinds : tie.Need-add-read-kinds
 add-read-kinds c = search needs
@@ -62,7 +56,7 @@ returns-5 : tie.Need-returns-5
 returns-5 c =
     let read = c .before .before in
     let known = read .before .before .before in
-    record-kinds _ _ _ (λ i. known .shared-slice-known2 .given i .fits) (omega arith) (read .before .before .if2 .left) _ (behind read) _ (c .read-kinds .ensures)
+    record-kinds _ _ _ (λ i. known .shared-slice-known2 .given i .fits) (omega arith) (read .before .before .if2 .left) _ (read .read .ensures) _ (c .read-kinds .ensures)
 
 pub read-word-spec : {M : Type 1} → statement M
 read-word-spec =

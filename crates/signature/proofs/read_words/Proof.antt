@@ -1,10 +1,7 @@
 -- `signature::read_words` meets its contract. The loop's invariant: the records passed stand in the tables, which are as before behind them. The measure is the number of records left.
-use mathlib.Core.Path.{sym, _∙_}
-use Prim.Native.Nat.{_+_, _-_}
+use Prim.Native.Nat.{_-_}
 use native.Mathlib.Omega.{arith}
-use denote.Ref.{now}
 use borrow.Author.Needs.{needs}
-use Rattle.maps.proofs.Reading.{map-at}
 use Rattle.signature.proofs.RecordsRead.{record-as, whole-inside, Tabled, tabled-none, tabled-room, tabled-next, tabled-ends, tabled-unknown, tabled-continues, tabled-filled}
 use Rattle.signature.proofs.read_words.Statement.{statement}
 use Rattle.signature.proofs.read_words.Tie as tie
@@ -75,10 +72,9 @@ loop-again : tie.Need-loop-again Inv-loop μ-loop
 loop-again c =
     let read = c .before .before .before .before .before in
     let pre = read .before .before .before .before .before .before .before .pre in
-    let v = now (read .before .before .before .before .before .before .before .args .v) in
     tabled-next _ _ _ _ _ _ _ _ _ _ (read .before .before .loop .inv) (pre .1 .1 .0) (pre .1 .1 .1) (read .before .loop-test .taken) _
     (record-as (read .read-word .ensures) (c .before .before .before .places .given .1) (pre .1 .0)) _
-    (c .read .ensures ∙ sym (map-at v (read .before .before .loop .at + 1)))
+    (c .read .ensures)
 
 enum-told : tie.Need-enum-told Inv-loop μ-loop
 enum-told c = search needs
