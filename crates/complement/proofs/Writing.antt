@@ -6,9 +6,6 @@ use native.Mathlib.Numerals.{add-one}
 use native.Mathlib.Omega.{arith}
 use lib.ListN.{length, take, drop, set, length-append, length-drop, take-append-drop}
 use lib.Seq.{length-take-le, take-all, take-at, drop-at, drop-drop, drop-length}
-use Rattle.wire.specs.Map.{writeMap}
-use Rattle.maps.specs.Writing.{mapPut}
-use Rattle.maps.proofs.Writing.{map-set}
 use Rattle.slices.specs.Copied.{copied}
 use Rattle.slices.proofs.Copying.{copied-whole, stored}
 use Rattle.complement.specs.Entering.{Written}
@@ -64,10 +61,9 @@ module _ {bytes before out : List ℕ} {n : ℕ} (h : Written bytes before n out
 
 -- An entry: bytes are copied to the front, and behind them stand a word and the map 0.
 pub entry-written : (bytes out : List ℕ) (n word : ℕ) {front : List ℕ} → length bytes ≡ n → n + 2 ≤ length out → front ≡ copied bytes (take n out) →
-    mapPut 0 (set (front ++ drop n out) n word) (n + 1) ≡ (bytes ++ (word ∷ writeMap 0)) ++ drop (n + 2) out
+    set (set (front ++ drop n out) n word) (n + 1) 0 ≡ (bytes ++ (word ∷ 0 ∷ [])) ++ drop (n + 2) out
 entry-written bytes out n word {front} long room e =
-    sym (map-set (set (front ++ drop n out) n word) (n + 1) 0)
-    ∙ ap (λ l. set (set (l ++ drop n out) n word) (n + 1) 0) whole
+    ap (λ l. set (set (l ++ drop n out) n word) (n + 1) 0) whole
     ∙ ap (λ l. set l (n + 1) 0) (stored out n word (omega arith) bytes long)
     ∙ ap (λ i. set ((bytes ++ (word ∷ [])) ++ drop (suc n) out) i 0) (add-one n)
     ∙ stored out (suc n) 0 (omega arith) (bytes ++ (word ∷ [])) (length-append bytes (word ∷ []) ∙ omega arith)
@@ -83,14 +79,3 @@ entry-written bytes out n word {front} long room e =
         ∙ ap (λ i. bytes ++ drop i (take n out)) (sym exact)
         ∙ ap (λ l. bytes ++ l) (drop-length (take n out))
         ∙ append-nil bytes
-
--- It has room in the slice, which keeps its length.
-pub entry-length : (bytes out : List ℕ) (n word : ℕ) → length bytes ≡ n → n + 2 ≤ length out →
-    length ((bytes ++ (word ∷ writeMap 0)) ++ drop (n + 2) out) ≡ length out
-entry-length bytes out n word long room =
-    omega (
-      arith,
-      length-append (bytes ++ (word ∷ writeMap 0)) (drop (n + 2) out),
-      length-append bytes (word ∷ writeMap 0),
-      length-drop (n + 2) out,
-    )

@@ -48,7 +48,8 @@ fn write_entry(copy: &[u8], n: usize, word: u8, out: &mut [u8])
 {
     slices::copy(&copy[..n], &mut out[..n]);
     out[n] = word;
-    maps::write(0, out, n + 1);
+    // The empty map. It is written for each entry, so without a test for room.
+    out[n + 1] = 0;
 }
 
 // An entry for every other word of the result kind of f, each into the rest of the lent slice behind the one before it.

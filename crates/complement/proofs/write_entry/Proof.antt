@@ -1,14 +1,11 @@
 -- `complement::write_entry` meets its contract.
 use borrow.Author.Needs.{needs}
-use mathlib.Core.Path.{_≡_, sym, ap, _∙_}
-use mathlib.Core.List.{List, _∷_, _++_}
-use Prim.Native.Nat.{ℕ, _+_, _≤_}
+use mathlib.Core.Path.{sym}
 use denote.Ref.{now}
 use native.Mathlib.Omega.{arith}
-use lib.ListN.{length, take, drop}
+use lib.ListN.{take, length-set}
 use lib.Seq.{length-take-le}
-use Rattle.wire.specs.Map.{writeMap}
-use Rattle.complement.proofs.Writing.{entry-written, entry-length}
+use Rattle.complement.proofs.Writing.{entry-written}
 use Rattle.complement.proofs.write_entry.Statement.{statement}
 use Rattle.complement.proofs.write_entry.Tie as tie
 
@@ -31,45 +28,22 @@ copy-requires c κs = search needs
 slice-write-out : tie.Need-slice-write-out
 slice-write-out c = search needs
 
-add-write : tie.Need-add-write
-add-write c = search needs
+add-out : tie.Need-add-out
+add-out c = search needs
 
-write-requires : tie.Need-write-requires
-write-requires c κs = search needs
-
-module _ (c : tie.After-write) where
-  abbrev at-copy : tie.After-copy
-  at-copy = c .before .before .before .before
-
-  abbrev start : tie.Start
-  start = at-copy .before .before .before .before .before
-
-  abbrev n : ℕ
-  n = start .args .n
-
-  abbrev out : List ℕ
-  out = now (start .args .out)
-
-  abbrev front : List ℕ
-  front = take n (now (start .args .copy))
-
-  front-length : length front ≡ n
-  front-length = length-take-le n (now (start .args .copy)) (omega arith)
-
-  room : n + 2 ≤ length out
-  room = omega arith
-
-  written : c .write .last .1 .0 ≡ (front ++ (start .args .word ∷ writeMap 0)) ++ drop (n + 2) out
-  written = c .write .ensures ∙ entry-written front out n (start .args .word) front-length room (at-copy .copy .ensures)
-
-  written-length : length (c .write .last .1 .0) ≡ length out
-  written-length = ap length written ∙ entry-length front out n (start .args .word) front-length room
+slice-write-out-2 : tie.Need-slice-write-out-2
+slice-write-out-2 c = let k = c .slice-known2 .given in simp length-set (omega arith)
 
 same-length : tie.Need-same-length
-same-length c = let l = written-length (c .before .before) in search needs
+same-length c = search needs
 
 returns : tie.Need-returns
-returns c = written (c .before .before)
+returns c =
+    let at-copy = c .before .before in
+    let start = at-copy .before .before .before .before .before in
+    let n = start .args .n in
+    let copy = now (start .args .copy) in
+    entry-written (take n copy) (now (start .args .out)) n (start .args .word) (length-take-le n copy (omega arith)) (omega arith) (at-copy .copy .ensures)
 
 pub write-entry-spec : {M : Type 1} → statement M
 write-entry-spec =
@@ -80,7 +54,7 @@ write-entry-spec =
     slice-aggregate-copy-2
     copy-requires
     slice-write-out
-    add-write
-    write-requires
+    add-out
+    slice-write-out-2
     same-length
     returns)
