@@ -9,7 +9,7 @@ use lib.Seq.{drop-cons}
 use Rattle.wire.specs.Map.{flags, ones}
 use Rattle.wire.specs.EntryCut.{dueSize, entrySize}
 use Rattle.wire.proofs.Map.{ones-count}
-use Rattle.wire.proofs.EntryCut.{due-none, due-name, due-word}
+use Rattle.wire.proofs.EntryCut.{due-none, due-name, due-last, due-word}
 
 -- So far `at` bytes are passed, and `due` terms are due from there on.
 pub record Counting (l : List ℕ) (at due : ℕ) : Type 0 where
@@ -57,7 +57,7 @@ module _ {l : List ℕ} {at due : ℕ} (h : Counting l at due) (more : at < leng
   }
     where
       last : dueSize (b ∷ drop (at + 1) l) (suc (due - 1)) ≡ 1
-      last = ap (λ (r : List ℕ). dueSize (b ∷ r) (suc (due - 1))) (drop-of-length-le l end)
+      last = ap (λ (r : List ℕ). dueSize (b ∷ r) (suc (due - 1))) (drop-of-length-le l end) ∙ due-last b (due - 1)
 
   -- The map as it is read.
   pub counting-word : {map : ℕ} → map ≡ getD l (at + 1) 0 → map < 256 → b < 128 → at + 1 < length l →

@@ -1,13 +1,13 @@
 -- EntryCut: where an entry ends is found without the vocabulary, by counting the terms that are still due.
 --
---   length-cut                        so many entries are cut off as are asked for
---   due-none, due-name, due-word      the count, a byte a turn
---   due-within, entry-within          it never goes past the end
---   due-at, due-all, due-root, entry-size    it ends where what is written does
---   cut-entries                       whole patterns one behind the other are cut into these patterns
+--   length-cut                                so many entries are cut off as are asked for
+--   due-none, due-name, due-last, due-word    the count, a byte or a word a turn
+--   due-within, entry-within                  it never goes past the end
+--   due-at, due-all, due-root, entry-size     it ends where what is written does
+--   cut-entries                               whole patterns one behind the other are cut into these patterns
 --
 use mathlib.Core.Path.{_≡_, refl, ap, ap₂, subst, _∙_}
-use mathlib.Core.Bool.{Bool, true, false, not, cond}
+use mathlib.Core.Bool.{Bool, true, false, not}
 use mathlib.Core.List.{List, [], _∷_, _++_, map, append-assoc}
 use Prim.Native.Nat.{ℕ, zero, suc, _+_, _<_, _≤_}
 use native.Mathlib.Omega.{arith}
@@ -17,13 +17,13 @@ use lib.Seq.{take-at, drop-at}
 use borrow.Author.Tests.{lt-ltb, le-ltb}
 use Rattle.terms.specs.Lists.{All}
 use Rattle.terms.specs.Term.{Term, any, var, app, Terms, nil, cons, Sorted, SortedAll}
-use Rattle.wire.specs.Map.{mapBytes, flags, bit, ones, isOpen, writtenFlags}
+use Rattle.wire.specs.Map.{mapBytes, readMap, flags, bit, ones, isOpen, writtenFlags}
 use Rattle.wire.specs.Vocabulary.{Vocabulary, InOrder, signature, word, mapOf}
 use Rattle.wire.specs.TermBytes.{firstNameByte, writtenMap, encodeAt, encodeAll, encodeRoot, encodeTerm}
 use Rattle.wire.specs.Reply.{Kinded}
 use Rattle.wire.specs.Leftovers.{entriesBytes}
-use Rattle.wire.specs.EntryCut.{dueSize, entrySize, cutEntries}
-use Rattle.wire.proofs.Cond.{cond-true, cond-false}
+use Rattle.wire.specs.EntryCut.{dueBy, dueIn, dueSize, entrySize, cutEntries}
+use Rattle.wire.proofs.Cond.{cond-true, cond-false, choice}
 use Rattle.wire.proofs.Map.{flags-written}
 use Rattle.wire.proofs.Words.{length-symbols, arguments-word, word-in-order}
 use Rattle.wire.proofs.EntriesRead.{GoodKinded}
@@ -36,33 +36,31 @@ length-cut (suc n) l = ap suc (length-cut n (drop (entrySize l) l))
 
 pub due-none : (l : List ℕ) → dueSize l 0 ≡ 0
 due-none [] = refl
-due-none (b ∷ []) = refl
-due-none (b ∷ m ∷ l) = refl
+due-none (b ∷ l) = refl
 
 pub due-name : (b : ℕ) (l : List ℕ) (k : ℕ) → firstNameByte ≤ b → dueSize (b ∷ l) (suc k) ≡ suc (dueSize l k)
-due-name b [] k h = refl
-due-name b (m ∷ l) k h = cond-false (ltb b firstNameByte) _ _ (le-ltb b firstNameByte h)
+due-name b l k h = ap suc (cond-false (ltb b firstNameByte) _ _ (le-ltb b firstNameByte h))
+
+-- The bytes end where a map is due.
+pub due-last : (b k : ℕ) → dueSize (b ∷ []) (suc k) ≡ 1
+due-last b k = choice (λ n. suc n ≡ 1) (ltb b firstNameByte) 0 0 (λ e. refl) (λ e. refl)
 
 pub due-word : (b m : ℕ) (l : List ℕ) (k : ℕ) → b < firstNameByte → dueSize (b ∷ m ∷ l) (suc k) ≡ 1 + mapBytes + dueSize l (ones (flags m) + k)
-due-word b m l k h = cond-true (ltb b firstNameByte) _ _ (lt-ltb b firstNameByte h)
+due-word b m l k h = ap suc (cond-true (ltb b firstNameByte) _ _ (lt-ltb b firstNameByte h)) ∙ omega arith
 
 -- It never goes past the end.
-pub due-within : (l : List ℕ) (k : ℕ) → dueSize l k ≤ length l
-due-within [] k = omega arith
-due-within (b ∷ []) zero = omega arith
-due-within (b ∷ []) (suc k) = omega arith
-due-within (b ∷ m ∷ l) zero = omega arith
-due-within (b ∷ m ∷ l) (suc k) =
-    go (ltb b firstNameByte) (due-within l (ones (flags m) + k)) (due-within (m ∷ l) k)
-  where
-    go : (t : Bool) → dueSize l (ones (flags m) + k) ≤ length l → dueSize (m ∷ l) k ≤ suc (length l) →
-        cond t (1 + mapBytes + dueSize l (ones (flags m) + k)) (suc (dueSize (m ∷ l) k)) ≤ suc (suc (length l))
-    go true h g = omega arith
-    go false h g = omega arith
+due-within : (skip : ℕ) (l : List ℕ) (k : ℕ) → dueIn skip l k ≤ length l
+due-within skip [] k = omega arith
+due-within (suc skip) (b ∷ l) k = let h = due-within skip l k in omega arith
+due-within zero (b ∷ l) zero = omega arith
+due-within zero (b ∷ l) (suc k) =
+    choice (λ n. suc n ≤ suc (length l)) (ltb b firstNameByte) (dueIn mapBytes l (dueBy (readMap l) + k)) (dueIn zero l k)
+    (λ e. let h = due-within mapBytes l (dueBy (readMap l) + k) in omega arith)
+    (λ e. let h = due-within zero l k in omega arith)
 
 pub entry-within : (l : List ℕ) → entrySize l ≤ length l
 entry-within [] = omega arith
-entry-within (s ∷ l) = let h = due-within l 1 in omega arith
+entry-within (s ∷ l) = let h = due-within zero l 1 in omega arith
 
 -- ---- the count over what is written
 
