@@ -77,7 +77,7 @@ fn write_others(
         h = wide(chains[256 + g]);
         if g != f {
             write_entry(copy, at, g as u8, &mut out[n..]);
-            n = n + at + 2;
+            n = n + at + maps::NODE;
         }
     }
     n

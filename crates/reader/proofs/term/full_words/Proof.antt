@@ -33,8 +33,6 @@ Inv-loop v t frames₀ words offsets results maps c₀ frames c = Turned v t fra
 abbrev μ-loop : tie.MeasureT-loop
 μ-loop v t frames₀ words offsets results maps c₀ frames c = turnsLeft t frames c
 
--- src/term.rt:70:5
-
 -- The turn at a full word, up to where its place is passed.
 word-turn : (c : tie.After-passed Inv-loop μ-loop) →
     let loop = c .before .before .before .before .before .before .before .before .before .before .before .before in
@@ -68,164 +66,142 @@ past c = c .word .ensures ∙ ap (pastWord true) (c .before .onto2 .ensures)
 loop-holds : tie.Need-loop-holds Inv-loop μ-loop
 loop-holds c = turned-none (c .before .before .pre .1)
 
--- src/term.rt:74:16
 written-requires : tie.Need-written-requires Inv-loop μ-loop
 written-requires c κs = search needs
 
--- src/term.rt:75:33
 sub-up : tie.Need-sub-up Inv-loop μ-loop
 sub-up c = search needs
 
--- src/term.rt:75:26
 mul-up : tie.Need-mul-up Inv-loop μ-loop
 mul-up c = search needs
 
--- src/term.rt:75:26
 element-copy-out-up : tie.Need-element-copy-out-up Inv-loop μ-loop
 element-copy-out-up c = search needs
 
--- src/term.rt:75:17
 up-requires : tie.Need-up-requires Inv-loop μ-loop
 up-requires c κs = search needs
 
--- src/term.rt:70:5
 loop-less : tie.Need-loop-less Inv-loop μ-loop
-loop-less c = less-as (now (c .before .before .before .before .before .before .before .before .before .before .args .t)) (c .before .before .before .before .before .before .before .loop .frames) (c .up .ensures) (less-up (now (c .before .before .before .before .before .before .before .before .before .before .args .t)) (c .before .before .before .before .before .before .before .loop .frames) (c .before .before .before .before .before .before .before .loop .c) (c .before .before .before .before .before .if1 .taken))
+loop-less c =
+    let at-loop = c .before .before .before .before .before .before .before in
+    let t = now (at-loop .before .before .before .args .t) in
+    less-as t (at-loop .loop .frames) (c .up .ensures) (less-up t (at-loop .loop .frames) (at-loop .loop .c) (c .before .before .before .before .before .if1 .taken))
 
--- src/term.rt:70:5
 loop-again : tie.Need-loop-again Inv-loop μ-loop
-loop-again c = turned-as (c .up .ensures) (turned-up (c .before .before .before .before .before .before .before .loop .inv) (c .before .before .before .before .before .if1 .taken) (c .before .before .before .before .if2 .taken) (sym (c .before .before .before .written .ensures) ∙ c .before .before .if3 .taken))
+loop-again c =
+    let test = c .before .before in
+    let turn = test .before .before in
+    turned-as (c .up .ensures) (turned-up (turn .before .before .before .loop .inv) (turn .before .if1 .taken) (turn .if2 .taken) (sym (test .before .written .ensures) ∙ test .if3 .taken))
 
--- src/term.rt:77:28
 advanced-requires : tie.Need-advanced-requires Inv-loop μ-loop
 advanced-requires c κs = advance-asks (c .before .before .before .before .before .loop .inv .going .due)
 
--- src/term.rt:77:17
 onto-requires : tie.Need-onto-requires Inv-loop μ-loop
 onto-requires c κs = search needs
 
--- src/term.rt:70:5
 loop-less-2 : tie.Need-loop-less-2 Inv-loop μ-loop
-loop-less-2 c = less-as (now (c .before .before .before .before .before .before .before .before .before .before .args .t)) (c .before .before .before .before .before .before .before .loop .frames) (c .onto .ensures) (less-advanced (now (c .before .before .before .before .before .before .before .before .before .before .args .t)) (c .before .before .before .before .before .before .before .loop .frames) (c .before .before .before .before .before .before .before .loop .c) (c .before .advanced .ensures) (c .before .before .before .before .if2 .taken) (λ e. c .before .before .if3 .left (c .before .before .before .written .ensures ∙ e)))
+loop-less-2 c =
+    let test = c .before .before in
+    let at-loop = test .before .before .before .before .before in
+    let t = now (at-loop .before .before .before .args .t) in
+    less-as t (at-loop .loop .frames) (c .onto .ensures)
+    (less-advanced t (at-loop .loop .frames) (at-loop .loop .c) (c .before .advanced .ensures) (test .before .before .if2 .taken)
+    (λ e. test .if3 .left (test .before .written .ensures ∙ e)))
 
--- src/term.rt:70:5
 loop-again-2 : tie.Need-loop-again-2 Inv-loop μ-loop
 loop-again-2 c = turned-as (c .onto .ensures) (turned-advanced (c .before .before .before .before .before .before .before .loop .inv) (c .before .before .before .before .before .if1 .taken) (c .before .advanced .ensures) (c .before .before .before .before .if2 .taken))
 
--- src/term.rt:81:26
 kinds-requires : tie.Need-kinds-requires Inv-loop μ-loop
 kinds-requires c κs = search needs
 
--- src/term.rt:81:24
 shared-slice-read-kind : tie.Need-shared-slice-read-kind Inv-loop μ-loop
 shared-slice-read-kind c = kind-inside (c .before .before .before .before .before .loop .inv .going .due) (first-due (c .before .before .before .before .before .loop .c .due) (c .before .before .if2 .left)) (c .before .kinds .ensures)
 
--- src/term.rt:83:17
 returns : tie.Need-returns Inv-loop μ-loop
 returns c = turned-ends (c .before .before .before .before .before .before .loop .inv) (λ low. first-due (c .before .before .before .before .before .before .loop .c .due) (c .before .before .before .if2 .left))
 
--- src/term.rt:85:27
 sub-full-word : tie.Need-sub-full-word Inv-loop μ-loop
 sub-full-word c = search needs
 
--- src/term.rt:85:27
 part-full-word-start : tie.Need-part-full-word-start Inv-loop μ-loop
 part-full-word-start c = search needs
 
--- src/term.rt:85:27
 part-full-word-end : tie.Need-part-full-word-end Inv-loop μ-loop
 part-full-word-end c = search needs
 
--- src/term.rt:85:17
 full-word-requires : tie.Need-full-word-requires Inv-loop μ-loop
 full-word-requires c κs = few-words (c .before .before .before .before .before .before .before .before .before .before .pre .0) (λ i. c .before .before .before .before .before .before .before .before .before .shared-slice-known .given i .fits)
 
--- src/term.rt:86:17
 returns-2 : tie.Need-returns-2 Inv-loop μ-loop
 returns-2 c = turned-ends (c .before .before .before .before .before .before .before .before .before .loop .inv) (λ low. first-due (c .before .before .before .before .before .before .before .before .before .loop .c .due) (c .before .before .before .before .before .before .if2 .left))
 
--- src/term.rt:88:32
 shared-slice-read-wide : tie.Need-shared-slice-read-wide Inv-loop μ-loop
 shared-slice-read-wide c =
     let start = c .before .before .before .before .before .before .before .before .before .before .before .before .before in
     word-inside {t = now (start .args .t)} (full-here (start .pre .0) (c .before .before .full-word .ensures (not-false _ (c .before .if5 .left))) refl)
 
--- src/term.rt:88:17
 wide-requires : tie.Need-wide-requires Inv-loop μ-loop
 wide-requires c κs = search needs
 
--- src/term.rt:89:17
 passed-requires : tie.Need-passed-requires Inv-loop μ-loop
-passed-requires c κs = pass-asks (c .before .before .before .before .before .before .before .before .before .before .before .loop .inv .going .due) (first-due (c .before .before .before .before .before .before .before .before .before .before .before .loop .c .due) (c .before .before .before .before .before .before .before .before .if2 .left))
+passed-requires c κs =
+    let turn = c .before .before .before .before .before .before .before .before in
+    let at-loop = turn .before .before .before in
+    pass-asks (at-loop .loop .inv .going .due) (first-due (at-loop .loop .c .due) (turn .if2 .left))
 
--- src/term.rt:90:17
 onto-requires-2 : tie.Need-onto-requires-2 Inv-loop μ-loop
 onto-requires-2 c κs = search needs
 
--- src/term.rt:90:13
 word-requires : tie.Need-word-requires Inv-loop μ-loop
 word-requires c κs =
     let turn = word-turn (c .before) in
     let a = c .before .before .before .before .before .before .before .before .before .before .before .before .before .before .before .before .args in
     word-asks (c .onto2 .result) (turn .turned .going) (ap (λ d. d .at) (c .onto2 .ensures)) (ap (λ d. d .words) (c .onto2 .ensures)) (turn .here .long) (c .before .before .before .before .before .before .before .before .before .before .before .before .before .before .before .before .good .1 .0 .0)
 
--- src/term.rt:91:16
 element-copy-out-if6 : tie.Need-element-copy-out-if6 Inv-loop μ-loop
 element-copy-out-if6 c = lt-of-lt-of-le (word-turn (c .before .before) .here .known) (few-words (word-turn (c .before .before) .tables) (word-turn (c .before .before) .bytes))
 
--- src/term.rt:92:17
 mul-frames : tie.Need-mul-frames Inv-loop μ-loop
 mul-frames c = search needs
 
--- src/term.rt:92:17
 element-write-frames : tie.Need-element-write-frames Inv-loop μ-loop
 element-write-frames c = search needs
 
--- src/term.rt:93:40
 element-copy-out-full : tie.Need-element-copy-out-full Inv-loop μ-loop
 element-copy-out-full c = lt-of-lt-of-le (word-turn (c .before .before .before .before) .here .known) (few-words (word-turn (c .before .before .before .before) .tables) (word-turn (c .before .before .before .before) .bytes))
 
--- src/term.rt:93:49
 mul-full : tie.Need-mul-full Inv-loop μ-loop
 mul-full c = scaled-fits _ 96 2 (lt-of-lt-of-le (word-turn (c .before .before .before .before .before) .here .known) (few-words (word-turn (c .before .before .before .before .before) .tables) (word-turn (c .before .before .before .before .before) .bytes))) (lit< tt)
 
--- src/term.rt:93:49
 element-copy-out-full-2 : tie.Need-element-copy-out-full-2 Inv-loop μ-loop
 element-copy-out-full-2 c = lt-of-lt-of-le (word-turn (c .before .before .before .before .before) .here .known) (few-words (word-turn (c .before .before .before .before .before) .tables) (word-turn (c .before .before .before .before .before) .bytes))
 
--- src/term.rt:93:28
 full-requires : tie.Need-full-requires Inv-loop μ-loop
 full-requires c κs = search needs
 
--- src/term.rt:93:17
 down-requires : tie.Need-down-requires Inv-loop μ-loop
 down-requires c κs = let depth = ap (λ d. d .depth) (past (c .before .before .before .before .before)) in let room = word-turn (c .before .before .before .before .before .before .before) .room in omega arith
 
--- src/term.rt:70:5
 loop-less-3 : tie.Need-loop-less-3 Inv-loop μ-loop
 loop-less-3 c =
     let turn = word-turn (c .before .before .before .before .before .before .before .before) in
     let a = c .before .before .before .before .before .before .before .before .before .before .before .before .before .before .before .before .before .before .before .before .before .before .before .args in
     less-as (now (a .t)) _ (c .down .ensures ∙ ap (wentDown (c .before .full .result)) (past (c .before .before .before .before .before .before))) (less-down turn (c .before .full .result))
 
--- src/term.rt:70:5
 loop-again-3 : tie.Need-loop-again-3 Inv-loop μ-loop
 loop-again-3 c =
     let turn = word-turn (c .before .before .before .before .before .before .before .before) in
     turned-as (c .down .ensures ∙ ap (wentDown (c .before .full .result)) (past (c .before .before .before .before .before .before))) (turned-down turn (c .before .before .before .before .if6 .taken) (c .before .full .ensures))
 
--- src/term.rt:70:5
 loop-less-4 : tie.Need-loop-less-4 Inv-loop μ-loop
 loop-less-4 c =
     let turn = word-turn (c .before .before .before .before) in
     let a = c .before .before .before .before .before .before .before .before .before .before .before .before .before .before .before .before .before .before .before .args in
     less-as (now (a .t)) (c .before .before .before .before .before .before .before .before .before .before .before .before .before .before .before .before .loop .frames) (past (c .before .before)) (less-bare turn)
 
--- src/term.rt:70:5
 loop-again-4 : tie.Need-loop-again-4 Inv-loop μ-loop
 loop-again-4 c = turned-as (past (c .before .before)) (turned-bare (word-turn (c .before .before .before .before)) (c .if6 .left))
 
--- src/term.rt:55:1
 returns-3 : tie.Need-returns-3 Inv-loop μ-loop
 returns-3 c = turned-ends (c .before .before .loop .inv) (λ low. absurd (let none = c .if1 .left in omega arith))
 

@@ -64,8 +64,13 @@ clashes-requires : tie.Need-clashes-requires
 clashes-requires c κs = search needs
 
 returns : tie.Need-returns
-returns c = λ v u small. answers-fault (λ seen named.
-    step-clash u (c .before .before .before .before .before .before .before .before .before .args .kind) (stood-at (c .before .before .before .before .before .before) (c .before .before .before .before .n .given .1) v u) (now (c .before .before .before .before .before .before .before .before .before .args .names)) (sym (c .before .clashes .ensures) ∙ c .if1 .taken) seen named)
+returns c =
+    let read = c .before .before .before .before .before .before in
+    let found = c .before .before .before .before .n .given .1 in
+    let start = read .before .before .before in
+    λ v u small.
+    answers-fault
+    (λ seen named. step-clash u (start .args .kind) (stood-at read found v u) (now (start .args .names)) (sym (c .before .clashes .ensures) ∙ c .if1 .taken) seen named)
 
 mul-names : tie.Need-mul-names
 mul-names c = scaled-fits _ 64 2 (name-known (c .before .before .before .before .before .before) (c .before .before .before .before .n .given .1)) (lit< tt)
@@ -86,7 +91,11 @@ word-requires : tie.Need-word-requires
 word-requires c κs = search needs
 
 returns-2 : tie.Need-returns-2
-returns-2 c = λ v u small. answers-went (follows-as (c .before .word .ensures) (step-bare u (c .before .before .before .before .before .before .before .before .before .args .kind) (stood-at (c .before .before .before .before .before .before) (c .before .before .before .before .f .given .1) v u) (omega arith) (c .if2 .taken)))
+returns-2 c =
+    let read = c .before .before .before .before .before .before in
+    let found = c .before .before .before .before .f .given .1 in
+    let start = read .before .before .before in
+    λ v u small. answers-went (follows-as (c .before .word .ensures) (step-bare u (start .args .kind) (stood-at read found v u) (omega arith) (c .if2 .taken)))
 
 mul-frames : tie.Need-mul-frames
 mul-frames c = scaled-fits _ 32 8 (word-shallow (c .before .before .before .before .before .before) (c .before .before .before .before .f .given .1)) (lit< tt)
@@ -104,18 +113,34 @@ of-word-requires : tie.Need-of-word-requires
 of-word-requires c κs = search needs
 
 down-requires : tie.Need-down-requires
-down-requires c κs = let depth = ap (λ d. d .depth) (c .before .before .before .word .ensures) in let room = word-shallow (c .before .before .before .before .before .before .before .before) (c .before .before .before .before .before .before .f .given .1) in omega arith
+down-requires c κs =
+    let depth = ap (λ d. d .depth) (c .before .before .before .word .ensures) in
+    let room = word-shallow (c .before .before .before .before .before .before .before .before) (c .before .before .before .before .before .before .f .given .1) in
+    omega arith
 
 returns-3 : tie.Need-returns-3
-returns-3 c = λ v u small. answers-fault (λ seen named. step-fault u (c .before .before .before .before .before .before .args .kind) (stood-at (c .before .before .before) (c .before .why .given .1) v u) seen)
+returns-3 c =
+    let read = c .before .before .before in
+    λ v u small. answers-fault (λ seen named. step-fault u (read .before .before .before .args .kind) (stood-at read (c .before .why .given .1) v u) seen)
 
 returns-4 : tie.Need-returns-4
-returns-4 c = λ v u small. answers-went (follows-as (c .leaf .ensures)
-    (step-name u (c .before .before .before .before .before .before .before .before .before .before .args .kind) (stood-at (c .before .before .before .before .before .before .before) (c .before .before .before .before .before .n .given .1) v u) (now (c .before .before .before .before .before .before .before .before .before .before .args .names)) (c .before .before .before .before .before .before .before .before .before .before .pre .1 .0 .0) small (sym (c .before .before .clashes .ensures) ∙ c .before .if1 .left)))
+returns-4 c =
+    let read = c .before .before .before .before .before .before .before in
+    let found = c .before .before .before .before .before .n .given .1 in
+    let start = read .before .before .before in
+    λ v u small.
+    answers-went
+    (follows-as (c .leaf .ensures)
+    (step-name u (start .args .kind) (stood-at read found v u) (now (start .args .names)) (start .pre .1 .0 .0) small
+    (sym (c .before .before .clashes .ensures) ∙ c .before .if1 .left)))
 
 returns-5 : tie.Need-returns-5
-returns-5 c = λ v u small. answers-went (follows-as (c .down .ensures ∙ ap (wentDown (c .before .of-word .result)) (c .before .before .before .before .word .ensures))
-    (step-down u (c .before .before .before .before .before .before .before .before .before .before .before .before .args .kind) (stood-at (c .before .before .before .before .before .before .before .before .before) (c .before .before .before .before .before .before .before .f .given .1) v u) (omega arith) (c .before .before .before .if2 .left) (c .before .of-word .ensures)))
+returns-5 c = λ v u small.
+    answers-went
+    (follows-as (c .down .ensures ∙ ap (wentDown (c .before .of-word .result)) (c .before .before .before .before .word .ensures))
+    (step-down u (c .before .before .before .before .before .before .before .before .before .before .before .before .args .kind)
+    (stood-at (c .before .before .before .before .before .before .before .before .before) (c .before .before .before .before .before .before .before .f .given .1) v u)
+    (omega arith) (c .before .before .before .if2 .left) (c .before .of-word .ensures)))
 
 pub read-node-spec : {M : Type 1} → statement M
 read-node-spec =

@@ -5,7 +5,7 @@ use denote.Ref.{now}
 use mathlib.Core.Bool.{false}
 use lib.ListN.{length, replicate}
 use Rattle.signature.specs.Tables.{vocabularyIn}
-use Rattle.reader.specs.Terms.{nodeRun}
+use Rattle.reader.specs.Terms.{nodeRun, Under}
 use Rattle.reader.proofs.Tables.{few-words}
 use Rattle.reader.proofs.Turns.{pass-asks, kind-inside}
 use Rattle.reader.proofs.Places.{AtNode, node-first, node-under, node-follows, node-refused, onward-passed, onward-ends, onward-node, positive, node-less}
@@ -17,6 +17,15 @@ Inv-loop v t names₀ first words offsets results maps frames₀ c₀ kind₀ na
 
 abbrev μ-loop : tie.MeasureT-loop
 μ-loop v t names₀ first words offsets results maps frames₀ c₀ kind₀ names frames c kind = length t - c .at
+
+-- The tables that are lent are those of the vocabulary, at each node that is read.
+under : (c : tie.After-read-node Inv-loop μ-loop) →
+    let at-loop = c .before .before .before in
+    let a = at-loop .before .before .before .args in
+    Under (now (a .v)) (now (a .t)) (a .words) (now (a .offsets)) (now (a .results)) (now (a .maps)) (at-loop .loop .frames) (at-loop .loop .c)
+under c =
+    let at-loop = c .before .before .before in
+    node-under (at-loop .loop .inv) (at-loop .before .before .before .pre .0) (λ i. at-loop .before .before .shared-slice-known .given i .fits)
 
 loop-holds : tie.Need-loop-holds Inv-loop μ-loop
 loop-holds c = node-first (c .before .before .args .first) (omega arith) (c .before .before .pre .1 .0) (c .before .before .pre .1 .1)
@@ -33,7 +42,9 @@ enum-known-why c = c .match .keys1
 returns : tie.Need-returns Inv-loop μ-loop
 returns c =
     let read = c .before .before .before in
-    node-refused (read .before .before .before .loop .inv) (read .read-node .ensures (now (read .before .before .before .before .before .before .args .v)) (node-under (read .before .before .before .loop .inv) (read .before .before .before .before .before .before .pre .0) (λ i. read .before .before .before .before .before .shared-slice-known .given i .fits)) (read .before .before .before .loop .inv .small) .fault _ (c .before .why .given .1))
+    let at-loop = read .before .before .before in
+    node-refused (at-loop .loop .inv)
+    (read .read-node .ensures (now (at-loop .before .before .before .args .v)) (under read) (at-loop .loop .inv .small) .fault _ (c .before .why .given .1))
 
 enum-known-x : tie.Need-enum-known-x Inv-loop μ-loop
 enum-known-x c = c .match .keys2
@@ -41,14 +52,16 @@ enum-known-x c = c .match .keys2
 full-words-requires : tie.Need-full-words-requires Inv-loop μ-loop
 full-words-requires c κs =
     let read = c .before .before .before .before in
-    let read-it = read .read-node .ensures (now (read .before .before .before .before .before .before .args .v)) (node-under (read .before .before .before .loop .inv) (read .before .before .before .before .before .before .pre .0) (λ i. read .before .before .before .before .before .shared-slice-known .given i .fits)) (read .before .before .before .loop .inv .small) .went _ (c .before .before .x .given .1) in
-    (c .before .before .before .before .before .before .before .before .before .before .pre .0, read-it .going)
+    let at-loop = read .before .before .before in
+    let followed = read .read-node .ensures (now (at-loop .before .before .before .args .v)) (under read) (at-loop .loop .inv .small) .went _ (c .before .before .x .given .1) in
+    (at-loop .before .before .before .pre .0, followed .going)
 
 returns-2 : tie.Need-returns-2 Inv-loop μ-loop
 returns-2 c =
     let read = c .before .before .before .before .before .before .before in
-    let read-it = read .read-node .ensures (now (read .before .before .before .before .before .before .args .v)) (node-under (read .before .before .before .loop .inv) (read .before .before .before .before .before .before .pre .0) (λ i. read .before .before .before .before .before .shared-slice-known .given i .fits)) (read .before .before .before .loop .inv .small) .went _ (c .before .before .before .before .before .x .given .1) in
-    onward-ends (onward-passed (node-follows (read .before .before .before .loop .inv) read-it) (c .before .before .full-words .ensures)) (c .if1 .taken)
+    let at-loop = read .before .before .before in
+    let followed = read .read-node .ensures (now (at-loop .before .before .before .args .v)) (under read) (at-loop .loop .inv .small) .went _ (c .before .before .before .before .before .x .given .1) in
+    onward-ends (onward-passed (node-follows (at-loop .loop .inv) followed) (c .before .before .full-words .ensures)) (c .if1 .taken)
 
 kinds-requires : tie.Need-kinds-requires Inv-loop μ-loop
 kinds-requires c κs = tt
@@ -65,17 +78,19 @@ onto-requires c κs = tt
 loop-less : tie.Need-loop-less Inv-loop μ-loop
 loop-less c =
     let read = c .before .before .before .before .before .before .before .before .before .before .before in
-    let read-it = read .read-node .ensures (now (read .before .before .before .before .before .before .args .v)) (node-under (read .before .before .before .loop .inv) (read .before .before .before .before .before .before .pre .0) (λ i. read .before .before .before .before .before .shared-slice-known .given i .fits)) (read .before .before .before .loop .inv .small) .went _ (c .before .before .before .before .before .before .before .before .before .x .given .1) in
-    node-less (now (read .before .before .before .before .before .before .args .t)) (c .before .passed .result) (c .onto .result) read-it (c .before .before .before .before .before .before .full-words .ensures) (c .onto .ensures)
+    let at-loop = read .before .before .before in
+    let followed = read .read-node .ensures (now (at-loop .before .before .before .args .v)) (under read) (at-loop .loop .inv .small) .went _ (c .before .before .before .before .before .before .before .before .before .x .given .1) in
+    node-less (now (at-loop .before .before .before .args .t)) (c .before .passed .result) (c .onto .result) followed (c .before .before .before .before .before .before .full-words .ensures) (c .onto .ensures)
 
 loop-again : tie.Need-loop-again Inv-loop μ-loop
 loop-again c =
     let read = c .before .before .before .before .before .before .before .before .before .before .before in
-    let read-it = read .read-node .ensures (now (read .before .before .before .before .before .before .args .v)) (node-under (read .before .before .before .loop .inv) (read .before .before .before .before .before .before .pre .0) (λ i. read .before .before .before .before .before .shared-slice-known .given i .fits)) (read .before .before .before .loop .inv .small) .went _ (c .before .before .before .before .before .before .before .before .before .x .given .1) in
+    let at-loop = read .before .before .before in
+    let followed = read .read-node .ensures (now (at-loop .before .before .before .args .v)) (under read) (at-loop .loop .inv .small) .went _ (c .before .before .before .before .before .before .before .before .before .x .given .1) in
     let p = c .before .before .before .before .before .before .full-words .ensures in
     let low = positive _ (c .before .before .before .before .if1 .left) in
-    onward-node (onward-passed (node-follows (read .before .before .before .loop .inv) read-it) p) low (p .due low) (c .before .passed .ensures) (c .onto .ensures) (c .before .before .before .kinds .ensures)
-    (read .before .before .before .before .before .shared-slice-known .given (c .before .before .before .kinds .result) .fits)
+    onward-node (onward-passed (node-follows (at-loop .loop .inv) followed) p) low (p .due low) (c .before .passed .ensures) (c .onto .ensures) (c .before .before .before .kinds .ensures)
+    (at-loop .before .before .shared-slice-known .given (c .before .before .before .kinds .result) .fits)
 
 pub read-nodes-spec : {M : Type 1} → statement M
 read-nodes-spec =

@@ -27,9 +27,12 @@ returns : tie.Need-returns
 returns c =
     let start = c .before .before .before .before .before .before in
     let there = c .before .before .whole-at .ensures .there (c .before .if1 .taken) in
+    let few = few-words (start .pre .0) (λ i. c .before .before .before .before .before .shared-slice-known .given i .fits) in
+    let words = start .pre .0 .tabled .words in
     λ seen named.
     ends-as (c .leaf .ensures ∙ ap pastLeaf (c .before .before .before .start .ensures))
-    (root-whole (now (start .args .v)) (now (start .args .t)) (start .args .from) (start .args .kind) (start .pre .1 .0) (there .0) (there .1) (let few = few-words (start .pre .0) (λ i. c .before .before .before .before .before .shared-slice-known .given i .fits) in omega (arith, start .pre .0 .tabled .words)) seen named)
+    (root-whole (now (start .args .v)) (now (start .args .t)) (start .args .from) (start .args .kind) (start .pre .1 .0) (there .0) (there .1)
+    (omega arith) seen named)
 
 read-nodes-requires : tie.Need-read-nodes-requires
 read-nodes-requires c κs = let start = c .before .before .before .before .before .before in (start .pre .0, (start .pre .1 .1, root-at (now (start .args .v)) (now (start .args .t)) (start .args .from) (start .args .kind) (start .pre .1 .0) (c .before .before .before .start .ensures)))
