@@ -1,6 +1,7 @@
 -- Frames: what is due of a frame without its first place, of one with no place left, and of a list of frames.
 --
---   frame-parts, framed       a frame is made of its four numbers, and they are read back
+--   lowest-falls, no-ones, some-ones    the bits of a run, one for each place
+--   framed                    a frame is made of four numbers, and they are read back
 --   passed-framed, advanced-framed    the frames that `passed` and `advanced` make
 --   Behind, Advanced          y is the frame x without the first place of its run, or with its lowest place taken off its maps
 --   due-behind, due-advanced, due-done    what is due of them
@@ -13,12 +14,12 @@ use mathlib.Core.Path.{_≡_, refl, sym, ap, ap₂, _∙_}
 use mathlib.Core.Bool.{Bool, true, false, true≢false, false≢true}
 use mathlib.Core.List.{List, [], _∷_, _++_}
 use mathlib.Core.Logic.{_≢_}
-use Prim.Native.Nat.{ℕ, zero, suc, _+_, _-_, _*_, _/_, _%_, _^_, _<_, _≤_}
+use Prim.Native.Nat.{ℕ, zero, suc, _+_, _-_, _*_, _/_, _%_, _^_, _<_, _≤_, min}
 use native.Mathlib.Nat.{add-zero, pow-suc}
 use native.Mathlib.Decide.{ℕ-discrete}
 use native.Mathlib.Numerals.{add-one}
 use native.Mathlib.Omega.{arith}
-use lib.Bits.{bitAnd, and-step}
+use lib.Bits.{bitAnd, and-step, and-self, and-block, and-le-l}
 use lib.Count
 use lib.Dec.{eqb}
 use lib.ListN.{length, getD, drop, set}
@@ -29,18 +30,65 @@ use Rattle.wire.specs.TermLines.{Due, dueAt}
 use Rattle.wire.proofs.Map.{bit-odd}
 use Rattle.reader.specs.Frames.{runIn, kindsIn, writtenIn, placesIn, Framed, FrameIn, placesDue, frameDue, savedDue}
 
+-- ---- the bits of a run
+
+pub no-ones : (m : ℕ) → m ≡ 0 → Count.ones m ≡ 0
+no-ones m e = let none : Count.ones m ≤ 0 = Count.ones-le 0 m (omega arith) in omega arith
+
+some-half : (m : ℕ) → ((m % 2 ≡ 1 → ⊥) → 0 < Count.ones (m / 2)) → 0 < Count.ones m
+some-half m half = go (ℕ-discrete (m % 2) 1)
+  where
+    go : Dec (m % 2 ≡ 1) → 0 < Count.ones m
+    go (yes odd) = omega (arith, Count.ones-step m)
+    go (no even) = omega (arith, Count.ones-step m, half even)
+
+some-below : (b m : ℕ) → m < b → (m ≡ 0 → ⊥) → 0 < Count.ones m
+some-below zero m h d = absurd (omega arith)
+some-below (suc b) m h d = some-half m (λ even. some-below b (m / 2) (omega arith) (λ e. d (omega arith)))
+
+-- A map that is not 0 has places.
+pub some-ones : (m : ℕ) → (m ≡ 0 → ⊥) → 0 < Count.ones m
+some-ones m = some-below (suc m) m (omega arith)
+
+twice-ones : (y : ℕ) → Count.ones (y * 2 + 0) ≡ Count.ones y
+twice-ones y =
+    let half : (y * 2 + 0) / 2 ≡ y = omega arith in
+    let even : (y * 2 + 0) % 2 ≡ 0 = omega arith in
+    omega (arith, Count.ones-step (y * 2 + 0), ap Count.ones half)
+
+falls-below : (b m : ℕ) → m < b → 0 < m → Count.ones (bitAnd m (m - 1)) + 1 ≡ Count.ones m
+falls-below zero m h some = absurd (omega arith)
+falls-below (suc b) m h some = go (ℕ-discrete (m % 2) 1) (falls-below b (m / 2) (omega arith))
+  where
+    go : Dec (m % 2 ≡ 1) → (0 < m / 2 → Count.ones (bitAnd (m / 2) (m / 2 - 1)) + 1 ≡ Count.ones (m / 2)) → Count.ones (bitAnd m (m - 1)) + 1 ≡ Count.ones m
+    go (yes odd) ih =
+        let half : (m - 1) / 2 ≡ m / 2 = omega arith in
+        let low : min (m % 2) ((m - 1) % 2) ≡ 0 = omega arith in
+        let same : bitAnd m (m - 1) ≡ m / 2 * 2 + 0 = and-step m (m - 1) ∙ ap₂ (λ y r. y * 2 + r) (ap (bitAnd (m / 2)) half ∙ and-self (m / 2)) low in
+        omega (arith, ap Count.ones same, twice-ones (m / 2), Count.ones-step m)
+    go (no even) ih =
+        let half : (m - 1) / 2 ≡ m / 2 - 1 = omega arith in
+        let low : min (m % 2) ((m - 1) % 2) ≡ 0 = omega arith in
+        let same : bitAnd m (m - 1) ≡ bitAnd (m / 2) (m / 2 - 1) * 2 + 0 = and-step m (m - 1) ∙ ap₂ (λ y r. y * 2 + r) (ap (bitAnd (m / 2)) half) low in
+        omega (arith, ap Count.ones same, twice-ones (bitAnd (m / 2) (m / 2 - 1)), ih (omega arith), Count.ones-step m)
+
+-- Without its lowest bit a number has one bit less.
+pub lowest-falls : (m : ℕ) → 0 < m → Count.ones (bitAnd m (m - 1)) + 1 ≡ Count.ones m
+lowest-falls m = falls-below (suc m) m (omega arith)
+
 -- ---- the four numbers
 
-pub frame-parts : (x : ℕ) → x ≡ runIn x + 16 * (kindsIn x + 1048576 * (writtenIn x + 256 * placesIn x))
+frame-parts : (x : ℕ) → x / 256 ≡ kindsIn x + 1048576 * (writtenIn x + 256 * placesIn x)
 frame-parts x = omega arith
 
-pub framed : (n k w p : ℕ) → n < 16 → k < 1048576 → w < 256 → Framed (n + 16 * (k + 1048576 * (w + 256 * p))) n k w p
-framed n k w p hn hk hw =
-    let x : ℕ = n + 16 * (k + 1048576 * (w + 256 * p)) in
-    let upper : x / 16 ≡ k + 1048576 * (w + 256 * p) = omega arith in
-    let maps : x / 16 / 1048576 ≡ w + 256 * p = ap (λ y. y / 1048576) upper ∙ omega arith in
+pub framed : (b k w p : ℕ) → b < 256 → k < 1048576 → w < 256 → Framed (b + 256 * (k + 1048576 * (w + 256 * p))) (Count.ones b) k w p
+framed b k w p hb hk hw =
+    let x : ℕ = b + 256 * (k + 1048576 * (w + 256 * p)) in
+    let upper : x / 256 ≡ k + 1048576 * (w + 256 * p) = omega arith in
+    let maps : x / 256 / 1048576 ≡ w + 256 * p = ap (λ y. y / 1048576) upper ∙ omega arith in
+    let low : x % 256 ≡ b = omega arith in
     record {
-      run = omega arith;
+      run = ap Count.ones low;
       kinds = ap (λ y. y % 1048576) upper ∙ omega arith;
       written = ap (λ y. y % 256) maps ∙ omega arith;
       places = ap (λ y. y / 256) maps ∙ omega arith;
@@ -54,16 +102,56 @@ Behind x y = Framed y (runIn x - 1) (kindsIn x + 1) (writtenIn x) (placesIn x)
 abbrev pub Advanced : ℕ → ℕ → Type 0
 Advanced x y = Framed y (writtenIn x % 2) (kindsIn x + placesIn x % 2 - writtenIn x % 2) (writtenIn x / 2) (placesIn x / 2)
 
-pub passed-framed : (x : ℕ) → 0 < runIn x → kindsIn x < 131072 → Behind x (x + 15)
-passed-framed x some near =
-    let parts = frame-parts x in
-    let e : x + 15 ≡ (runIn x - 1) + 16 * ((kindsIn x + 1) + 1048576 * (writtenIn x + 256 * placesIn x)) = omega arith in
-    rw e (framed (runIn x - 1) (kindsIn x + 1) (writtenIn x) (placesIn x) (omega arith) (omega arith) (omega arith))
+-- Where a place is left in the run a bit stands for it.
+pub run-bits : (x : ℕ) → 0 < runIn x → 0 < x % 256
+run-bits x some = go (ℕ-discrete (x % 256) 0)
+  where
+    go : Dec (x % 256 ≡ 0) → 0 < x % 256
+    go (yes e) = absurd (omega (arith, no-ones (x % 256) e))
+    go (no d) = omega (arith, d)
 
-pub advanced-framed : (x : ℕ) → kindsIn x < 131072 →
-    Advanced x (writtenIn x % 2 + 16 * ((kindsIn x + placesIn x % 2 - writtenIn x % 2) + 1048576 * (writtenIn x / 2 + 256 * (placesIn x / 2))))
+pub passed-framed : (x : ℕ) → 0 < runIn x → kindsIn x < 131072 → Behind x (bitAnd x (x - 1) + 256)
+passed-framed x some near =
+    let bits = run-bits x some in
+    let upper : ℕ = x / 256 in
+    let low : ℕ = x % 256 in
+    let parts = frame-parts x in
+    let whole : x ≡ upper * 2 ^ 8 + low = omega arith in
+    let before : x - 1 ≡ upper * 2 ^ 8 + (low - 1) = omega arith in
+    let fallen : bitAnd x (x - 1) ≡ upper * 2 ^ 8 + bitAnd low (low - 1) =
+    ap₂ bitAnd whole before ∙ and-block 8 upper upper low (low - 1) (omega arith) (omega arith) ∙ ap (λ y. y * 2 ^ 8 + bitAnd low (low - 1)) (and-self upper) in
+    let less = and-le-l low (low - 1) in
+    let e : bitAnd x (x - 1) + 256 ≡ bitAnd low (low - 1) + 256 * ((kindsIn x + 1) + 1048576 * (writtenIn x + 256 * placesIn x)) = omega (arith, fallen) in
+    let f = framed (bitAnd low (low - 1)) (kindsIn x + 1) (writtenIn x) (placesIn x) (omega arith) (omega arith) (omega arith) in
+    rw e (record { run = f .run ∙ (let one = lowest-falls low bits in omega arith); kinds = f .kinds; written = f .written; places = f .places })
+
+-- The frame x with its lowest place taken off its maps, as a number.
+abbrev pub advancedFrom : ℕ → ℕ
+advancedFrom x = writtenIn x % 2 + 256 * ((kindsIn x + placesIn x % 2 - writtenIn x % 2) + 1048576 * (writtenIn x / 2 + 256 * (placesIn x / 2)))
+
+pub advanced-fits : (w k p : ℕ) → w < 256 → k < 131073 → p < 256 → w % 2 + 256 * (k + 1048576 * (w / 2 + 256 * (p / 2))) < 18446744073709551616
+advanced-fits w k p hw hk hp =
+    let maps : w / 2 + 256 * (p / 2) < 65536 = omega arith in
+    let m : ℕ = w / 2 + 256 * (p / 2) in
+    let upper : k + 1048576 * m < 137438953472 = sum-fits m k maps hk in
+    let low : w % 2 < 2 = omega arith in
+    last-fits (w % 2) (k + 1048576 * m) low upper
+  where
+    sum-fits : (m k : ℕ) → m < 65536 → k < 131073 → k + 1048576 * m < 137438953472
+    sum-fits m k hm hk = omega arith
+
+    last-fits : (r u : ℕ) → r < 2 → u < 137438953472 → r + 256 * u < 18446744073709551616
+    last-fits r u hr hu = omega arith
+
+one-bit : (b : ℕ) → b < 2 → Count.ones b ≡ b
+one-bit b h =
+    let none : Count.ones (b / 2) ≤ 0 = Count.ones-le 0 (b / 2) (omega arith) in
+    omega (arith, Count.ones-step b)
+
+pub advanced-framed : (x : ℕ) → kindsIn x < 131072 → Advanced x (advancedFrom x)
 advanced-framed x near =
-    framed (writtenIn x % 2) (kindsIn x + placesIn x % 2 - writtenIn x % 2) (writtenIn x / 2) (placesIn x / 2) (omega arith) (omega arith) (omega arith)
+    let f = framed (writtenIn x % 2) (kindsIn x + placesIn x % 2 - writtenIn x % 2) (writtenIn x / 2) (placesIn x / 2) (omega arith) (omega arith) (omega arith) in
+    record { run = f .run ∙ one-bit (writtenIn x % 2) (omega arith); kinds = f .kinds; written = f .written; places = f .places }
 
 -- ---- bits past the last one that stands
 
@@ -266,7 +354,7 @@ module _ (v : List ℕ) (x y : ℕ) (h : FrameIn v x) where
 -- The frame of no place at all.
 pub frame-none : (v : List ℕ) → FrameIn v 0
 frame-none v =
-    let none : Count.ones (placesIn 0) ≤ 0 = Count.ones-le 0 (placesIn 0) (omega arith) in
+    let none = no-ones 0 refl in
     record { few = omega arith; map = omega arith; within = refl; inside = omega arith; near = omega arith }
 
 -- ---- a list of frames

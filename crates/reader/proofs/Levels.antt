@@ -2,9 +2,10 @@
 use mathlib.Core.Path.{_≡_, refl, sym, ap, subst, _∙_}
 use mathlib.Core.Bool.{false}
 use mathlib.Core.List.{List, [], _∷_, _++_}
-use Prim.Native.Nat.{ℕ, zero, suc, _+_, _-_, _%_, _/_, _*_, _<_, _≤_, max}
+use Prim.Native.Nat.{ℕ, zero, suc, _+_, _-_, _<_, _≤_, max}
 use native.Mathlib.Decide.{decLe, ℕ-discrete}
 use native.Mathlib.Omega.{arith}
+use lib.Bits.{bitAnd}
 use lib.ListN.{getD}
 use Rattle.terms.specs.Term.{Occurrence}
 use Rattle.wire.specs.Vocabulary.{Vocabulary}
@@ -13,8 +14,8 @@ use Rattle.wire.specs.Parser.{Node, wordHere, nameHere, wholeHere, fault, node}
 use Rattle.wire.specs.TermBytes.{mostLevels}
 use Rattle.wire.specs.Scan.{Tally, withWord, withLeaf, scanNode, run}
 use Rattle.wire.proofs.Scan.{run-node, run-limit}
-use Rattle.reader.specs.Frames.{runIn, kindsIn, writtenIn, placesIn, FrameIn, frameDue}
-use Rattle.reader.proofs.Frames.{advanced-framed, passed-framed, due-behind, due-advanced, frame-advanced}
+use Rattle.reader.specs.Frames.{runIn, kindsIn, writtenIn, FrameIn, frameDue}
+use Rattle.reader.proofs.Frames.{advancedFrom, advanced-framed, passed-framed, due-behind, due-advanced, frame-advanced}
 
 -- The tally with a level that is due.
 abbrev pub withLevel : ℕ → Tally → Tally
@@ -55,18 +56,14 @@ module _ (W : Vocabulary) where
     run-reaches : (x : ℕ) → 0 < runIn x → FrameIn v x → Reaches W level (frameDue v level x)
     run-reaches x some sound =
         let near = sound .near in
-        subst (Reaches W level) (sym (due-behind v level x (x + 15) (passed-framed x some (omega arith)) some))
-        (first-reaches (record { sort = getD v (kindsIn x) 0; level = level; root = false }) (frameDue v level (x + 15)))
-
-    -- A frame with its lowest place taken off its maps.
-    abbrev next : ℕ → ℕ
-    next x = writtenIn x % 2 + 16 * ((kindsIn x + placesIn x % 2 - writtenIn x % 2) + 1048576 * (writtenIn x / 2 + 256 * (placesIn x / 2)))
+        subst (Reaches W level) (sym (due-behind v level x (bitAnd x (x - 1) + 256) (passed-framed x some (omega arith)) some))
+        (first-reaches (record { sort = getD v (kindsIn x) 0; level = level; root = false }) (frameDue v level (bitAnd x (x - 1) + 256)))
 
     frame-below : (n x : ℕ) → writtenIn x < n → FrameIn v x → 0 < runIn x + writtenIn x → Reaches W level (frameDue v level x)
     frame-below zero x few sound some = absurd (omega arith)
-    frame-below (suc n) x few sound some = go (ℕ-discrete (runIn x) 0) (frame-below n (next x))
+    frame-below (suc n) x few sound some = go (ℕ-discrete (runIn x) 0) (frame-below n (advancedFrom x))
       where
-        go : Dec (runIn x ≡ 0) → (writtenIn (next x) < n → FrameIn v (next x) → 0 < runIn (next x) + writtenIn (next x) → Reaches W level (frameDue v level (next x))) →
+        go : Dec (runIn x ≡ 0) → (writtenIn (advancedFrom x) < n → FrameIn v (advancedFrom x) → 0 < runIn (advancedFrom x) + writtenIn (advancedFrom x) → Reaches W level (frameDue v level (advancedFrom x))) →
             Reaches W level (frameDue v level x)
         go (no other) ih = run-reaches x (omega arith) sound
         go (yes none) ih =
@@ -74,8 +71,8 @@ module _ (W : Vocabulary) where
             let a = advanced-framed x (omega arith) in
             let run = a .run in
             let written = a .written in
-            subst (Reaches W level) (sym (due-advanced v level x sound (next x) a none))
-            (ih (omega arith) (frame-advanced v x (next x) sound a none) (omega arith))
+            subst (Reaches W level) (sym (due-advanced v level x sound (advancedFrom x) a none))
+            (ih (omega arith) (frame-advanced v x (advancedFrom x) sound a none) (omega arith))
 
     -- A frame with places that are due has one due at its level.
     pub frame-reaches : (x : ℕ) → FrameIn v x → 0 < runIn x + writtenIn x → Reaches W level (frameDue v level x)

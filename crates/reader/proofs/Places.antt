@@ -14,6 +14,7 @@ use mathlib.Core.Option.{Option, some, none}
 use Prim.Native.Nat.{ℕ, zero, suc, _+_, _-_, _<_, _≤_, min}
 use native.Mathlib.Nat.{add-zero}
 use native.Mathlib.Omega.{arith}
+use lib.Count
 use lib.Dec.{eqb, ltb}
 use lib.ListN.{length, getD, drop, replicate, length-drop, List·getD-eq-default}
 use lib.Seq.{getD-drop, drop-drop}
@@ -96,6 +97,7 @@ module _ {v t names₀ : List ℕ} {whole : Whole} {names frames : List ℕ} {c 
 
   -- Nothing is due any more.
   pub onward-ends : c .depth ≡ 0 → (seen : List Occurrence) → Named names₀ seen → Answers t names (whole seen) (R.Read c)
+  unfolding Count.ones
   onward-ends e seen named =
       let l = x .leads seen named in
       record {
@@ -189,6 +191,7 @@ module _ (v t : List ℕ) (from k : ℕ) (inside : from ≤ length t) where
 
   pub root-begins : (getD (drop from t) 0 0 ≡ 255 → ⊥) → (seen : List Occurrence) →
       nodeRun U v t (replicate 32 0) seen false k (started from (length t)) ≡ run U (rootDue k ∷ []) seen noTally (drop from t)
+  unfolding Count.ones
   root-begins other seen =
       run-node U (record { sort = k; level = 1; root = false }) [] seen (tallyAt (length t) (started from (length t))) (drop from t) (omega arith)
       ∙ sym (root-node seen (gapLeft (length t) from (length t)) no-gap (node U false k seen (drop from t)))

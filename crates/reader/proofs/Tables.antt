@@ -9,7 +9,7 @@
 use mathlib.Core.Path.{_≡_, refl, sym, ap, ap₂, subst, _∙_}
 use mathlib.Core.Bool.{Bool, true, false}
 use mathlib.Core.List.{List, [], _∷_, _++_, append-nil}
-use Prim.Native.Nat.{ℕ, zero, suc, _+_, _*_, _/_, _%_, _<_, _≤_}
+use Prim.Native.Nat.{ℕ, zero, suc, _+_, _*_, _<_, _≤_}
 use native.Mathlib.Decide.{ℕ-discrete}
 use native.Mathlib.Numerals.{add-one}
 use native.Mathlib.Nat.{add-zero}
@@ -27,10 +27,10 @@ use Rattle.wire.proofs.Map.{ones-count}
 use Rattle.wire.proofs.Words.{word-in-order}
 use Rattle.wire.proofs.Theorems.{vocabularies-inverse}
 use Rattle.signature.specs.Tables.{Tables, vocabularyIn}
-use Rattle.reader.specs.Frames.{runIn, kindsIn, writtenIn, placesIn, Framed, WordFrame, FrameIn, placesDue, frameDue}
+use Rattle.reader.specs.Frames.{runIn, writtenIn, placesIn, WordFrame, FrameIn, placesDue, frameDue}
 use Rattle.reader.specs.Nodes.{TablesOf}
 use Rattle.reader.specs.Terms.{FullWord}
-use Rattle.reader.proofs.Frames.{framed, due-parts, due-bare}
+use Rattle.reader.proofs.Frames.{no-ones, some-ones, framed, due-parts, due-bare}
 
 -- ---- kinds that stand in a vocabulary
 
@@ -61,42 +61,27 @@ slots-front (true ∷ ps) ws [] r h = absurd (omega arith)
 slots-front (true ∷ ps) ws (k ∷ ks) r h =
     ap {B = List Slot} (λ z. record { sort = k; written = firstFlag ws } ∷ z) (slots-front ps (restFlags ws) ks r (omega arith))
 
-some-half : (m : ℕ) → ((m % 2 ≡ 1 → ⊥) → 0 < Count.ones (m / 2)) → 0 < Count.ones m
-some-half m half = go (ℕ-discrete (m % 2) 1)
-  where
-    go : Dec (m % 2 ≡ 1) → 0 < Count.ones m
-    go (yes odd) = omega (arith, Count.ones-step m)
-    go (no even) = omega (arith, Count.ones-step m, half even)
-
-some-below : (b m : ℕ) → m < b → (m ≡ 0 → ⊥) → 0 < Count.ones m
-some-below zero m h d = absurd (omega arith)
-some-below (suc b) m h d = some-half m (λ even. some-below b (m / 2) (omega arith) (λ e. d (omega arith)))
-
--- A map that is not 0 has places.
-some-ones : (m : ℕ) → (m ≡ 0 → ⊥) → 0 < Count.ones m
-some-ones m = some-below (suc m) m (omega arith)
-
 -- ---- the frame of a word
 
 -- The frame of a word with all its places.
-pub full-made : (m o : ℕ) → m < 256 → o < 65536 → WordFrame (Count.ones m + 16 * (o + 2)) m m o
+pub full-made : (m o : ℕ) → m < 256 → o < 65536 → WordFrame (m + 256 * (o + 2)) m m o
 full-made m o map near =
-    let few = Count.ones-le 8 m map in
-    let e : Count.ones m + 16 * (o + 2) ≡ Count.ones m + 16 * ((o + 2) + 1048576 * (0 + 256 * 0)) = omega arith in
+    let e : m + 256 * (o + 2) ≡ m + 256 * ((o + 2) + 1048576 * (0 + 256 * 0)) = omega arith in
     record {
-      full = λ same. rw e (framed (Count.ones m) (o + 2) 0 0 (omega arith) (omega arith) (omega arith));
+      full = λ same. rw e (framed m (o + 2) 0 0 (omega arith) (omega arith) (omega arith));
       part = λ other. absurd (other refl);
       near = near;
       map = map;
     }
 
 -- The frame of a word at another written map than its place map.
-pub part-made : (w p o : ℕ) → (w ≡ p → ⊥) → w < 256 → p < 256 → o < 65536 → WordFrame (16 * (o + 2 + 1048576 * (w + 256 * p))) w p o
+pub part-made : (w p o : ℕ) → (w ≡ p → ⊥) → w < 256 → p < 256 → o < 65536 → WordFrame (256 * (o + 2 + 1048576 * (w + 256 * p))) w p o
 part-made w p o other written map near =
-    let e : 16 * (o + 2 + 1048576 * (w + 256 * p)) ≡ 0 + 16 * ((o + 2) + 1048576 * (w + 256 * p)) = omega arith in
+    let e : 256 * (o + 2 + 1048576 * (w + 256 * p)) ≡ 0 + 256 * ((o + 2) + 1048576 * (w + 256 * p)) = omega arith in
+    let f = framed 0 (o + 2) w p (omega arith) (omega arith) written in
     record {
       full = λ same. absurd (other same);
-      part = λ other. rw e (framed 0 (o + 2) w p (omega arith) (omega arith) written);
+      part = λ other. rw e (record { run = f .run ∙ no-ones 0 refl; kinds = f .kinds; written = f .written; places = f .places });
       near = near;
       map = map;
     }
@@ -171,7 +156,7 @@ module _ {v : List ℕ} {n : ℕ} {offsets results maps : List ℕ} (t : Tables 
             let run = f4 .run in
             let kinds = f4 .kinds in
             let places = f4 .places in
-            let none : Count.ones (placesIn z) ≤ 0 = Count.ones-le 0 (placesIn z) (omega arith) in
+            let none = no-ones (placesIn z) (f4 .places) in
             let few = Count.ones-le 8 p map-byte in
             let near = made .near in
             let inside = t .inside f known in

@@ -30,7 +30,7 @@ use Rattle.reader.specs.Frames.{runIn, kindsIn, writtenIn, placesIn, Wor
 use Rattle.reader.specs.Cursors.{pastWord, wentDown, wentUp, atFrame, restRun, Going}
 use Rattle.reader.specs.Terms.{FullWord, Passed}
 use Rattle.reader.specs.declared.cursor.Cursor.{Cursor}
-use Rattle.reader.proofs.Frames.{Behind, Advanced, low-within, due-bare, frame-behind, frame-advanced}
+use Rattle.reader.proofs.Frames.{no-ones, some-ones, Behind, Advanced, low-within, due-bare, frame-behind, frame-advanced}
 use Rattle.reader.proofs.Tables.{WordFramed, known-word, word-framed, full-slots}
 use Rattle.reader.proofs.Standing.{rest-whole}
 use Rattle.reader.proofs.Cursors.{going-onto, going-up, going-word, going-down, run-place, run-advanced, run-up, run-bare, run-down}
@@ -146,22 +146,22 @@ module _ {v t frames₀ frames : List ℕ} {c₀ c : Cursor} {n : ℕ} {offsets 
     further = omega (arith, x .turned .further);
   }
 
+  framed-down : {z : ℕ} → WordFrame z (getD maps f 0) (getD maps f 0) (getD offsets f 0) → WordFramed v W f (mapOf W f) z
+  framed-down {z} made =
+      word-framed (x .tables) (x .bytes) (x .here .known)
+      (subst (λ m. WordFrame z m m (getD offsets f 0)) (x .tables .placeMap f (x .here .known)) made) (and-self (mapOf W f))
+
   pub turned-down : {z : ℕ} → (getD maps f 0 ≡ 0 → ⊥) → WordFrame z (getD maps f 0) (getD maps f 0) (getD offsets f 0) →
       Turned v t frames₀ c₀ (set frames (c .depth) y) (wentDown z (pastWord true (atFrame y c)))
   turned-down {z} other made = record {
-    going = going-down past (let room = x .room in omega arith) (framed .fits);
+    going = going-down past (let room = x .room in omega arith) (framed-down made .fits);
     same = λ seen.
         run-down W v t frames seen (getD v (kindsIn (c .due)) 0) onto (x .room) f (fullSlots W f) true whole (x .here .long) (x .here .stands)
-        z (framed .fits) (framed .some (λ e. other (x .tables .placeMap f (x .here .known) ∙ e))) (framed .dues)
+        z (framed-down made .fits) (framed-down made .some (λ e. other (x .tables .placeMap f (x .here .known) ∙ e))) (framed-down made .dues)
         ∙ sym (run-place W v t frames seen c y (x .behind) (x .first))
         ∙ x .turned .same seen;
     further = omega (arith, x .turned .further);
   }
-    where
-      framed : WordFramed v W f (mapOf W f) z
-      framed =
-          word-framed (x .tables) (x .bytes) (x .here .known)
-          (subst (λ m. WordFrame z m m (getD offsets f 0)) (x .tables .placeMap f (x .here .known)) made) (and-self (mapOf W f))
 
 -- ---- the measure
 
@@ -210,8 +210,10 @@ module _ {v t frames₀ frames : List ℕ} {c₀ c : Cursor} {n : ℕ} {offsets 
       let first = x .first in
       omega (arith, x .here .long)
 
-  pub less-down : (z : ℕ) → turnsLeft t (set frames (c .depth) y) (wentDown z (pastWord true (atFrame y c))) < turnsLeft t frames c
-  less-down z =
+  pub less-down : (z : ℕ) → WordFrame z (getD maps f 0) (getD maps f 0) (getD offsets f 0) →
+      turnsLeft t (set frames (c .depth) y) (wentDown z (pastWord true (atFrame y c))) < turnsLeft t frames c
+  less-down z made =
+      let short = framed-down x made .fits .few in
       let run = x .behind .run in
       let written = x .behind .written in
       let few : writtenIn z < 256 = omega arith in
@@ -224,8 +226,11 @@ module _ {v t frames₀ frames : List ℕ} {c₀ c : Cursor} {n : ℕ} {offsets 
 pub less-as : (t frames : List ℕ) {c d : Cursor} {m : ℕ} → d ≡ c → turnsLeft t frames c < m → turnsLeft t frames d < m
 less-as t frames {m = m} e h = subst (λ c. turnsLeft t frames c < m) (sym e) h
 
-pub first-due : (x : ℕ) → (runIn x ≡ 0 → ⊥) → 0 < runIn x
-first-due x other = let some : 0 < runIn x = omega (arith, other) in some
+pub first-due : (x : ℕ) → (x % 256 ≡ 0 → ⊥) → 0 < runIn x
+first-due x other = some-ones (x % 256) other
+
+pub none-due : (x : ℕ) → x % 256 ≡ 0 → runIn x ≡ 0
+none-due x none = no-ones (x % 256) none
 
 pub advance-asks : {v : List ℕ} {x : ℕ} → FrameIn v x → (kindsIn x < 131072) × (placesIn x < 256) × (writtenIn x % 2 ≤ placesIn x % 2)
 advance-asks {v} {x} h = let near = h .near in (omega arith, h .map, low-within v 0 x h)

@@ -1,6 +1,6 @@
 -- Frames: the places of a word that are due, packed into a number; no public contract cites it.
 --
---   runIn x               how many places follow each other in a run, all of them written
+--   runIn x               how many places follow each other in a run, all of them written: a bit for each
 --   kindsIn x             the offset in the vocabulary of the kind of the run's first place
 --   writtenIn x           the written map of the places behind the run
 --   placesIn x            their place map
@@ -23,16 +23,16 @@ use Rattle.wire.specs.Map.{mapBytes, flags, slots}
 use Rattle.wire.specs.TermLines.{Due, dueAt}
 
 abbrev pub runIn : ℕ → ℕ
-runIn x = x % 16
+runIn x = Count.ones (x % 256)
 
 abbrev pub kindsIn : ℕ → ℕ
-kindsIn x = x / 16 % 1048576
+kindsIn x = x / 256 % 1048576
 
 abbrev pub writtenIn : ℕ → ℕ
-writtenIn x = x / 16 / 1048576 % 256
+writtenIn x = x / 256 / 1048576 % 256
 
 abbrev pub placesIn : ℕ → ℕ
-placesIn x = x / 16 / 1048576 / 256
+placesIn x = x / 256 / 1048576 / 256
 
 pub record Framed (x n k w p : ℕ) : Type 0 where
   pub run : runIn x ≡ n

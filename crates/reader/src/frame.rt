@@ -1,5 +1,5 @@
-// The places of a word that are due, packed into a number: how many follow each other in a run, the offset in the
-// vocabulary of the first one's kind, and the written map and the place map of those behind the run.
+// The places of a word that are due, packed into a number: those that follow each other in a run, a bit for each, the
+// offset in the vocabulary of the first one's kind, and the written map and the place map of those behind the run.
 ghost use mathlib.Core.Path.{_≡_};
 ghost use Prim.Native.Nat.{_+_, _-_, _/_, _%_, _<_, _≤_};
 ghost use Rattle.reader.specs.Frames.{runIn, kindsIn, writtenIn, placesIn, Framed, WordFrame};
@@ -8,22 +8,22 @@ ghost use Rattle.reader.specs.Frames.{runIn, kindsIn, writtenIn, placesI
 pub(crate) fn kinds(frame: u64) -> usize
     ensures { λ r. ⌜ r ≡ kindsIn frame ⌝ }
 {
-    (frame / 16 % 1048576) as usize
+    (frame / 256 % 1048576) as usize
 }
 
 // The written map behind the run.
 pub(crate) fn written(frame: u64) -> u64
     ensures { λ r. ⌜ r ≡ writtenIn frame ⌝ }
 {
-    frame / 16 / 1048576 % 256
+    frame / 256 / 1048576 % 256
 }
 
-// The frame without the first place of its run.
+// The frame without the first place of its run: the lowest bit falls, and the next kind is one further.
 pub(crate) fn passed(frame: u64) -> u64
     requires { ⌜ (0 < runIn frame) × (kindsIn frame < 131072) × (placesIn frame < 256) ⌝ }
     ensures { λ r. ⌜ Framed r (runIn frame - 1) (kindsIn frame + 1) (writtenIn frame) (placesIn frame) ⌝ }
 {
-    frame + 15
+    (frame & (frame - 1)) + 256
 }
 
 // The frame with the lowest place of its maps taken off them: it is a run of its own if it is written.
@@ -31,13 +31,13 @@ pub(crate) fn advanced(frame: u64) -> u64
     requires { ⌜ (kindsIn frame < 131072) × (placesIn frame < 256) × (writtenIn frame % 2 ≤ placesIn frame % 2) ⌝ }
     ensures { λ r. ⌜ Framed r (writtenIn frame % 2) (kindsIn frame + placesIn frame % 2 - writtenIn frame % 2) (writtenIn frame / 2) (placesIn frame / 2) ⌝ }
 {
-    let upper = frame / 16;
+    let upper = frame / 256;
     let kinds = upper % 1048576;
     let maps = upper / 1048576;
     let written = maps % 256;
     let places = maps / 256;
     let next = kinds + places % 2 - written % 2;
-    written % 2 + 16 * (next + 1048576 * (written / 2 + 256 * (places / 2)))
+    written % 2 + 256 * (next + 1048576 * (written / 2 + 256 * (places / 2)))
 }
 
 // All places of the word with a place map, whose record stands at an offset.
@@ -45,7 +45,7 @@ pub(crate) fn full(map: u8, offset: u16) -> u64
     ensures { λ r. ⌜ WordFrame r map map offset ⌝ }
 {
     let kinds = (offset as u64) + (maps::NODE as u64);
-    (u8::count_ones(map) as u64) + 16 * kinds
+    (map as u64) + 256 * kinds
 }
 
 // Its places at a written map.
@@ -56,5 +56,5 @@ pub(crate) fn of_word(written: u8, map: u8, offset: u16) -> u64
         return full(map, offset);
     }
     let kinds = (offset as u64) + (maps::NODE as u64);
-    16 * (kinds + 1048576 * ((written as u64) + 256 * (map as u64)))
+    256 * (kinds + 1048576 * ((written as u64) + 256 * (map as u64)))
 }

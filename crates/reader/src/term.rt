@@ -70,7 +70,7 @@ fn full_words<'a>(
     while 0 < c.depth {
         let depth = c.depth;
         let due = c.due;
-        if due % 16 == 0 {
+        if due % 256 == 0 {
             if frame::written(due) == 0 {
                 c = c.up(frames[depth - 1]);
             } else {

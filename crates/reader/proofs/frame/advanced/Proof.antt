@@ -1,5 +1,6 @@
 -- `reader::frame::advanced` meets its contract.
-use Rattle.reader.proofs.Frames.{advanced-framed}
+use Rattle.reader.proofs.Frames.{advanced-framed, advanced-fits}
+use native.Mathlib.Omega.{arith}
 use borrow.Author.Needs.{needs}
 use Rattle.reader.proofs.frame.advanced.Statement.{statement}
 use Rattle.reader.proofs.frame.advanced.Tie as tie
@@ -26,7 +27,7 @@ mul-result-3 : tie.Need-mul-result-3
 mul-result-3 c = search needs
 
 add-result-3 : tie.Need-add-result-3
-add-result-3 c = search needs
+add-result-3 c = record { fits = advanced-fits _ _ _ (omega arith) (omega arith) (omega arith) }
 
 returns : tie.Need-returns
 returns c = advanced-framed (c .args .frame) (c .pre .0)

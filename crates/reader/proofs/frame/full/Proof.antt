@@ -1,6 +1,5 @@
--- `reader::frame::full` meets its contract. A map has at most eight places.
+-- `reader::frame::full` meets its contract.
 use native.Mathlib.Omega.{arith}
-use lib.Count
 use Rattle.reader.proofs.Tables.{full-made}
 use borrow.Author.Needs.{needs}
 use Rattle.reader.proofs.frame.full.Statement.{statement}
@@ -9,17 +8,14 @@ use Rattle.reader.proofs.frame.full.Tie as tie
 add-kinds : tie.Need-add-kinds
 add-kinds c = search needs
 
-cast-result : tie.Need-cast-result
-cast-result c = let few = Count.ones-le 8 (c .args .map) (omega arith) in record { fits = omega arith }
-
 mul-result : tie.Need-mul-result
 mul-result c = search needs
 
 add-result : tie.Need-add-result
-add-result c = let few = Count.ones-le 8 (c .args .map) (omega arith) in record { fits = omega arith }
+add-result c = search needs
 
 returns : tie.Need-returns
 returns c = full-made (c .args .map) (c .args .offset) (omega arith) (omega arith)
 
 pub full-spec : {M : Type 1} → statement M
-full-spec = tie.close (tie.spec add-kinds cast-result mul-result add-result returns)
+full-spec = tie.close (tie.spec add-kinds mul-result add-result returns)

@@ -10,7 +10,7 @@ use borrow.Author.Needs.{scaled-fits}
 use borrow.Author.Tests.{not-false}
 use Rattle.reader.specs.Cursors.{pastWord, wentDown, atFrame}
 use Rattle.reader.proofs.Tables.{few-words}
-use Rattle.reader.proofs.Turns.{Turned, turned-none, turned-as, turned-ends, turned-up, turned-advanced, turned-bare, turned-down, FullHere, WordTurn, full-here, word-inside, word-inside, turnsLeft, less-up, less-advanced, less-bare, less-down, less-as, first-due, advance-asks, pass-asks, kind-inside, word-asks}
+use Rattle.reader.proofs.Turns.{Turned, turned-none, turned-as, turned-ends, turned-up, turned-advanced, turned-bare, turned-down, FullHere, WordTurn, full-here, word-inside, turnsLeft, less-up, less-advanced, less-bare, less-down, less-as, first-due, none-due, advance-asks, pass-asks, kind-inside, word-asks}
 use Rattle.reader.proofs.term.full_words.Statement.{statement}
 use Rattle.reader.proofs.term.full_words.Tie as tie
 use Rattle.reader.proofs.term.full_words.Reads as reads
@@ -91,7 +91,7 @@ loop-again : tie.Need-loop-again Inv-loop μ-loop
 loop-again c =
     let test = c .before .before in
     let turn = test .before .before in
-    turned-as (c .up .ensures) (turned-up (turn .before .before .before .loop .inv) (turn .before .if1 .taken) (turn .if2 .taken) (sym (test .before .written .ensures) ∙ test .if3 .taken))
+    turned-as (c .up .ensures) (turned-up (turn .before .before .before .loop .inv) (turn .before .if1 .taken) (none-due _ (turn .if2 .taken)) (sym (test .before .written .ensures) ∙ test .if3 .taken))
 
 advanced-requires : tie.Need-advanced-requires Inv-loop μ-loop
 advanced-requires c κs = advance-asks (c .before .before .before .before .before .loop .inv .going .due)
@@ -105,11 +105,11 @@ loop-less-2 c =
     let at-loop = test .before .before .before .before .before in
     let t = now (at-loop .before .before .before .args .t) in
     less-as t (at-loop .loop .frames) (c .onto .ensures)
-    (less-advanced t (at-loop .loop .frames) (at-loop .loop .c) (c .before .advanced .ensures) (test .before .before .if2 .taken)
+    (less-advanced t (at-loop .loop .frames) (at-loop .loop .c) (c .before .advanced .ensures) (none-due _ (test .before .before .if2 .taken))
     (λ e. test .if3 .left (test .before .written .ensures ∙ e)))
 
 loop-again-2 : tie.Need-loop-again-2 Inv-loop μ-loop
-loop-again-2 c = turned-as (c .onto .ensures) (turned-advanced (c .before .before .before .before .before .before .before .loop .inv) (c .before .before .before .before .before .if1 .taken) (c .before .advanced .ensures) (c .before .before .before .before .if2 .taken))
+loop-again-2 c = turned-as (c .onto .ensures) (turned-advanced (c .before .before .before .before .before .before .before .loop .inv) (c .before .before .before .before .before .if1 .taken) (c .before .advanced .ensures) (none-due _ (c .before .before .before .before .if2 .taken)))
 
 kinds-requires : tie.Need-kinds-requires Inv-loop μ-loop
 kinds-requires c κs = search needs
@@ -186,7 +186,7 @@ loop-less-3 : tie.Need-loop-less-3 Inv-loop μ-loop
 loop-less-3 c =
     let turn = word-turn (c .before .before .before .before .before .before .before .before) in
     let a = c .before .before .before .before .before .before .before .before .before .before .before .before .before .before .before .before .before .before .before .before .before .before .before .args in
-    less-as (now (a .t)) _ (c .down .ensures ∙ ap (wentDown (c .before .full .result)) (past (c .before .before .before .before .before .before))) (less-down turn (c .before .full .result))
+    less-as (now (a .t)) _ (c .down .ensures ∙ ap (wentDown (c .before .full .result)) (past (c .before .before .before .before .before .before))) (less-down turn (c .before .full .result) (c .before .full .ensures))
 
 loop-again-3 : tie.Need-loop-again-3 Inv-loop μ-loop
 loop-again-3 c =
