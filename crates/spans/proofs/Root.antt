@@ -7,7 +7,7 @@
 use mathlib.Core.Path.{_≡_, refl, sym, ap, _∙_}
 use mathlib.Core.Bool.{true, false, true≢false}
 use mathlib.Core.List.{List, []}
-use Prim.Native.Nat.{ℕ, _+_, _-_, _*_, _<_}
+use Prim.Native.Nat.{ℕ, _+_, _-_, _*_, _<_, _≤_}
 use native.Mathlib.Omega.{arith}
 use lib.ListN.{length, getD, replicate, length-drop, getD-replicate}
 use Rattle.terms.specs.Term.{Term, any, var, app, nil, cons, gnil, gcons}
@@ -31,7 +31,7 @@ root-whole p s spans blank e a =
       table = λ q. blank ∙ sym (ap (λ t. spanTable (x .vocabulary) t (x .situation)) (root-open a e));
     }
 
-module _ (p s spans : List ℕ) (blank : spans ≡ replicate 128 0) (high : 127 < getD p 1 0) (named : getD p 1 0 ≡ 255 → ⊥) (a : InputsRead p s) where
+module _ (p s spans : List ℕ) (blank : spans ≡ replicate 128 0) (high : 128 ≤ getD p 1 0) (named : getD p 1 0 ≡ 255 → ⊥) (a : InputsRead p s) where
   abbrev x : Inputs
   x = a .inputs
 

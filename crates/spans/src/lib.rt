@@ -246,30 +246,21 @@ fn walk_words(p: &[u8], s: &[u8], spans: &mut [u16; 128]) -> bool
     true
 }
 
-// A name or 255 at the root covers the whole situation, so that its end need not be looked for.
-fn cover_root(p: &[u8], s: &[u8], spans: &mut [u16; 128]) -> bool
-    requires { ⌜ InputsRead (now p) (now s) ⌝ }
-    requires { ⌜ now spans ≡ replicate 128 0 ⌝ }
-    requires { ⌜ 127 < getD (now p) 1 0 ⌝ }
-    ensures { λ r. ⌜ Walked (now (p .entry)) (now (s .entry)) (now (spans .exit)) r ⌝ }
-{
-    let first = p[1];
-    if first != 255 {
-        note(spans, wide(first) - 128, 1, s.len() - 1);
-    }
-    true
-}
-
-// Goes through a pattern and a situation, from the root on.
+// Goes through a pattern and a situation, from the root on. A name or 255 there covers the whole situation, so that its
+// end need not be looked for.
 fn walk(p: &[u8], s: &[u8], spans: &mut [u16; 128]) -> bool
     requires { ⌜ InputsRead (now p) (now s) ⌝ }
     requires { ⌜ now spans ≡ replicate 128 0 ⌝ }
     ensures { λ r. ⌜ Walked (now (p .entry)) (now (s .entry)) (now (spans .exit)) r ⌝ }
 {
-    if 127 < p[1] {
-        return cover_root(p, s, spans);
+    let root = p[1];
+    if root < 128 {
+        return walk_words(p, s, spans);
     }
-    walk_words(p, s, spans)
+    if root != 255 {
+        note(spans, wide(root) - 128, 1, s.len() - 1);
+    }
+    true
 }
 
 // Judges a pattern and a situation and, where the pattern fits, leaves the part that each name covers in the table;

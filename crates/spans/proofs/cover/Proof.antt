@@ -1,4 +1,7 @@
 -- `spans::cover` meets its contract.
+--
+--   noted-inside, part-inside    the part that is noted lies in the situation, and so do as many bytes here
+--
 use mathlib.Core.Path.{sym, _∙_}
 use Prim.Native.Nat.{_+_, _≤_}
 use native.Mathlib.Omega.{arith}
@@ -13,7 +16,6 @@ use Rattle.spans.proofs.Parts.{even-slot, odd-slot, covered-new, covere
 use Rattle.spans.proofs.cover.Statement.{statement}
 use Rattle.spans.proofs.cover.Tie as tie
 
--- The part that is noted lies in the situation, and so do as many bytes here.
 noted-inside : (c : tie.After-wide162) →
     let at-wide16 = c .before .before .before .before in
     let a = at-wide16 .before .before .before .args in

@@ -1,4 +1,5 @@
--- `spans::end_of` meets its contract.
+-- `spans::end_of` meets its contract. The loop's invariant: so many terms are due at the end reached. The measure is the
+-- number of the situation's bytes that are left.
 use Prim.Native.Nat.{_-_}
 use native.Mathlib.Omega.{arith}
 use lib.ListN.{length}

@@ -1,4 +1,9 @@
--- `spans::walk_word` meets its contract.
+-- `spans::walk_word` meets its contract. The loop's invariant: what the frames say is due at i and j. The measure is the
+-- number of turns that the frames and the rest of the situation can take.
+--
+--   read                       the inputs, as they are known at a turn
+--   turn, full, place, written    what is known of the place that a turn takes off the frame
+--
 use mathlib.Core.Path.{_≡_, sym, ap, _∙_}
 use Prim.Native.Nat.{_%_}
 use native.Mathlib.Nat.{le-refl}
@@ -10,7 +15,10 @@ use Rattle.spans.specs.Frames.{placesIn}
 use Rattle.spans.specs.Walking.{InputsRead}
 use Rattle.spans.proofs.Offsets.{offset-fits}
 use Rattle.spans.proofs.Going.{shared-pattern, shared-situation}
-use Rattle.spans.proofs.Framing.{Framing, framing-begins, framing-ends, framing-fails, top-slot, turn-leave, Turn, turn-gap, open-part, turn-opened, Written, pattern-inside, word-node, part-node, word-room, turn-differs, turn-leaf, turn-pushed, name-behind, name-covers, turn-named, part-later, turn-unnamed}
+use Rattle.spans.proofs.Framing.{Framing, framing-begins, framing-ends, framing-fails, top-slot, turn-leave}
+use Rattle.spans.proofs.Framing.{Turn, turn-gap, open-part, turn-opened}
+use Rattle.spans.proofs.Framing.{Written, pattern-inside, word-node, part-node, word-room, turn-differs, turn-leaf, turn-pushed}
+use Rattle.spans.proofs.Framing.{name-behind, name-covers, turn-named, part-later, turn-unnamed}
 use Rattle.spans.proofs.Left.{leftOf, left-leave, left-on, left-word}
 use Rattle.spans.proofs.walk_word.Statement.{statement}
 use Rattle.spans.proofs.walk_word.Tie as tie

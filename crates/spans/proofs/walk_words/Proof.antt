@@ -1,4 +1,8 @@
--- `spans::walk_words` meets its contract.
+-- `spans::walk_words` meets its contract. The loop's invariant: terms without open places are due at i and j. The measure
+-- is the number of the pattern's bytes that are left.
+--
+--   read, on    the inputs, and what is due behind nodes that are the same
+--
 use Prim.Native.Nat.{_+_, _-_}
 use native.Mathlib.Omega.{arith}
 use denote.Ref.{now}
