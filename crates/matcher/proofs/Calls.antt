@@ -1,71 +1,89 @@
 -- Calls: the answers of match and part are those of the definitions, which keep the calls' promises.
 --
 --   Lent v p s                            the lent inputs are bytes
---   judged-clear, inputs-read             inputs that are not refused are read
+--   Found v p s spans a                   what finding the spans ensures of its answer and the table of spans
+--   not-refused, differs                  the answer, where some answers are ruled out
+--   found-long                            the table of spans has 128 numbers
 --   Ensured                               what match ensures of a reply
 --   match-refused, match-length, match-yes, match-no    it does so of each answer
+--   table-part                            part's span is the one that the table of spans gives the name
+--   part-inside, found-inside             .. and lies in the situation
 --   Stands                                what part ensures of where its answer stands
---   part-refused, part-above, part-none, part-found     it does so of each answer
---   part-inside                           a span of the table lies in the situation
---   walked-as, walked-long                what a walk says, by its answer
+--   part-above, part-found                it does so of each answer
 --
 use mathlib.Core.Path.{_≡_, refl, sym, ap, ap₂, _∙_, subst, subst₂}
-use mathlib.Core.Bool.{Bool, true, false, cond, _&&_, true≢false, false≢true}
-use mathlib.Core.List.{List, [], append-nil}
+use mathlib.Core.Bool.{Bool, true, false, cond, _&&_}
+use mathlib.Core.List.{List, [], _++_, append-nil}
+use mathlib.Core.Logic.{_⊎_, inl, inr}
 use mathlib.Core.Option.{Option, some, none}
 use Prim.Native.Nat.{ℕ, _+_, _-_, _*_, _<_, _≤_}
 use native.Mathlib.Omega.{arith}
+use denote.Enum.Declared.{tagOf}
+use lib.Dec.{ltb}
+use lib.ListN.{length, getD, take, drop, replicate, length-drop, length-append, getD-replicate}
 use lib.Seq.{length-take-le}
-use lib.ListN.{length, getD, take, drop, length-drop, length-append}
-use borrow.Author.Tests.{ne-eqb, eq-eqb, le-ltb, lt-ltb}
+use borrow.Author.Tests.{ne-eqb, eq-eqb}
 use Rattle.terms.specs.Lists.{occurs}
 use Rattle.terms.specs.Term.{Ground, names}
 use Rattle.terms.specs.Filling.{Filling}
 use Rattle.terms.specs.Matcher.{matcher}
-use Rattle.wire.specs.Reply.{Reply, accepted, refused, IsBytes}
+use Rattle.wire.specs.Reply.{Reply, accepted, refused}
 use Rattle.wire.specs.TermBytes.{nameCount, encodeAt, asTerm}
-use Rattle.wire.specs.Matching.{Inputs, tableLength, Span, orNoSpan, noSpan, span, spanFrom, spanIn, yes, no, cutOut, MatchPromise, PartPromise}
-use Rattle.wire.specs.Effect.{HasEffect}
-use Rattle.wire.specs.MatchComputed.{Judged, clear, refusal, judged, clearReply, spanTable, verdict, matchedWith, matched, spanFound, spanWith, partSpan}
+use Rattle.wire.specs.Matching.{Inputs, HoldsInputs, tableLength, Span, noSpan, orNoSpan, span, spanFrom, spanIn, yes, no, cutOut, MatchPromise, PartPromise}
+use Rattle.wire.specs.Effect.{Effect, HasEffect}
+use Rattle.wire.specs.MatchComputed.{Judged, clear, refusal, judged, verdict, matchedWith, matched, spanFound, spanWith, partSpan}
 use Rattle.wire.proofs.Inputs.{clear-is-held}
-use Rattle.wire.proofs.Matching.{match-keeps, part-keeps}
+use Rattle.wire.proofs.Matching as W
 use Rattle.wire.proofs.GroundBytes.{size-least, root-ground}
-use Rattle.wire.proofs.Spans.{coverFrom, SpanHolds, span-covers, span-absent}
-use Rattle.wire.proofs.SpanTable.{length-table, table-span}
+use Rattle.wire.proofs.Spans.{coverFrom, SpanHolds, span-covers}
+use Rattle.wire.proofs.SpanTable.{length-table}
+use Rattle.wire.proofs.PartTable.{part-is-table}
 use Rattle.inputs.specs.Answers.{inputsRefused}
 use Rattle.inputs.specs.declared.InputsRefusal.{InputsRefusal}
-use Rattle.inputs.specs.declared.InputsAnswer.the-variants.{Clear, Refused}
-use Rattle.inputs.proofs.Answers.{inputs-answers-differ}
+use Rattle.spans.specs.Answers.{spansNumbers}
+use Rattle.spans.specs.declared.SpansAnswer.{SpansAnswer}
+use Rattle.spans.specs.declared.SpansAnswer.the-variants.{Fits, Differs, Refused}
+use Rattle.spans.proofs.SpansAnswer.{the-type}
+use Rattle.spans.proofs.Answers.{not-accepted}
+pub use Rattle.spans.proofs.Finding.{Lent}
 use Rattle.matcher.specs.Places.{partAt}
-use Rattle.matcher.specs.Walking.{InputsRead, found, Walked}
 
--- ---- what the inputs are judged to be
+abbrev blank : List ℕ
+blank = replicate 128 0
 
-pub judged-clear : (j : Judged) → accepted [] ≡ clearReply j → (x : Inputs) × (j ≡ clear x)
-judged-clear (clear x) e = (x, refl)
-judged-clear (refusal n i q) e = absurd (let z : _≡_ {A = ℕ} 0 1 = cc in omega arith)
+-- What finding the spans ensures of its answer and the table of spans.
+abbrev pub Found : List ℕ → List ℕ → List ℕ → List ℕ → SpansAnswer → Type 0
+Found v p s spans a = HasEffect (matched v p s blank) (spansNumbers a) spans
 
-not-clear : (why : InputsRefusal) → inputsRefused why ≡ accepted [] → ⊥
-not-clear why e = let same = inputs-answers-differ (Refused why) Clear e in let z : _≡_ {A = ℕ} 0 1 = cc in omega arith
+-- ---- the answer, where some answers are ruled out
 
--- The lent inputs are bytes.
-pub record Lent (v p s : List ℕ) : Type 0 where
-  pub vocabulary : IsBytes v
-  pub pattern : IsBytes p
-  pub situation : IsBytes s
+abbrev tag : SpansAnswer → ℕ
+tag a = tagOf the-type a
 
--- The part from an offset on, as it is lent.
-part-cut : (s spans : List ℕ) (n from long : ℕ) → from ≡ getD spans (2 * n) 0 → long ≡ getD spans (2 * n + 1) 0 →
-    take (from + long - from) (drop from s) ≡ cutOut s (spanIn spans n)
-part-cut s spans n from long e l =
-    let size : from + long - from ≡ long = omega arith in
-    ap₂ (λ k o. take k (drop o s)) (size ∙ l) e
+pub not-refused : (a : SpansAnswer) → (tag a ≡ 0) ⊎ (tag a ≡ 1) → (a ≡ Fits) ⊎ (a ≡ Differs)
+not-refused Fits k = inl refl
+not-refused Differs k = inr refl
+not-refused (Refused why) (inl e) = absurd (omega arith)
+not-refused (Refused why) (inr e) = absurd (omega arith)
+
+pub differs : (a : SpansAnswer) → (tag a ≡ 0) ⊎ (tag a ≡ 1) → (tag a ≡ 1) ⊎ (tag a ≡ 2) → a ≡ Differs
+differs Fits k (inl e) = absurd (omega arith)
+differs Fits k (inr e) = absurd (omega arith)
+differs Differs k l = refl
+differs (Refused why) (inl e) l = absurd (omega arith)
+differs (Refused why) (inr e) l = absurd (omega arith)
 
 module _ {v p s : List ℕ} (lent : Lent v p s) where
-  pub inputs-read : accepted [] ≡ clearReply (judged v p s) → InputsRead p s
-  inputs-read e =
-      let j = judged-clear (judged v p s) e in
-      record { bytes = v; inputs = j .0; held = clear-is-held v p s (j .0) (lent .vocabulary) (lent .pattern) (lent .situation) .0 (j .1) }
+  pub found-long : {spans : List ℕ} → spans ≡ matched v p s blank .after → length spans ≡ 128
+  found-long table = ap length table ∙ go (judged v p s)
+    where
+      answer : (x : Inputs) (o : Option Filling) → length (verdict blank x o .after) ≡ 128
+      answer x (some f) = length-table (x .vocabulary) (x .pattern) (x .situation)
+      answer x none = refl
+
+      go : (j : Judged) → length (matchedWith blank j .after) ≡ 128
+      go (clear x) = answer x (matcher (x .pattern) (x .situation))
+      go (refusal n i q) = refl
 
   -- ---- match
 
@@ -74,74 +92,138 @@ module _ {v p s : List ℕ} (lent : Lent v p s) where
     abbrev Ensured : Reply → Type 0
     Ensured r = MatchPromise v p s before after r × HasEffect (matched v p s before) r after
 
-    promised : (r : Reply) → r ≡ matched v p s before .reply → after ≡ matched v p s before .after → Ensured r
-    promised r e t = (
-      subst₂ (λ a r. MatchPromise v p s before a r) (sym t) (sym e) (match-keeps v p s before (lent .vocabulary) (lent .pattern) (lent .situation)),
-      record { reply = e; after = t },
+    promised : {r : Reply} → HasEffect (matched v p s before) r after → Ensured r
+    promised {r} h = (
+      subst₂ (λ a r. MatchPromise v p s before a r) (sym (h .after)) (sym (h .reply))
+          (W.match-keeps v p s before (lent .vocabulary) (lent .pattern) (lent .situation)),
+      h,
     )
 
-    pub match-refused : (why : InputsRefusal) → inputsRefused why ≡ clearReply (judged v p s) → after ≡ before →
-        Ensured (inputsRefused why)
-    match-refused why e t = promised (inputsRefused why) (reply (judged v p s) e) (t ∙ table (judged v p s) e)
-      where
-        reply : (j : Judged) → inputsRefused why ≡ clearReply j → inputsRefused why ≡ matchedWith before j .reply
-        reply (clear x) e = absurd (not-clear why e)
-        reply (refusal n i q) e = e
+    -- What match says of inputs in order, by whether the table has the right length.
+    abbrev cleared : Inputs → Bool → Effect
+    cleared x b = cond b (verdict before x (matcher (x .pattern) (x .situation))) (record { reply = refused 19 3 0; after = before })
 
-        table : (j : Judged) → inputsRefused why ≡ clearReply j → before ≡ matchedWith before j .after
-        table (clear x) e = absurd (not-clear why e)
-        table (refusal n i q) e = refl
+    -- The verdict, where the table has the right length.
+    judged-here : length before ≡ tableLength → (x : Inputs) {r : Reply} →
+        HasEffect (verdict before x (matcher (x .pattern) (x .situation))) r after → HasEffect (matchedWith before (clear x)) r after
+    judged-here long x {r} h = subst (λ b. HasEffect (cleared x b) r after) (sym (eq-eqb (length before) tableLength long)) h
 
-    module _ (clears : accepted [] ≡ clearReply (judged v p s)) where
-      here : InputsRead p s
-      here = inputs-read clears
+    module _ {spans : List ℕ} (a : SpansAnswer) (found : Found v p s spans a) where
+      pub match-refused : (why : InputsRefusal) → a ≡ Refused why → after ≡ before → Ensured (inputsRefused why)
+      match-refused why e t = promised (go (judged v p s) (sym (ap spansNumbers e) ∙ found .reply))
+        where
+          answered : (x : Inputs) (o : Option Filling) → inputsRefused why ≡ verdict blank x o .reply → ⊥
+          answered x (some f) e = not-accepted why _ e
+          answered x none e = not-accepted why _ e
 
-      matched-here : matched v p s before ≡ matchedWith before (clear (here .inputs))
-      unfolding here inputs-read
-      matched-here = ap (matchedWith before) (judged-clear (judged v p s) clears .1)
+          go : (j : Judged) → inputsRefused why ≡ matchedWith blank j .reply → HasEffect (matchedWith before j) (inputsRefused why) after
+          go (clear x) e = absurd (answered x (matcher (x .pattern) (x .situation)) e)
+          go (refusal n i q) e = record { reply = e; after = t }
 
-      pub match-length : (length before ≡ tableLength → ⊥) → after ≡ before → Ensured (refused 19 3 0)
-      match-length d t =
-          let e = matched-here ∙ ap (λ b. cond b (verdict before (here .inputs) (matcher (here .inputs .pattern) (here .inputs .situation)))
-          (record { reply = refused 19 3 0; after = before })) (ne-eqb (length before) tableLength d) in
-          promised (refused 19 3 0) (sym (ap (λ m. m .reply) e)) (t ∙ sym (ap (λ m. m .after) e))
+      pub match-length : (a ≡ Fits) ⊎ (a ≡ Differs) → (length before ≡ tableLength → ⊥) → after ≡ before → Ensured (refused 19 3 0)
+      match-length answer short t = promised (either answer)
+        where
+          go : (l : List ℕ) (j : Judged) → accepted l ≡ matchedWith blank j .reply → HasEffect (matchedWith before j) (refused 19 3 0) after
+          go l (refusal n i q) e = absurd (W.not-accepted n i q l (sym e))
+          go l (clear x) e =
+              subst (λ b. HasEffect (cleared x b) (refused 19 3 0) after) (sym (ne-eqb (length before) tableLength short))
+              (record { reply = refl; after = t })
+
+          either : (a ≡ Fits) ⊎ (a ≡ Differs) → HasEffect (matched v p s before) (refused 19 3 0) after
+          either (inl e) = go _ (judged v p s) (sym (ap spansNumbers e) ∙ found .reply)
+          either (inr e) = go _ (judged v p s) (sym (ap spansNumbers e) ∙ found .reply)
 
       module _ (long : length before ≡ tableLength) where
-        judged-here : matched v p s before ≡ verdict before (here .inputs) (matcher (here .inputs .pattern) (here .inputs .situation))
-        judged-here =
-            matched-here ∙ ap (λ b. cond b (verdict before (here .inputs) (matcher (here .inputs .pattern) (here .inputs .situation)))
-            (record { reply = refused 19 3 0; after = before })) (eq-eqb (length before) tableLength long)
-
-        pub match-yes : {spans : List ℕ} → Walked p s spans true → after ≡ spans → Ensured yes
-        match-yes {spans} walked t =
-            promised yes (sym (ap (λ m. m .reply) judged-here ∙ reply (matcher (here .inputs .pattern) (here .inputs .situation)) (walked here .answer)))
-            (t ∙ walked here .table refl ∙ sym (ap (λ m. m .after) judged-here ∙ table (matcher (here .inputs .pattern) (here .inputs .situation)) (walked here .answer)))
+        pub match-yes : a ≡ Fits → after ≡ spans → Ensured yes
+        match-yes fits t = promised (go (judged v p s) (sym (ap spansNumbers fits) ∙ found .reply) (t ∙ found .after))
           where
-            reply : (o : Option Filling) → true ≡ found o → verdict before (here .inputs) o .reply ≡ yes
-            reply (some f) e = refl
-            reply none e = absurd (true≢false e)
+            answer : (x : Inputs) (o : Option Filling) → yes ≡ verdict blank x o .reply → after ≡ verdict blank x o .after →
+                HasEffect (verdict before x o) yes after
+            answer x (some f) e t = record { reply = refl; after = t }
+            answer x none e t = absurd (W.no-not-yes (sym e))
 
-            table : (o : Option Filling) → true ≡ found o →
-                verdict before (here .inputs) o .after ≡ spanTable (here .inputs .vocabulary) (here .inputs .pattern) (here .inputs .situation)
-            table (some f) e = refl
-            table none e = absurd (true≢false e)
+            go : (j : Judged) → yes ≡ matchedWith blank j .reply → after ≡ matchedWith blank j .after → HasEffect (matchedWith before j) yes after
+            go (refusal n i q) e t = absurd (W.not-accepted n i q _ (sym e))
+            go (clear x) e t = judged-here long x (answer x (matcher (x .pattern) (x .situation)) e t)
 
-        pub match-no : {spans : List ℕ} → Walked p s spans false → after ≡ before → Ensured no
-        match-no walked t =
-            promised no (sym (ap (λ m. m .reply) judged-here ∙ reply (matcher (here .inputs .pattern) (here .inputs .situation)) (walked here .answer)))
-            (t ∙ sym (ap (λ m. m .after) judged-here ∙ table (matcher (here .inputs .pattern) (here .inputs .situation)) (walked here .answer)))
+        pub match-no : a ≡ Differs → after ≡ before → Ensured no
+        match-no differ t = promised (go (judged v p s) (sym (ap spansNumbers differ) ∙ found .reply))
           where
-            reply : (o : Option Filling) → false ≡ found o → verdict before (here .inputs) o .reply ≡ no
-            reply (some f) e = absurd (false≢true e)
-            reply none e = refl
+            answer : (x : Inputs) (o : Option Filling) → no ≡ verdict blank x o .reply → HasEffect (verdict before x o) no after
+            answer x (some f) e = absurd (W.no-not-yes e)
+            answer x none e = record { reply = refl; after = t }
 
-            table : (o : Option Filling) → false ≡ found o → verdict before (here .inputs) o .after ≡ before
-            table (some f) e = absurd (false≢true e)
-            table none e = refl
+            go : (j : Judged) → no ≡ matchedWith blank j .reply → HasEffect (matchedWith before j) no after
+            go (refusal n i q) e = absurd (W.not-accepted n i q _ (sym e))
+            go (clear x) e = judged-here long x (answer x (matcher (x .pattern) (x .situation)) e)
 
   -- ---- part
 
   module _ (n : ℕ) where
+    -- The table of spans is blank where match would not say yes.
+    blank-span : n < nameCount → spanIn blank n ≡ noSpan
+    blank-span low =
+        ap₂ {C = Span} (λ o l. record { offset = o; bytes = l })
+        (getD-replicate 128 (2 * n) 0 0 (omega arith)) (getD-replicate 128 (2 * n + 1) 0 0 (omega arith))
+
+    pub table-part : n < nameCount → spanIn (matched v p s blank .after) n ≡ partSpan v p s n
+    table-part low = go (W.yes-or-kept v p s blank)
+      where
+        law : (matched v p s blank .reply ≡ yes → n < nameCount → partSpan v p s n ≡ spanIn (matched v p s blank .after) n) ×
+            ((matched v p s blank .reply ≡ yes → ⊥) ⊎ (nameCount ≤ n) → partSpan v p s n ≡ noSpan)
+        law = part-is-table v p s blank n refl
+
+        go : (matched v p s blank .reply ≡ yes) ⊎ ((matched v p s blank .reply ≡ yes → ⊥) × (matched v p s blank .after ≡ blank)) →
+            spanIn (matched v p s blank .after) n ≡ partSpan v p s n
+        go (inl e) = sym (law .0 e low)
+        go (inr (e, kept)) = ap (λ t. spanIn t n) kept ∙ blank-span low ∙ sym (law .1 (inl e))
+
+    -- A span of the situation.
+    abbrev Inside : Span → Type 0
+    Inside y = y .offset + y .bytes ≤ length s
+
+    module _ (x : Inputs) (held : HoldsInputs v p s x) where
+      covered : (o : Option Span) (c : Option Ground) → SpanHolds (x .vocabulary) s o c → Inside (orNoSpan o)
+      covered none c h = omega arith
+      covered (some y) none h = absurd h
+      covered (some y) (some g) h =
+          let W = x .vocabulary in
+          let long = h .long in
+          omega (
+            arith,
+            size-least W g,
+            length-drop (y .offset) s,
+            ap length (h .stands),
+            length-append (encodeAt W (asTerm g)) (h .behind),
+          )
+
+      -- The situation's bytes behind its kind byte.
+      root : drop 1 s ≡ encodeAt (x .vocabulary) (asTerm (x .situation)) ++ []
+      root =
+          ap (drop 1) (held .situation .written) ∙ root-ground (x .vocabulary) (x .situation)
+          ∙ sym (append-nil (encodeAt (x .vocabulary) (asTerm (x .situation))))
+
+      inside : Inside (span (x .vocabulary) (x .pattern) (x .situation) n)
+      inside =
+          covered (spanFrom (x .vocabulary) (x .pattern) (x .situation) n 1) (coverFrom (x .pattern) (x .situation) n)
+          (span-covers (x .vocabulary) (x .pattern) (x .situation) n 1 s [] root)
+
+      either : (b : Bool) → Inside (cond b (span (x .vocabulary) (x .pattern) (x .situation) n) noSpan)
+      either true = inside
+      either false = omega arith
+
+      answer-inside : (o : Option Filling) → Inside (spanFound x n o)
+      answer-inside none = omega arith
+      answer-inside (some f) = either (ltb n nameCount && occurs n (names (x .pattern)))
+
+    pub part-inside : Inside (partSpan v p s n)
+    part-inside = go (judged v p s) refl
+      where
+        go : (j : Judged) → judged v p s ≡ j → Inside (spanWith n j)
+        go (refusal m i q) e = omega arith
+        go (clear x) e =
+            answer-inside x (clear-is-held v p s x (lent .vocabulary) (lent .pattern) (lent .situation) .0 e) (matcher (x .pattern) (x .situation))
+
     -- The part has these bytes and stands at this offset of the situation, wherever that is lent.
     abbrev Stands : ℕ → List ℕ → Type 0
     Stands from r = (base : ℕ) →
@@ -149,96 +231,29 @@ module _ {v p s : List ℕ} (lent : Lent v p s) where
 
     stands : (y : Span) → partSpan v p s n ≡ y → length (cutOut s y) ≡ y .bytes → Stands (y .offset) (cutOut s y)
     stands y e long base =
-        let same : partAt base (y .offset + base) (cutOut s y) ≡ y =
-        ap₂ {C = Span} (λ o b. record { offset = o; bytes = b }) (let z : y .offset + base - base ≡ y .offset = omega arith in z) long in (
-          subst₂ (PartPromise v p s n) (e ∙ sym same) (ap (cutOut s) e) (part-keeps v p s n (lent .vocabulary) (lent .pattern) (lent .situation)),
+        let back : y .offset + base - base ≡ y .offset = omega arith in
+        let same : partAt base (y .offset + base) (cutOut s y) ≡ y = ap₂ {C = Span} (λ o b. record { offset = o; bytes = b }) back long in (
+          subst₂ (PartPromise v p s n) (e ∙ sym same) (ap (cutOut s) e)
+              (W.part-keeps v p s n (lent .vocabulary) (lent .pattern) (lent .situation)),
           same ∙ sym e,
         )
 
-    pub part-refused : (why : InputsRefusal) → inputsRefused why ≡ clearReply (judged v p s) → Stands 0 []
-    part-refused why e = stands noSpan (reply (judged v p s) e) refl
-      where
-        reply : (j : Judged) → inputsRefused why ≡ clearReply j → spanWith n j ≡ noSpan
-        reply (clear x) e = absurd (not-clear why e)
-        reply (refusal n i q) e = refl
+    pub part-above : 63 < n → Stands 0 []
+    part-above high = stands noSpan (part-is-table v p s blank n refl .1 (inr (omega arith))) refl
 
-    module _ (clears : accepted [] ≡ clearReply (judged v p s)) where
-      found-here : partSpan v p s n ≡ spanFound (inputs-read clears .inputs) n (matcher (inputs-read clears .inputs .pattern) (inputs-read clears .inputs .situation))
-      unfolding inputs-read
-      found-here = ap (spanWith n) (judged-clear (judged v p s) clears .1)
+    module _ {spans : List ℕ} (table : spans ≡ matched v p s blank .after) (low : n < nameCount)
+        {from long : ℕ} (offset : from ≡ getD spans (2 * n) 0) (bytes : long ≡ getD spans (2 * n + 1) 0) where
+      here : partSpan v p s n ≡ record { offset = from; bytes = long }
+      here =
+          sym (table-part low) ∙ ap (λ t. spanIn t n) (sym table)
+          ∙ sym (ap₂ {C = Span} (λ o l. record { offset = o; bytes = l }) offset bytes)
 
-      pub part-above : 63 < n → Stands 0 []
-      part-above l = stands noSpan (found-here ∙ reply (matcher (inputs-read clears .inputs .pattern) (inputs-read clears .inputs .situation))) refl
-        where
-          reply : (o : Option Filling) → spanFound (inputs-read clears .inputs) n o ≡ noSpan
-          reply none = refl
-          reply (some f) =
-              let x = inputs-read clears .inputs in
-              ap (λ b. cond (b && occurs n (names (x .pattern))) (span (x .vocabulary) (x .pattern) (x .situation) n) noSpan)
-              (le-ltb n nameCount (omega arith))
+      pub found-inside : from + long ≤ length s
+      found-inside = subst Inside here part-inside
 
-      pub part-none : {spans : List ℕ} → Walked p s spans false → Stands 0 []
-      part-none walked = stands noSpan (found-here ∙ reply (matcher (inputs-read clears .inputs .pattern) (inputs-read clears .inputs .situation)) (walked (inputs-read clears) .answer)) refl
-        where
-          reply : (o : Option Filling) → false ≡ found o → spanFound (inputs-read clears .inputs) n o ≡ noSpan
-          reply (some f) e = absurd (false≢true e)
-          reply none e = refl
-
-      module _ (low : n < 64) {spans : List ℕ} (walked : Walked p s spans true) where
-        span-here : spanIn spans n ≡ span (inputs-read clears .inputs .vocabulary) (inputs-read clears .inputs .pattern) (inputs-read clears .inputs .situation) n
-        span-here =
-            let x = inputs-read clears .inputs in
-            ap (λ t. spanIn t n) (walked (inputs-read clears) .table refl) ∙ table-span (x .vocabulary) (x .pattern) (x .situation) n low
-
-        pub part-inside : getD spans (2 * n) 0 + getD spans (2 * n + 1) 0 ≤ length s
-        part-inside =
-            let x = inputs-read clears .inputs in
-            let held = inputs-read clears .held in
-            subst (λ (y : Span). y .offset + y .bytes ≤ length s) (sym span-here)
-            (go (spanFrom (x .vocabulary) (x .pattern) (x .situation) n 1) (coverFrom (x .pattern) (x .situation) n)
-            (span-covers (x .vocabulary) (x .pattern) (x .situation) n 1 s []
-            (ap (drop 1) (held .situation .written) ∙ root-ground (x .vocabulary) (x .situation)
-            ∙ sym (append-nil (encodeAt (x .vocabulary) (asTerm (x .situation)))))))
-          where
-            go : (o : Option Span) (c : Option Ground) → SpanHolds (inputs-read clears .inputs .vocabulary) s o c → orNoSpan o .offset + orNoSpan o .bytes ≤ length s
-            go none c h = omega arith
-            go (some y) none h = absurd h
-            go (some y) (some g) h =
-                let W = inputs-read clears .inputs .vocabulary in
-                let l = h .long in
-                omega (arith, size-least W g, length-drop (y .offset) s, ap length (h .stands), length-append (encodeAt W (asTerm g)) (h .behind))
-
-        pub part-found : (from long : ℕ) → from ≡ getD spans (2 * n) 0 → long ≡ getD spans (2 * n + 1) 0 →
-            Stands from (take (from + long - from) (drop from s))
-        part-found from long e l =
-            let at : Span = spanIn spans n in
-            let inside = part-inside in
-            let size : length (cutOut s at) ≡ at .bytes = length-take-le (at .bytes) (drop (at .offset) s) (omega (arith, length-drop (at .offset) s)) in
-            let found = found-here ∙ reply (matcher (inputs-read clears .inputs .pattern) (inputs-read clears .inputs .situation)) (walked (inputs-read clears) .answer) ∙ sym span-here in
-            subst₂ Stands (sym e) (sym (part-cut s spans n from long e l)) (stands at found size)
-          where
-            go : (b : Bool) → occurs n (names (inputs-read clears .inputs .pattern)) ≡ b →
-                cond b (span (inputs-read clears .inputs .vocabulary) (inputs-read clears .inputs .pattern) (inputs-read clears .inputs .situation) n) noSpan
-                ≡ span (inputs-read clears .inputs .vocabulary) (inputs-read clears .inputs .pattern) (inputs-read clears .inputs .situation) n
-            go true q = refl
-            go false q =
-                let y = inputs-read clears .inputs in
-                ap orNoSpan (sym (span-absent (y .vocabulary) (y .pattern) (y .situation) n 1 q))
-
-            reply : (o : Option Filling) → true ≡ found o →
-                spanFound (inputs-read clears .inputs) n o
-                ≡ span (inputs-read clears .inputs .vocabulary) (inputs-read clears .inputs .pattern) (inputs-read clears .inputs .situation) n
-            reply none e = absurd (true≢false e)
-            reply (some f) e =
-                let y = inputs-read clears .inputs in
-                ap (λ b. cond (b && occurs n (names (y .pattern))) (span (y .vocabulary) (y .pattern) (y .situation) n) noSpan) (lt-ltb n nameCount low)
-                ∙ go (occurs n (names (y .pattern))) refl
-
--- ---- what a walk says, by its answer
-
-pub walked-as : {p s spans : List ℕ} {r : Bool} (b : Bool) → r ≡ b → Walked p s spans r → Walked p s spans b
-walked-as {p} {s} {spans} b e h = subst (λ q. Walked p s spans q) e h
-
-pub walked-long : {p s spans : List ℕ} → InputsRead p s → Walked p s spans true → length spans ≡ 128
-walked-long a walked =
-    ap length (walked a .table refl) ∙ length-table (a .inputs .vocabulary) (a .inputs .pattern) (a .inputs .situation)
+      pub part-found : Stands from (take (from + long - from) (drop from s))
+      part-found =
+          let inside = found-inside in
+          let cut : from + long - from ≡ long = omega arith in
+          let size : length (take long (drop from s)) ≡ long = length-take-le long (drop from s) (omega (arith, length-drop from s)) in
+          subst (λ k. Stands from (take k (drop from s))) (sym cut) (stands (record { offset = from; bytes = long }) here size)

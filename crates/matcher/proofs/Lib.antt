@@ -1,38 +1,8 @@
 -- The laws that the proofs of match and part share.
 --
---   Offsets    what stands at an offset of bytes
---   Counts     the bits of four maps, counted in one number
---   Ending     where a ground term ends
---   Parts      what a name covers, and the table filled
---   Joined     matching and spans of terms that stand one behind the other
---   Marks      what maps and frames say of the terms that are due
---   Bound      what matching a name does to what a filling gives it
---   Noted      what is noted of a name
---   Side       the two terms that are due first, and the turn at an open place
---   Words      the turn at a word
---   Names      the turn at a name
---   Begin      what is due before the first turn of a walk, and what follows behind the last
---   Going      the turns of a walk while no open place is due
---   Framing    the turns of a walk through a word that has open places
---   Left       .. come to an end
---   Root       a name or 255 at the root
+--   Filled     the table filled
 --   Answers    different answers have different numbers
 --   Calls      the answers of match and part keep the promises
-pub mod Offsets
-pub mod Counts
-pub mod Ending
-pub mod Parts
-pub mod Joined
-pub mod Marks
-pub mod Bound
-pub mod Noted
-pub mod Side
-pub mod Words
-pub mod Names
-pub mod Begin
-pub mod Going
-pub mod Framing
-pub mod Left
-pub mod Root
+pub mod Filled
 pub mod Answers
 pub mod Calls

@@ -3,7 +3,7 @@ use mathlib.Core.Path.{sym, _∙_}
 use Prim.Native.Nat.{_-_}
 use native.Mathlib.Omega.{arith}
 use borrow.Author.Needs.{needs}
-use Rattle.matcher.proofs.Parts.{Filled, filled-more, filled-whole}
+use Rattle.matcher.proofs.Filled.{Filled, filled-more, filled-whole}
 use Rattle.matcher.proofs.fill_table.Statement.{statement}
 use Rattle.matcher.proofs.fill_table.Tie as tie
 

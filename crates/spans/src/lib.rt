@@ -1,0 +1,288 @@
+// The part of a situation that each name of a pattern covers.
+ghost use mathlib.Core.Path.{_≡_};
+ghost use Prim.Native.Nat.{_+_, _*_, _/_, _<_, _≤_};
+ghost use lib.Count.{ones};
+ghost use lib.ListN.{length, getD, replicate};
+ghost use Rattle.wire.specs.Map.{mapBytes};
+ghost use Rattle.wire.specs.Effect.{HasEffect};
+ghost use Rattle.wire.specs.MatchComputed.{matched};
+ghost use Rattle.spans.specs.Answers.{spansNumbers};
+ghost use Rattle.spans.specs.Frames.{mapAt, placesIn, writtenIn, TwoMaps};
+ghost use Rattle.spans.specs.Spans.{withSpan, Standing, ends, Covered};
+ghost use Rattle.spans.specs.Walking.{InputsRead, Walked, AtSharedWord, WordWalked};
+use inputs::InputsAnswer;
+use inputs::InputsRefusal;
+
+// Whether a pattern fits a situation, or why the inputs are refused.
+pub enum SpansAnswer {
+    Fits,
+    Differs,
+    Refused(InputsRefusal),
+}
+
+fn wide(b: u8) -> usize
+    ensures { λ r. ⌜ r ≡ b ⌝ }
+{
+    b as usize
+}
+
+fn wide16(x: u16) -> usize
+    ensures { λ r. ⌜ (r ≡ x) × (r < 65536) ⌝ }
+{
+    x as usize
+}
+
+// The map of the word at an offset.
+fn map_at(t: &[u8], at: usize) -> u8
+    requires { ⌜ at + (1 + mapBytes) ≤ length (now t) ⌝ }
+    ensures { λ r. ⌜ r ≡ mapAt (now (t .entry)) at ⌝ }
+{
+    maps::read(t, at + 1)
+}
+
+// How many bits of a map stand.
+fn count(map: u8) -> usize
+    ensures { λ r. ⌜ (r ≡ ones map) × (r ≤ 8) ⌝ }
+{
+    u8::count_ones(map) as usize
+}
+
+// How many bits of four maps stand.
+fn count_four(a: u8, b: u8, c: u8, d: u8) -> usize
+    ensures { λ r. ⌜ (r ≡ ones a + ones b + ones c + ones d) × (r ≤ 32) ⌝ }
+{
+    let low = (a as u32) + 256 * (b as u32);
+    let high = (c as u32) + 256 * (d as u32);
+    u32::count_ones(low + 65536 * high) as usize
+}
+
+// Where the term that begins at an offset of a complete situation ends: its words' maps say how many
+// more terms are due. Where four are due the next four maps are counted in one go.
+fn end_of(s: &[u8], at: usize) -> usize
+    requires { ⌜ Standing (now s) at ⌝ }
+    ensures { λ r. ⌜ ((a : Standing (now (s .entry)) at) → r ≡ ends a) ⌝ }
+{
+    let mut end = at;
+    let mut due: usize = 1;
+    while 0 < due {
+        if due < 4 {
+            due = due - 1 + count(map_at(s, end));
+            end += maps::NODE;
+        } else {
+            let second = end + maps::NODE;
+            let third = second + maps::NODE;
+            let fourth = third + maps::NODE;
+            due = due - 4
+                + count_four(
+                    map_at(s, end),
+                    map_at(s, second),
+                    map_at(s, third),
+                    map_at(s, fourth),
+                );
+            end = fourth + maps::NODE;
+        }
+    }
+    end
+}
+
+// Notes the part of so many bytes from an offset on for a name.
+fn note(spans: &mut [u16; 128], name: usize, at: usize, n: usize)
+    requires { ⌜ (name < 64) × (at ≤ 4096) × (n ≤ 4096) ⌝ }
+    ensures { λ r. ⌜ now (spans .exit) ≡ withSpan (now (spans .entry)) name at n ⌝ }
+{
+    spans[2 * name] = at as u16;
+    spans[2 * name + 1] = n as u16;
+}
+
+// Where the part that a name covers from an offset on ends. The first time it is noted. Later the bytes of that part
+// must stand here too, which then end where the part does; 0 says that they do not.
+fn cover(s: &[u8], spans: &mut [u16; 128], name: usize, at: usize) -> usize
+    requires { ⌜ Standing (now s) at ⌝ }
+    requires { ⌜ (name < 64) × (length (now s) ≤ 4096) ⌝ }
+    requires { ⌜ getD (now spans) (2 * name) 0 + getD (now spans) (2 * name + 1) 0 ≤ length (now s) ⌝ }
+    ensures { λ r. ⌜ Covered (now (s .entry)) (now (spans .entry)) (now (spans .exit)) name at r ⌝ }
+{
+    let n = wide16(spans[2 * name + 1]);
+    if n == 0 {
+        let end = end_of(s, at);
+        note(spans, name, at, end - at);
+        return end;
+    }
+    if s.len() - at < n {
+        return 0;
+    }
+    let first = wide16(spans[2 * name]);
+    if nodes::equal(&s[first..first + n], &s[at..at + n]) {
+        return at + n;
+    }
+    0
+}
+
+// The places of a word that are due: its written map, and behind it its place map, both shifted past
+// the places that are done.
+fn frame(written: u8, places: u8) -> u16
+    ensures { λ r. ⌜ TwoMaps r written places ⌝ }
+{
+    (written as u16) + 256 * (places as u16)
+}
+
+fn places_due(frame: u16) -> u16
+    ensures { λ r. ⌜ r ≡ placesIn frame ⌝ }
+{
+    frame / 256 % 256
+}
+
+// The frame without its lowest place.
+fn passed(frame: u16) -> u16
+    ensures { λ r. ⌜ TwoMaps r (writtenIn frame / 2) (placesIn frame / 2) ⌝ }
+{
+    let written = frame % 256;
+    let places = frame / 256 % 256;
+    written / 2 + 256 * (places / 2)
+}
+
+// How far a walk has come in the pattern and in the situation; 0 says that the pattern does not fit.
+struct Reached {
+    pattern: usize,
+    situation: usize,
+}
+
+// Goes through a word that has open places side by side with the part of the situation that begins with the same word.
+// The places of the words around a place are kept in frames.
+fn walk_word(p: &[u8], s: &[u8], spans: &mut [u16; 128], from: usize, at: usize) -> Reached
+    requires { ⌜ InputsRead (now p) (now s) ⌝ }
+    requires { ⌜ AtSharedWord (now p) (now s) (now spans) from at ⌝ }
+    ensures { λ r. ⌜ WordWalked (now (p .entry)) (now (s .entry)) (now (spans .exit)) from (r .pattern) (r .situation) ⌝ }
+{
+    let mut frames = [0u16; 32];
+    let mut due = frame(map_at(p, from), map_at(s, at));
+    let mut depth: usize = 1;
+    let mut i = from + maps::NODE;
+    let mut j = at + maps::NODE;
+    while 0 < depth {
+        let places = places_due(due);
+        if places == 0 {
+            depth -= 1;
+            due = frames[depth];
+        } else {
+            let written = due % 2;
+            due = passed(due);
+            if places % 2 == 1 {
+                if written == 0 {
+                    j = end_of(s, j);
+                } else {
+                    let b = p[i];
+                    if b < 128 {
+                        if b != s[j] {
+                            return Reached {
+                                pattern: 0,
+                                situation: 0,
+                            };
+                        }
+                        let map = map_at(s, j);
+                        let inner = frame(map_at(p, i), map);
+                        i += maps::NODE;
+                        j += maps::NODE;
+                        if map != 0 {
+                            frames[depth] = due;
+                            due = inner;
+                            depth += 1;
+                        }
+                    } else {
+                        j = cover(s, spans, wide(b) - 128, j);
+                        if j == 0 {
+                            return Reached {
+                                pattern: 0,
+                                situation: 0,
+                            };
+                        }
+                        i += 1;
+                    }
+                }
+            }
+        }
+    }
+    Reached {
+        pattern: i,
+        situation: j,
+    }
+}
+
+// Goes through a pattern and a situation side by side, and notes the part that each name covers. While no open place
+// is due what is left of the pattern stands for what is left of the situation.
+fn walk_words(p: &[u8], s: &[u8], spans: &mut [u16; 128]) -> bool
+    requires { ⌜ InputsRead (now p) (now s) ⌝ }
+    requires { ⌜ now spans ≡ replicate 128 0 ⌝ }
+    requires { ⌜ getD (now p) 1 0 < 128 ⌝ }
+    ensures { λ r. ⌜ Walked (now (p .entry)) (now (s .entry)) (now (spans .exit)) r ⌝ }
+{
+    let mut i: usize = 1;
+    let mut j: usize = 1;
+    while i < p.len() {
+        let n = nodes::same_front(&p[i..], &s[j..]);
+        i += n;
+        j += n;
+        if i < p.len() {
+            let b = p[i];
+            if b < 128 {
+                if b != s[j] {
+                    return false;
+                }
+                let reached = walk_word(p, s, spans, i, j);
+                if reached.pattern == 0 {
+                    return false;
+                }
+                i = reached.pattern;
+                j = reached.situation;
+            } else {
+                j = cover(s, spans, wide(b) - 128, j);
+                if j == 0 {
+                    return false;
+                }
+                i += 1;
+            }
+        }
+    }
+    true
+}
+
+// Goes through a pattern and a situation, from the root on. A name or 255 there covers the whole situation, so that its
+// end need not be looked for.
+fn walk(p: &[u8], s: &[u8], spans: &mut [u16; 128]) -> bool
+    requires { ⌜ InputsRead (now p) (now s) ⌝ }
+    requires { ⌜ now spans ≡ replicate 128 0 ⌝ }
+    ensures { λ r. ⌜ Walked (now (p .entry)) (now (s .entry)) (now (spans .exit)) r ⌝ }
+{
+    let root = p[1];
+    if root < 128 {
+        return walk_words(p, s, spans);
+    }
+    if root != 255 {
+        note(spans, wide(root) - 128, 1, s.len() - 1);
+    }
+    true
+}
+
+// Judges a pattern and a situation and, where the pattern fits, leaves the part that each name covers in the table;
+// after any other answer the table is blank.
+pub fn find(
+    vocabulary: &[u8],
+    pattern: &[u8],
+    situation: &[u8],
+    spans: &mut [u16; 128],
+) -> SpansAnswer
+    ensures { λ r. ⌜ HasEffect (matched (now (vocabulary .entry)) (now (pattern .entry)) (now (situation .entry)) (replicate 128 0)) (spansNumbers r) (now (spans .exit)) ⌝ }
+{
+    *spans = [0u16; 128];
+    match inputs::judge(vocabulary, pattern, situation) {
+        InputsAnswer::Refused(why) => {
+            return SpansAnswer::Refused(why);
+        }
+        InputsAnswer::Clear => {}
+    }
+    if walk(pattern, situation, spans) {
+        return SpansAnswer::Fits;
+    }
+    *spans = [0u16; 128];
+    SpansAnswer::Differs
+}
