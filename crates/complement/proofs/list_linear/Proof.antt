@@ -1,13 +1,13 @@
 -- `complement::list_linear` meets its contract.
 use denote.Ref.{now}
 use native.Mathlib.Omega.{arith}
-use Rattle.complement.proofs.Linear.{few-words, most-bytes, linear-no-room, linear-none, linear-room, linear-written}
+use Rattle.complement.proofs.Linear.{most-bytes, linear-no-room, linear-none, linear-room, linear-written}
 use borrow.Author.Needs.{needs}
 use Rattle.complement.proofs.list_linear.Statement.{statement}
 use Rattle.complement.proofs.list_linear.Tie as tie
 
 measure-requires : tie.Need-measure-requires
-measure-requires c κs = let h = c .before .before .pre in (few-words h, most-bytes h)
+measure-requires c κs = search needs
 
 returns : tie.Need-returns
 returns c = λ h. linear-no-room h (c .before .measure .ensures) (now (c .before .before .before .before .args .out)) (c .if1 .taken)
