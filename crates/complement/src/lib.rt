@@ -97,8 +97,8 @@ struct Progress {
 fn list_term(
     copy: &mut [u8],
     at: usize,
-    results: &[u8; 96],
     chains: &[u8; 112],
+    results: &[u8; 96],
     left: usize,
     out: &mut [u8],
 ) -> Progress
@@ -123,7 +123,7 @@ fn list_term(
             written: n,
         };
     }
-    let below = list_places(copy, at, map, results, chains, left, &mut out[n..]);
+    let below = list_places(copy, at, map, chains, results, left, &mut out[n..]);
     let end = below.at;
     let written = n + below.written;
     Progress { at: end, written }
@@ -135,8 +135,8 @@ fn list_places(
     copy: &mut [u8],
     at: usize,
     map: u8,
-    results: &[u8; 96],
     chains: &[u8; 112],
+    results: &[u8; 96],
     left: usize,
     out: &mut [u8],
 ) -> Progress
@@ -154,7 +154,7 @@ fn list_places(
         bits = bits / 2;
         if bit == 1 {
             maps::write(kept(map, place), copy, at + 1);
-            let here = list_term(copy, next, results, chains, left - 1, &mut out[n..]);
+            let here = list_term(copy, next, chains, results, left - 1, &mut out[n..]);
             next = here.at;
             n = n + here.written;
         }
@@ -176,11 +176,25 @@ fn list_in(copy: &mut [u8], pattern: &[u8], words: usize, results: &[u8; 96], ou
 {
     let chains = kinds::chain(words, results);
     slices::copy(pattern, copy);
-    let _ = list_term(copy, 1, results, &chains, 32, out);
+    let _ = list_term(copy, 1, &chains, results, 32, out);
 }
 
-// The listing of a pattern that is accepted and in which no name stands twice. Most patterns are short, and a small
-// copy is sooner set up.
+// Lists a pattern into a lent slice with room for the entries. Most patterns are short, and a small copy is sooner set up.
+fn list_copied(pattern: &[u8], words: usize, results: &[u8; 96], out: &mut [u8])
+    requires { ⌜ Patterned (now pattern) words (now results) ⌝ }
+    requires { ⌜ HasRoom (now pattern) words (now results) (length (now out)) ⌝ }
+    ensures { λ _. ⌜ WritesEntries (now (pattern .entry)) words (now (results .entry)) (now (out .entry)) (now (out .exit)) ⌝ }
+{
+    if pattern.len() <= 128 {
+        let mut copy = [0u8; 128];
+        list_in(&mut copy, pattern, words, results, out);
+        return;
+    }
+    let mut copy = [0u8; 4096];
+    list_in(&mut copy, pattern, words, results, out);
+}
+
+// The listing of a pattern that is accepted and in which no name stands twice.
 fn list_linear(pattern: &[u8], words: usize, results: &[u8; 96], out: &mut [u8]) -> ListAnswer
     requires { ⌜ Patterned (now pattern) words (now results) ⌝ }
     ensures { λ r. ⌜ ListsLinear (now (pattern .entry)) words (now (results .entry)) (now (out .entry)) (now (out .exit)) (listNumbers r) ⌝ }
@@ -191,16 +205,9 @@ fn list_linear(pattern: &[u8], words: usize, results: &[u8; 96], out: &mut [u8])
     if out.len() < bytes {
         return ListAnswer::NoRoom(bytes);
     }
-    if bytes == 0 {
-        return ListAnswer::Listed(entries, bytes);
+    if bytes != 0 {
+        list_copied(pattern, words, results, out);
     }
-    if pattern.len() <= 128 {
-        let mut copy = [0u8; 128];
-        list_in(&mut copy, pattern, words, results, out);
-        return ListAnswer::Listed(entries, bytes);
-    }
-    let mut copy = [0u8; 4096];
-    list_in(&mut copy, pattern, words, results, out);
     ListAnswer::Listed(entries, bytes)
 }
 

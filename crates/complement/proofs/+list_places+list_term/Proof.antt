@@ -61,11 +61,11 @@ list-term-below t =
     and 4 list-term-kinds.ps (falls 4 list-term-kinds.ps _<_ μ-list-term t) list-term.Pre
 
 abbrev list-places-Inv-loop : list-places-lts.InvT-loop
-list-places-Inv-loop copy₀ at map results chains left out₀ n₀ next₀ b₀ bits₀ copy out n next b bits =
+list-places-Inv-loop copy₀ at map chains results left out₀ n₀ next₀ b₀ bits₀ copy out n next b bits =
     (h : PlacesAt copy₀ at map results chains left (length out₀)) → Reached out₀ h b next n bits copy out
 
 abbrev list-places-μ-loop : list-places-lts.MeasureT-loop
-list-places-μ-loop copy₀ at map results chains left out₀ n₀ next₀ b₀ bits₀ copy out n next b bits = bits
+list-places-μ-loop copy₀ at map chains results left out₀ n₀ next₀ b₀ bits₀ copy out n next b bits = bits
 
 abbrev places-claims : ℕ → list-places-lts.Claims
 places-claims t = (
