@@ -1,6 +1,6 @@
 -- Following: the others of a word's result kind are found by going from one word of the kind to the next.
 --
---   least-from, least-inside, least-outside   the lowest number of a range that passes a test
+--   least-from, -inside, -low, -outside   the lowest number of a range that passes a test
 --   Followed                  the loop: h is the next word of the kind, and the others before it have their entries
 --   followed-none, -all       it begins, and it ends
 --   followed-room, -less      the next entry has room, and the next word is a higher one
@@ -19,8 +19,8 @@ use Rattle.terms.proofs.Keep.{keep-keep, keep-same}
 use Rattle.wire.specs.Map.{writeMap}
 use Rattle.wire.specs.EntryBytes.{othersBytes}
 use Rattle.wire.proofs.Cond.{cond-true, cond-false}
-use Rattle.kinds.specs.Kinds.{hasKind, lowest, Chained}
-use Rattle.complement.specs.Entering.{isOther, othersIn, Written}
+use Rattle.kinds.specs.Kinds.{kindIn, hasKind, isOther, othersIn, lowest, Chained}
+use Rattle.complement.specs.Entering.{Written}
 use Rattle.complement.proofs.Siblings.{Listed, listed-none, listed-room, listed-taken, listed-all}
 use Rattle.complement.proofs.Writing.{part, back}
 
@@ -58,6 +58,16 @@ module _ (t : ℕ → Bool) where
           let r = rest (e ∙ ap (λ l. getD l 0 255) (cond-false (t from) _ _ p)) l in
           (r .0, cond-false (t from) _ _ p ∙ r .1)
 
+  -- Where it is below 255, it is in the range.
+  least-low : (c from n : ℕ) → n ≡ from + c → least from c < 255 → least from c < n
+  least-low zero from n s k = absurd (omega arith)
+  least-low (suc c) from n s k = go (t from) k (least-low c (suc from) n (omega arith))
+    where
+      go : (b : Bool) → getD (cond b (from ∷ keep t (range (suc from) c)) (keep t (range (suc from) c))) 0 255 < 255 →
+          (least (suc from) c < 255 → least (suc from) c < n) → getD (cond b (from ∷ keep t (range (suc from) c)) (keep t (range (suc from) c))) 0 255 < n
+      go true k rest = omega arith
+      go false k rest = rest k
+
   -- Where it is not, nothing passes.
   least-outside : (c from : ℕ) → from + c ≤ least from c → keep t (range from c) ≡ []
   least-outside zero from k = refl
@@ -76,14 +86,14 @@ isNot f g = not (eqb g f)
 
 -- The words of the kind of f from a word on, and the others among them.
 abbrev siblings : ℕ → List ℕ → ℕ → ℕ → List ℕ
-siblings words results f from = keep (hasKind results (getD results f 0)) (range from (words - from))
+siblings words results f from = keep (hasKind results (kindIn results f)) (range from (words - from))
 
 abbrev left : ℕ → List ℕ → ℕ → ℕ → List ℕ
 left words results f from = keep (isNot f) (siblings words results f from)
 
 left-all : (words : ℕ) (results : List ℕ) (f : ℕ) → othersIn words results f ≡ left words results f 0
 left-all words results f =
-    let kept : ℕ → Bool = hasKind results (getD results f 0) in
+    let kept : ℕ → Bool = hasKind results (kindIn results f) in
     keep-same (isOther results f) (λ g. kept g && isNot f g) (range 0 words) (λ g. and-comm (isNot f g) (kept g))
     ∙ sym (keep-keep (isNot f) kept (range 0 words))
     ∙ ap (λ c. keep (isNot f) (keep kept (range 0 c))) (let e : words ≡ words - 0 = omega arith in e)
@@ -95,21 +105,21 @@ pub record Followed (front : List ℕ) (words : ℕ) (results chains : List ℕ)
   pub room : length (othersBytes front (othersIn words results f)) ≤ length before
   pub from : ℕ
   pub below : from ≤ words
-  pub next : h ≡ lowest words results (getD results f 0) from
+  pub next : h ≡ lowest words results (kindIn results f) from
   pub size : length out ≡ length before
   pub inside : n ≤ length before
   pub listed : Listed front (othersIn words results f) before (left words results f from) n out
 
 module _ {front : List ℕ} {words : ℕ} {results chains : List ℕ} {f : ℕ} {before : List ℕ} where
   pub followed-none : words ≤ 96 → Chained words results chains → length (othersBytes front (othersIn words results f)) ≤ length before →
-      (k h : ℕ) → k ≡ getD results f 0 → k < 256 → h ≡ getD chains k 0 → Followed front words results chains f before h 0 before
-  followed-none small c room k h e low s = record {
+      {h : ℕ} → h ≡ lowest words results (kindIn results f) 0 → Followed front words results chains f before h 0 before
+  followed-none small c room s = record {
     small = small;
     chained = c;
     room = room;
     from = 0;
     below = omega arith;
-    next = s ∙ c .first k low ∙ ap (λ k. lowest words results k 0) e;
+    next = s;
     size = refl;
     inside = omega arith;
     listed = subst (λ l. Listed front (othersIn words results f) before l 0 before) (left-all words results f)
@@ -117,21 +127,28 @@ module _ {front : List ℕ} {words : ℕ} {results chains : List ℕ} {f : ℕ} 
   }
 
   module _ {h n : ℕ} {out : List ℕ} (w : Followed front words results chains f before h n out) where
-    pub followed-all : words ≤ h → Written (othersBytes front (othersIn words results f)) before n out
+    pub followed-inside : h < 96 → h < words
+    followed-inside k =
+        let b = w .below in
+        let s = w .next in
+        omega (arith, least-low (hasKind results (kindIn results f)) (words - w .from) (w .from) words (omega arith) (omega arith))
+
+    pub followed-all : 96 ≤ h → Written (othersBytes front (othersIn words results f)) before n out
     followed-all k =
         let b = w .below in
         let s = w .next in
+        let l = w .small in
         let none : left words results f (w .from) ≡ [] =
-        ap (keep (isNot f)) (least-outside (hasKind results (getD results f 0)) (words - w .from) (w .from) (omega arith)) in
+        ap (keep (isNot f)) (least-outside (hasKind results (kindIn results f)) (words - w .from) (w .from) (omega arith)) in
         listed-all front (othersIn words results f) (w .room)
         (subst (λ l. Listed front (othersIn words results f) before l n out) none (w .listed))
 
     module _ (inside : h < words) where
-      here : (hasKind results (getD results f 0) h ≡ true) × (siblings words results f (w .from) ≡ h ∷ siblings words results f (h + 1))
+      here : (hasKind results (kindIn results f) h ≡ true) × (siblings words results f (w .from) ≡ h ∷ siblings words results f (h + 1))
       here =
           let b = w .below in
           let s = w .small in
-          least-inside (hasKind results (getD results f 0)) (words - w .from) (w .from) words h (omega arith) (omega arith) (w .next) inside
+          least-inside (hasKind results (kindIn results f)) (words - w .from) (w .from) words h (omega arith) (omega arith) (w .next) inside
 
       next-listed : (h ≡ f → ⊥) → Listed front (othersIn words results f) before (h ∷ left words results f (h + 1)) n out
       next-listed apart =
@@ -142,16 +159,16 @@ module _ {front : List ℕ} {words : ℕ} {results chains : List ℕ} {f : ℕ} 
       pub followed-room : (h ≡ f → ⊥) → {at : ℕ} → length front ≡ at → at + 2 ≤ length (part n out)
       followed-room apart begins = listed-room front (othersIn words results f) (w .room) begins (next-listed apart)
 
-      module _ (m : ℕ) (step : m ≡ getD chains (256 + h) 0) where
-        next-word : m ≡ lowest words results (getD results f 0) (h + 1)
+      module _ (m : ℕ) (step : m ≡ getD chains h 0) where
+        next-word : m ≡ lowest words results (kindIn results f) (h + 1)
         next-word =
             step ∙ w .chained .next h (let s = w .small in omega arith)
-            ∙ ap (λ k. lowest words results k (h + 1)) (eqb-true (getD results h 0) (getD results f 0) (here .0))
+            ∙ ap (λ k. lowest words results k (h + 1)) (eqb-true (kindIn results h) (kindIn results f) (here .0))
 
         pub followed-less : h < m
         followed-less =
             let s = w .small in
-            omega (arith, next-word, least-from (hasKind results (getD results f 0)) (words - (h + 1)) (h + 1) (omega arith))
+            omega (arith, next-word, least-from (hasKind results (kindIn results f)) (words - (h + 1)) (h + 1) (omega arith))
 
         followed-on : {i : ℕ} {ys : List ℕ} → Listed front (othersIn words results f) before (left words results f (h + 1)) i ys →
             Followed front words results chains f before m i ys

@@ -1,9 +1,9 @@
 -- Linear: the listing of an accepted pattern is measured, refused where there is no room, and else written.
-use mathlib.Core.Path.{_≡_, refl, sym, ap, ap₂, _∙_}
+use mathlib.Core.Path.{_≡_, refl, sym, ap, ap₂, _∙_, subst}
 use mathlib.Core.Bool.{Bool, true, false}
 use mathlib.Core.List.{List, [], _∷_, _++_}
-use Prim.Native.Nat.{ℕ, _+_, _<_, _≤_}
-use native.Mathlib.Nat.{le-max-right}
+use Prim.Native.Nat.{ℕ, _+_, _<_, _≤_, min}
+use native.Mathlib.Nat.{le-max-right, min-eq-left}
 use native.Mathlib.Omega.{arith}
 use lib.Dec.{leb}
 use lib.ListN.{length, drop}
@@ -11,16 +11,17 @@ use borrow.Author.Tests.{le-leb, lt-leb}
 use Rattle.terms.specs.Term.{Term, any, var, app}
 use Rattle.wire.specs.Reply.{accepted, refused}
 use Rattle.wire.specs.Map.{isOpen}
-use Rattle.wire.specs.Vocabulary.{Vocabulary}
+use Rattle.wire.specs.Vocabulary.{Vocabulary, mostWords}
 use Rattle.wire.specs.TermBytes.{encodeAt, encodeRoot, levels, mostBytes}
 use Rattle.wire.specs.Effect.{Effect, HasEffect}
 use Rattle.wire.specs.ListComputed.{listedInto}
 use Rattle.wire.specs.Leftovers.{entriesBytes, entriesOf}
-use Rattle.wire.specs.EntrySizes.{countAt, sizeAt, summedIn}
 use Rattle.wire.proofs.Cond.{cond-true, cond-false}
 use Rattle.wire.proofs.EntryBytes.{entries-bytes}
-use Rattle.wire.proofs.EntrySizes.{pattern-count, pattern-length}
-use Rattle.complement.specs.Entering.{Measures, TermAt, TermListed}
+use Rattle.kinds.specs.Kinds.{Chained}
+use Rattle.sizes.specs.Sizes.{Measured}
+use Rattle.sizes.proofs.Patterns.{pattern-sizes}
+use Rattle.complement.specs.Entering.{TablesOf, TermAt, TermListed}
 use Rattle.complement.specs.Calls.{Patterned, bytesOf}
 
 -- ---- what listedInto shows
@@ -67,24 +68,25 @@ module _ {p : List ℕ} {words : ℕ} {results : List ℕ} (h : Patterned p word
   abbrev pub entryBytes : List ℕ
   entryBytes = bytesOf h
 
-  pub few-words : words ≤ 96
+  few-words : words ≤ mostWords
   few-words = omega (arith, h .tabled .words, h .inOrder .fewWords)
 
   pub most-bytes : length p ≤ 4096
   most-bytes = h .held .limits .most
 
-  module _ {entries bytes : ℕ} (m : Measures p words results entries bytes) where
-    pub count-is : entries ≡ entryCount
-    count-is =
-        m W (h .tabled) .0
-        ∙ ap (λ b. summedIn W (countAt W) 1 b 0) (h .held .written)
-        ∙ sym (pattern-count W (h .inOrder) s t (h .held .good))
+  module _ {entries bytes : ℕ} (m : Measured words results p entries bytes) where
+    sizes-are : (entries ≡ entryCount) × (bytes ≡ length entryBytes)
+    sizes-are =
+        pattern-sizes W (h .inOrder) s t (h .held .good) (omega (arith, most-bytes, ap length (h .held .written))) words results (h .tabled .words)
+        (h .tabled .result) entries bytes (subst (λ l. Measured words results l entries bytes) (h .held .written) m)
 
-    pub size-is : bytes ≡ length entryBytes
-    size-is =
-        m W (h .tabled) .1
-        ∙ ap (λ b. summedIn W (sizeAt W) 1 b 0) (h .held .written)
-        ∙ sym (pattern-length W (h .inOrder) s t (h .held .good))
+  -- The tables of its vocabulary.
+  tables-of : {chains : List ℕ} → Chained (min words mostWords) results chains → TablesOf W results chains
+  tables-of {chains} c = record {
+    inOrder = h .inOrder;
+    tabled = record { words = refl; result = λ f l. h .tabled .result f (omega (arith, h .tabled .words)) };
+    chained = subst (λ n. Chained n results chains) (min-eq-left few-words ∙ h .tabled .words) c;
+  }
 
   -- A pattern with entries is no open place.
   not-open : (t : Term) → (length (entriesBytes W (entriesOf W s t)) ≡ 0 → ⊥) → isOpen t ≡ false
@@ -98,20 +100,19 @@ module _ {p : List ℕ} {words : ℕ} {results : List ℕ} (h : Patterned p word
   root-same (app f ts) e = refl
 
   -- The root in a copy of the pattern.
-  module _ (copy : List ℕ) {copied : List ℕ} (c : copied ≡ p ++ drop (length p) copy) (size : length copied ≤ mostBytes) (before : List ℕ)
+  module _ {chains : List ℕ} (chained : Chained (min words mostWords) results chains) (copy : List ℕ) {copied : List ℕ} (c : copied ≡ p ++ drop (length p) copy) (size : length copied ≤ mostBytes) (before : List ℕ)
       (room : (0 < length entryBytes) × (length entryBytes ≤ length before)) where
     closed : isOpen t ≡ false
     closed = not-open t (λ e. let k = room .0 in omega arith)
 
-    pub root-term : TermAt copied 1 words results 32 (length before)
+    pub root-term : TermAt copied 1 results chains 32 (length before)
     root-term = record {
       vocabulary = W;
       front = s ∷ [];
       term = t;
       kind = s;
       rest = drop (length p) copy;
-      inOrder = h .inOrder;
-      tabled = h .tabled;
+      tables = tables-of chained;
       size = size;
       begins = refl;
       sorted = h .held .good .sorted .sorted;
@@ -128,18 +129,18 @@ module _ {p : List ℕ} {words : ℕ} {results : List ℕ} (h : Patterned p word
     root-listed l = l .written .same ∙ ap (λ b. b ++ drop (length b) before) (sym (entries-bytes W s t))
 
   -- The three answers.
-  module _ {entries bytes : ℕ} (m : Measures p words results entries bytes) (before : List ℕ) where
+  module _ {entries bytes : ℕ} (m : Measured words results p entries bytes) (before : List ℕ) where
     pub linear-no-room : length before < bytes → HasEffect (listedInto before entryCount entryBytes) (refused 20 3 bytes) before
-    linear-no-room = shows-no-room before entryCount entryBytes entries bytes (count-is m) (size-is m)
+    linear-no-room = shows-no-room before entryCount entryBytes entries bytes (sizes-are m .0) (sizes-are m .1)
 
     pub linear-none : bytes ≤ length before → bytes ≡ 0 → HasEffect (listedInto before entryCount entryBytes) (accepted (entries ∷ bytes ∷ [])) before
     linear-none k e =
-        shows-written before entryCount entryBytes entries bytes (count-is m) (size-is m) k
-        (sym (ap (λ b. b ++ drop (length b) before) (nothing entryBytes (sym (size-is m) ∙ e))))
+        shows-written before entryCount entryBytes entries bytes (sizes-are m .0) (sizes-are m .1) k
+        (sym (ap (λ b. b ++ drop (length b) before) (nothing entryBytes (sym (sizes-are m .1) ∙ e))))
 
     pub linear-room : bytes ≤ length before → (bytes ≡ 0 → ⊥) → (0 < length entryBytes) × (length entryBytes ≤ length before)
-    linear-room k e = (omega (arith, size-is m), omega (arith, size-is m))
+    linear-room k e = (omega (arith, sizes-are m .1), omega (arith, sizes-are m .1))
 
     pub linear-written : bytes ≤ length before → {after : List ℕ} → after ≡ entryBytes ++ drop (length entryBytes) before →
         HasEffect (listedInto before entryCount entryBytes) (accepted (entries ∷ bytes ∷ [])) after
-    linear-written k = shows-written before entryCount entryBytes entries bytes (count-is m) (size-is m) k
+    linear-written k = shows-written before entryCount entryBytes entries bytes (sizes-are m .0) (sizes-are m .1) k

@@ -93,12 +93,12 @@ bit-at m b x h e = flags-at b m h ∙ ap₂ (λ x i. eqb x 1 ∷ drop i (flags m
 -- ---- the loop
 
 -- The word's map stands inside the copy.
-pub map-inside : {copy : List ℕ} {at map words : ℕ} {results : List ℕ} {left room : ℕ} → PlacesAt copy at map words results left room → at + 1 < length copy
+pub map-inside : {copy : List ℕ} {at map : ℕ} {results chains : List ℕ} {left room : ℕ} → PlacesAt copy at map results chains left room → at + 1 < length copy
 map-inside {copy} {at} {map} h =
     let l : List ℕ = h .top ∷ (writeMap map ++ (encodeAll (h .vocabulary) (h .terms) ++ h .rest)) in
     omega (arith, ap length (h .stands), length-append (h .front) l, h .begins)
 
-module _ {copy : List ℕ} {at map words : ℕ} {results : List ℕ} {left : ℕ} (before : List ℕ) (h : PlacesAt copy at map words results left (length before)) where
+module _ {copy : List ℕ} {at map : ℕ} {results chains : List ℕ} {left : ℕ} (before : List ℕ) (h : PlacesAt copy at map results chains left (length before)) where
   abbrev W : Vocabulary
   W = h .vocabulary
 
@@ -267,15 +267,14 @@ module _ {copy : List ℕ} {at map words : ℕ} {results : List ℕ} {left : ℕ
         deep-both = subst (λ ts. suc (levelsAll ts) ≤ left) (split .same) (r .deep)
 
         -- The term at this bit, in the copy whose map is kept up to it.
-        pub place-term : TermAt patched next words results (left - 1) (length (part n out))
+        pub place-term : TermAt patched next results chains (left - 1) (length (part n out))
         place-term = record {
           vocabulary = W;
           front = next-front;
           term = t;
           kind = here .0 .0;
           rest = encodeAll W us ++ h .rest;
-          inOrder = h .inOrder;
-          tabled = h .tabled;
+          tables = h .tables;
           size = omega (arith, ap length (put ∙ sym (map-set copied (at + 1) k)), length-set copied (at + 1) k, copied-length, h .size);
           begins = omega (arith, length-append (h .front) (f ∷ (writeMap k ++ r .body)), h .begins, r .offset);
           sorted = here .0 .1;

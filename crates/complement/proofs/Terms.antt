@@ -4,7 +4,7 @@
 --   Begun, term-begun         what the first byte tells
 --   name-listed               a name has no entries
 --   Word, term-word           the word that stands there, with its map and terms
---   own-room, own-length, own-inside   its own entries have room and are written
+--   own-others-at, own-length, own-inside   its own entries have room and are written
 --   word-places               the terms of its bits stand in the copy, and have room behind these entries
 --   word-listed, word-bare    the word is listed, with its terms and where it has none
 --
@@ -19,15 +19,16 @@ use lib.Seq.{take-at, getD-at}
 use Rattle.terms.specs.Term.{Term, any, var, app, Terms, nil, cons, Sorted}
 use Rattle.terms.specs.Listing.{others}
 use Rattle.wire.specs.Map.{writeMap, flags, isOpen}
-use Rattle.wire.specs.Vocabulary.{Vocabulary, signature}
+use Rattle.wire.specs.Vocabulary.{Vocabulary, signature, mostWords}
 use Rattle.wire.specs.TermBytes.{nameByte, writtenMap, encodeAt, encodeAll, levels, levelsAll}
 use Rattle.wire.proofs.Words.{length-symbols}
 use Rattle.wire.specs.EntryBytes.{othersBytes, spots, spotsBytes}
 use Rattle.wire.specs.EntryMaps.{closed, Stands, bitSpots}
 use Rattle.wire.proofs.EntryMaps.{closed-bytes, spots-by-bits}
 use Rattle.wire.proofs.EntryWalk.{closed-stands, word-bytes}
-use Rattle.complement.specs.Entering.{othersIn, Written, TermAt, TermListed, PlacesAt, PlacesListed}
-use Rattle.complement.proofs.Others.{others-tabled}
+use Rattle.kinds.specs.Kinds.{kindIn, othersIn}
+use Rattle.kinds.proofs.Others.{others-tabled}
+use Rattle.complement.specs.Entering.{OthersAt, Written, TermAt, TermListed, PlacesAt, PlacesListed}
 use Rattle.complement.proofs.Places.{places-none}
 use Rattle.complement.proofs.Writing.{part, back, back-same, part-room, written-none, written-more, written-length}
 
@@ -48,7 +49,7 @@ closed-levels (cons (var n) ts) = ap (max 1) (closed-levels ts)
 closed-levels (cons (app f us) ts) = ap (max (suc (levelsAll us))) (closed-levels ts)
 
 -- The byte where a term stands.
-module _ {copy : List ℕ} {at words : ℕ} {results : List ℕ} {left room : ℕ} (h : TermAt copy at words results left room) where
+module _ {copy : List ℕ} {at : ℕ} {results chains : List ℕ} {left room : ℕ} (h : TermAt copy at results chains left room) where
   abbrev W : Vocabulary
   W = h .vocabulary
 
@@ -63,26 +64,25 @@ module _ {copy : List ℕ} {at words : ℕ} {results : List ℕ} {left room : �
       ap length (h .stands ∙ ap (λ z. h .front ++ (z ++ h .rest)) e) ∙ length-append (h .front) ((b ∷ l) ++ h .rest) in
       omega (arith, h .begins, length-append (b ∷ l) (h .rest))
 
-  few-words : words ≤ 96
-  few-words = omega (arith, h .tabled .words, h .inOrder .fewWords)
+  few-words : length (W .words) ≤ 96
+  few-words = h .tables .inOrder .fewWords
 
-  known : (f : ℕ) (ts : Terms) → h .term ≡ app f ts → f < words
+  known : (f : ℕ) (ts : Terms) → h .term ≡ app f ts → f < length (W .words)
   known f ts e =
       let s = subst (λ t. Sorted (signature W) t (h .kind)) e (h .sorted) in
-      omega (arith, s .0, length-symbols W, h .tabled .words)
+      omega (arith, s .0, length-symbols W)
 
   -- What the first byte tells.
   pub record Begun : Type 0 where
     pub inside : at < length copy
-    pub few : words ≤ 96
 
   pub term-begun : Begun
   term-begun = go (shape (h .term) (h .closed))
     where
       go : Shape (h .term) → Begun
-      go (name n e) = record { inside = let z = longer (nameByte n) [] (ap (encodeAt W) e) in omega arith; few = few-words }
+      go (name n e) = record { inside = let z = longer (nameByte n) [] (ap (encodeAt W) e) in omega arith }
       go (symbol f ts e) =
-          record { inside = let z = longer f (writeMap (writtenMap W f ts) ++ encodeAll W ts) (ap (encodeAt W) e) in omega arith; few = few-words }
+          record { inside = let z = longer f (writeMap (writtenMap W f ts) ++ encodeAll W ts) (ap (encodeAt W) e) in omega arith }
 
   -- A name has no entries.
   pub name-listed : 127 < getD copy at 0 → (before : List ℕ) → TermListed h copy before before (at + 1) 0
@@ -101,7 +101,7 @@ module _ {copy : List ℕ} {at words : ℕ} {results : List ℕ} {left room : �
     pub same : h .term ≡ app (getD copy at 0) terms
     pub map : getD copy (at + 1) 0 ≡ writtenMap W (getD copy at 0) terms
     pub inside : at + 1 < length copy
-    pub known : getD copy at 0 < words
+    pub known : getD copy at 0 < length (W .words)
 
   pub term-word : getD copy at 0 ≤ 127 → Word
   term-word k = go (shape (h .term) (h .closed))
@@ -123,12 +123,12 @@ module _ {copy : List ℕ} {at words : ℕ} {results : List ℕ} {left room : �
             same = e ∙ ap (λ f. app f ts) first;
             map = second ∙ ap (λ f. writtenMap W f ts) first;
             inside = let z = longer f (m ∷ encodeAll W ts) (ap (encodeAt W) e) in omega arith;
-            known = subst (λ f. f < words) first (known f ts e);
+            known = subst (λ f. f < length (W .words)) first (known f ts e);
           }
 
 -- A word: its own entries, then those of its places.
-module _ {copy : List ℕ} {at words : ℕ} {results : List ℕ} {left : ℕ} (before : List ℕ)
-    (h : TermAt copy at words results left (length before)) (w : Word h) {g : ℕ} (same : g ≡ getD copy at 0) {m : ℕ} (mapped : m ≡ getD copy (at + 1) 0) where
+module _ {copy : List ℕ} {at : ℕ} {results chains : List ℕ} {left : ℕ} (before : List ℕ)
+    (h : TermAt copy at results chains left (length before)) (w : Word h) {g : ℕ} (same : g ≡ getD copy at 0) {m : ℕ} (mapped : m ≡ getD copy (at + 1) 0) where
   abbrev U : Vocabulary
   U = h .vocabulary
 
@@ -145,7 +145,7 @@ module _ {copy : List ℕ} {at words : ℕ} {results : List ℕ} {left : ℕ} (b
   map-is = mapped ∙ w .map
 
   abbrev own-bytes : List ℕ
-  own-bytes = othersBytes (take at copy) (othersIn words results g)
+  own-bytes = othersBytes (take at copy) (othersIn (length (U .words)) results g)
 
   abbrev place-bytes : List ℕ
   place-bytes = spotsBytes U (bitSpots U f m (h .front) (flags m) 0 [] ts)
@@ -156,12 +156,13 @@ module _ {copy : List ℕ} {at words : ℕ} {results : List ℕ} {left : ℕ} (b
   own-others : othersBytes (h .front) (others (signature U) f) ≡ own-bytes
   own-others =
       ap₂ othersBytes (sym front-is)
-      (others-tabled U words results (h .tabled) f (w .known) ∙ ap (othersIn words results) (sym same))
+      (others-tabled U (h .tables .inOrder) (length (U .words)) results refl (h .tables .tabled .result) f (w .known)
+      ∙ ap (othersIn (length (U .words)) results) (sym same))
 
   all-bytes : spotsBytes U (spots U (h .term) (h .front)) ≡ own-bytes ++ place-bytes
   all-bytes =
       ap (λ t. spotsBytes U (spots U t (h .front))) (w .same)
-      ∙ ap (spotsBytes U) (spots-by-bits U (h .inOrder) f (w .terms) (h .kind) sorted (h .front))
+      ∙ ap (spotsBytes U) (spots-by-bits U (h .tables .inOrder) f (w .terms) (h .kind) sorted (h .front))
       ∙ ap₂ (λ l m. l ++ spotsBytes U (bitSpots U f m (h .front) (flags m) 0 [] ts)) own-others (sym map-is)
 
   room-both : length own-bytes + length place-bytes ≤ length before
@@ -169,6 +170,19 @@ module _ {copy : List ℕ} {at words : ℕ} {results : List ℕ} {left : ℕ} (b
 
   pub own-room : length own-bytes ≤ length before
   own-room = omega (arith, room-both)
+
+  -- The other words are chained from their lowest on, and their entries have room.
+  abbrev pub own-others-at : {first : ℕ} → first ≡ getD chains (mostWords + kindIn results g) 0 → OthersAt copy at g first chains (length before)
+  own-others-at e = record {
+    words = length (U .words);
+    results = results;
+    few = h .tables .inOrder .fewWords;
+    chained = h .tables .chained;
+    starts = e ∙ h .tables .chained .first (kindIn results g) (omega arith);
+    inside = let i = w .inside in omega arith;
+    small = let i = w .inside in let s = h .size in omega arith;
+    fits = own-room;
+  }
 
   stands-here : copy ≡ h .front ++ (f ∷ (writeMap m ++ (encodeAll U ts ++ h .rest)))
   stands-here =
@@ -184,19 +198,18 @@ module _ {copy : List ℕ} {at words : ℕ} {results : List ℕ} {left : ℕ} (b
     pub own-inside : n ≤ length after
     own-inside = omega (arith, l .count, own-room, own-length)
 
-    pub word-places : PlacesAt copy at m words results left (length (part n after))
+    pub word-places : PlacesAt copy at m results chains left (length (part n after))
     word-places = record {
       vocabulary = U;
       front = h .front;
       top = f;
       terms = ts;
       rest = h .rest;
-      inOrder = h .inOrder;
-      tabled = h .tabled;
+      tables = h .tables;
       size = h .size;
       begins = h .begins;
       stands = stands-here;
-      due = subst (λ m. Stands U (flags m) ts) (sym map-is) (closed-stands U (h .inOrder) f (w .terms) (h .kind) sorted);
+      due = subst (λ m. Stands U (flags m) ts) (sym map-is) (closed-stands U (h .tables .inOrder) f (w .terms) (h .kind) sorted);
       deep = omega (arith, h .deep, ap levels (w .same), closed-levels (w .terms));
       fits = omega (arith, room-both, part-room l own-room);
     }

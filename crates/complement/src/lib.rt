@@ -2,16 +2,15 @@
 ghost use mathlib.Core.Path.{_≡_};
 ghost use mathlib.Core.List.{_∷_, _++_};
 ghost use Prim.Native.Nat.{_+_, _≤_, _<_, _%_, _^_, suc};
-ghost use lib.ListN.{length, take, drop};
+ghost use lib.ListN.{length, getD, take, drop};
 ghost use Rattle.wire.specs.Map.{mapBits, mapBytes, writeMap};
 ghost use Rattle.wire.specs.Leftovers.{ListPromise};
 ghost use Rattle.wire.specs.Effect.{HasEffect};
 ghost use Rattle.wire.specs.ListComputed.{listed};
-ghost use Rattle.wire.specs.EntryBytes.{othersBytes};
-ghost use Rattle.kinds.specs.Kinds.{Tallied, Chained};
+ghost use Rattle.kinds.specs.Kinds.{kindIn};
 ghost use Rattle.complement.specs.Answers.{listNumbers};
 ghost use Rattle.complement.specs.Calls.{Patterned, HasRoom, WritesEntries, ListsLinear, ListsPattern};
-ghost use Rattle.complement.specs.Entering.{Byte, Measures, othersIn, Written, TermAt, ListsTerm, PlacesAt, ListsPlaces};
+ghost use Rattle.complement.specs.Entering.{Byte, OthersAt, ListsOthers, TermAt, ListsTerm, PlacesAt, ListsPlaces};
 use reader::TermAnswer;
 use reader::TermRefusal;
 use repeats::Repeat;
@@ -52,29 +51,33 @@ fn write_entry(copy: &[u8], n: usize, word: u8, out: &mut [u8])
     out[n + 1] = 0;
 }
 
-// An entry for every other word of the result kind of f, each into the rest of the lent slice behind the one before it.
+// The lowest word of the result kind of f, by the tables.
+fn lowest(f: usize, results: &[u8; 96], chains: &[u8; 112]) -> usize
+    requires { ⌜ f < 96 ⌝ }
+    ensures { λ r. ⌜ Byte (getD (now (chains .entry)) (96 + kindIn (now (results .entry)) f) 0) r ⌝ }
+{
+    let kind = wide(results[f]) % 16;
+    wide(chains[96 + kind])
+}
+
+// An entry for every other word of the result kind of f, from its lowest word on, each into the rest of the lent slice behind
+// the one before it.
 fn write_others(
     copy: &[u8],
     at: usize,
     f: usize,
-    words: usize,
-    results: &[u8; 96],
-    chains: &[u8; 352],
+    first: usize,
+    chains: &[u8; 112],
     out: &mut [u8],
 ) -> usize
-    requires { ⌜ at ≤ length (now copy) ⌝ }
-    requires { ⌜ at ≤ 4096 ⌝ }
-    requires { ⌜ words ≤ 96 ⌝ }
-    requires { ⌜ f < words ⌝ }
-    requires { ⌜ Chained words (now results) (now chains) ⌝ }
-    requires { ⌜ length (othersBytes (take at (now copy)) (othersIn words (now results) f)) ≤ length (now out) ⌝ }
-    ensures { λ r. ⌜ Written (othersBytes (take at (now (copy .entry))) (othersIn words (now (results .entry)) f)) (now (out .entry)) r (now (out .exit)) ⌝ }
+    requires { ⌜ OthersAt (now copy) at f first (now chains) (length (now out)) ⌝ }
+    ensures { λ r. ⌜ ListsOthers (now (copy .entry)) at f first (now (chains .entry)) (now (out .entry)) r (now (out .exit)) ⌝ }
 {
     let mut n = 0;
-    let mut h = wide(chains[wide(results[f])]);
-    while h < words {
+    let mut h = first;
+    while h < 96 {
         let g = h;
-        h = wide(chains[256 + g]);
+        h = wide(chains[g]);
         if g != f {
             write_entry(copy, at, g as u8, &mut out[n..]);
             n = n + at + maps::NODE;
@@ -94,15 +97,13 @@ struct Progress {
 fn list_term(
     copy: &mut [u8],
     at: usize,
-    words: usize,
+    chains: &[u8; 112],
     results: &[u8; 96],
-    chains: &[u8; 352],
     left: usize,
     out: &mut [u8],
 ) -> Progress
-    requires { ⌜ Chained words (now results) (now chains) ⌝ }
-    requires { ⌜ TermAt (now copy) at words (now results) left (length (now out)) ⌝ }
-    ensures { λ r. ⌜ ListsTerm (now (copy .entry)) at words (now (results .entry)) left (now (out .entry)) (now (copy .exit)) (now (out .exit)) (r .at) (r .written) ⌝ }
+    requires { ⌜ TermAt (now copy) at (now results) (now chains) left (length (now out)) ⌝ }
+    ensures { λ r. ⌜ ListsTerm (now (copy .entry)) at (now (results .entry)) (now (chains .entry)) left (now (out .entry)) (now (copy .exit)) (now (out .exit)) (r .at) (r .written) ⌝ }
 {
     let first = copy[at];
     if 127 < first {
@@ -113,7 +114,8 @@ fn list_term(
         };
     }
     let map = maps::read(copy, at + 1);
-    let n = write_others(copy, at, wide(first), words, results, chains, out);
+    let f = wide(first);
+    let n = write_others(copy, at, f, lowest(f, results, chains), chains, out);
     if map == 0 {
         let end = at + maps::NODE;
         return Progress {
@@ -121,7 +123,7 @@ fn list_term(
             written: n,
         };
     }
-    let below = list_places(copy, at, map, words, results, chains, left, &mut out[n..]);
+    let below = list_places(copy, at, map, chains, results, left, &mut out[n..]);
     let end = below.at;
     let written = n + below.written;
     Progress { at: end, written }
@@ -133,15 +135,13 @@ fn list_places(
     copy: &mut [u8],
     at: usize,
     map: u8,
-    words: usize,
+    chains: &[u8; 112],
     results: &[u8; 96],
-    chains: &[u8; 352],
     left: usize,
     out: &mut [u8],
 ) -> Progress
-    requires { ⌜ Chained words (now results) (now chains) ⌝ }
-    requires { ⌜ PlacesAt (now copy) at map words (now results) left (length (now out)) ⌝ }
-    ensures { λ r. ⌜ ListsPlaces (now (copy .entry)) at map words (now (results .entry)) left (now (out .entry)) (now (copy .exit)) (now (out .exit)) (r .at) (r .written) ⌝ }
+    requires { ⌜ PlacesAt (now copy) at map (now results) (now chains) left (length (now out)) ⌝ }
+    ensures { λ r. ⌜ ListsPlaces (now (copy .entry)) at map (now (results .entry)) (now (chains .entry)) left (now (out .entry)) (now (copy .exit)) (now (out .exit)) (r .at) (r .written) ⌝ }
 {
     let mut n = 0;
     let mut next = at + maps::NODE;
@@ -154,7 +154,7 @@ fn list_places(
         bits = bits / 2;
         if bit == 1 {
             maps::write(kept(map, place), copy, at + 1);
-            let here = list_term(copy, next, words, results, chains, left - 1, &mut out[n..]);
+            let here = list_term(copy, next, chains, results, left - 1, &mut out[n..]);
             next = here.at;
             n = n + here.written;
         }
@@ -164,48 +164,6 @@ fn list_places(
         at: next,
         written: n,
     }
-}
-
-// How many other words have the result kind of f: all that the tally has of this kind but f.
-fn sibling_count(f: usize, words: usize, results: &[u8; 96], counts: &[u8; 256]) -> usize
-    requires { ⌜ words ≤ 96 ⌝ }
-    requires { ⌜ f < words ⌝ }
-    requires { ⌜ Tallied words (now results) (now counts) ⌝ }
-    ensures { λ r. ⌜ r ≡ length (othersIn words (now (results .entry)) f) ⌝ }
-{
-    let kind = wide(results[f]);
-    wide(counts[kind]) - 1
-}
-
-// The number of a listing's entries and of its bytes.
-struct Size {
-    entries: usize,
-    bytes: usize,
-}
-
-// Measures the listing in one pass over the pattern: each word has an entry for every other word of its kind, as long
-// as what stands before the word, the other word and a map.
-fn measure(p: &[u8], words: usize, results: &[u8; 96]) -> Size
-    requires { ⌜ words ≤ 96 ⌝ }
-    requires { ⌜ length (now p) ≤ 4096 ⌝ }
-    ensures { λ r. ⌜ Measures (now (p .entry)) words (now (results .entry)) (r .entries) (r .bytes) ⌝ }
-{
-    let counts = kinds::tally(words, results);
-    let mut entries = 0;
-    let mut bytes = 0;
-    let mut at = 1;
-    while at < p.len() {
-        let f = wide(p[at]);
-        if f < words {
-            let n = sibling_count(f, words, results, &counts);
-            entries += n;
-            bytes += n * (at + maps::NODE);
-            at += maps::NODE;
-        } else {
-            at += 1;
-        }
-    }
-    Size { entries, bytes }
 }
 
 // Lists a pattern by a copy of it, into a lent slice with room for the entries.
@@ -218,31 +176,38 @@ fn list_in(copy: &mut [u8], pattern: &[u8], words: usize, results: &[u8; 96], ou
 {
     let chains = kinds::chain(words, results);
     slices::copy(pattern, copy);
-    let _ = list_term(copy, 1, words, results, &chains, 32, out);
+    let _ = list_term(copy, 1, &chains, results, 32, out);
 }
 
-// The listing of a pattern that is accepted and in which no name stands twice. Most patterns are short, and a small
-// copy is sooner set up.
+// Lists a pattern into a lent slice with room for the entries. Most patterns are short, and a small copy is sooner set up.
+fn list_copied(pattern: &[u8], words: usize, results: &[u8; 96], out: &mut [u8])
+    requires { ⌜ Patterned (now pattern) words (now results) ⌝ }
+    requires { ⌜ HasRoom (now pattern) words (now results) (length (now out)) ⌝ }
+    ensures { λ _. ⌜ WritesEntries (now (pattern .entry)) words (now (results .entry)) (now (out .entry)) (now (out .exit)) ⌝ }
+{
+    if pattern.len() <= 128 {
+        let mut copy = [0u8; 128];
+        list_in(&mut copy, pattern, words, results, out);
+        return;
+    }
+    let mut copy = [0u8; 4096];
+    list_in(&mut copy, pattern, words, results, out);
+}
+
+// The listing of a pattern that is accepted and in which no name stands twice.
 fn list_linear(pattern: &[u8], words: usize, results: &[u8; 96], out: &mut [u8]) -> ListAnswer
     requires { ⌜ Patterned (now pattern) words (now results) ⌝ }
     ensures { λ r. ⌜ ListsLinear (now (pattern .entry)) words (now (results .entry)) (now (out .entry)) (now (out .exit)) (listNumbers r) ⌝ }
 {
-    let size = measure(pattern, words, results);
+    let size = sizes::measure(pattern, words, results);
     let entries = size.entries;
     let bytes = size.bytes;
     if out.len() < bytes {
         return ListAnswer::NoRoom(bytes);
     }
-    if bytes == 0 {
-        return ListAnswer::Listed(entries, bytes);
+    if bytes != 0 {
+        list_copied(pattern, words, results, out);
     }
-    if pattern.len() <= 128 {
-        let mut copy = [0u8; 128];
-        list_in(&mut copy, pattern, words, results, out);
-        return ListAnswer::Listed(entries, bytes);
-    }
-    let mut copy = [0u8; 4096];
-    list_in(&mut copy, pattern, words, results, out);
     ListAnswer::Listed(entries, bytes)
 }
 

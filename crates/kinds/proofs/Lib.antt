@@ -3,3 +3,5 @@ pub mod Ranges
 -- The loops that count and that chain.
 pub mod Tallying
 pub mod Chaining
+-- The others of a word's kind.
+pub mod Others

@@ -9,11 +9,12 @@ use lib.Seq.{getD-set-same, getD-set-other}
 use borrow.Author.Tests.{eqb-true, eqb-false}
 use Rattle.terms.specs.Lists.{range, keep}
 use Rattle.terms.proofs.Count.{bit, count, count-append, count-le, length-keep, length-range}
-use Rattle.kinds.specs.Kinds.{hasKind, Tallied}
+use Rattle.wire.specs.Vocabulary.{mostKinds}
+use Rattle.kinds.specs.Kinds.{kindIn, hasKind, Tallied}
 use Rattle.kinds.proofs.Ranges.{range-next}
 
-pub tallied-none : (results : List ℕ) → Tallied 0 results (replicate 256 0)
-tallied-none results = record { size = refl; each = λ k low. getD-replicate 256 k 0 0 low }
+pub tallied-none : (results : List ℕ) → Tallied 0 results (replicate mostKinds 0)
+tallied-none results = record { size = refl; each = λ k low. getD-replicate mostKinds k 0 0 low }
 
 module _ (results : List ℕ) (k : ℕ) where
   abbrev many : ℕ → ℕ
@@ -32,22 +33,22 @@ module _ (results : List ℕ) (k : ℕ) where
   many-few : (n : ℕ) → many n ≤ n
   many-few n = omega (arith, many-counted n, count-le (hasKind results k) (range 0 n), length-range 0 n)
 
-pub tallied-few : {results counts : List ℕ} {h : ℕ} → Tallied h results counts → (k : ℕ) → k < 256 → getD counts k 0 ≤ h
+pub tallied-few : {results counts : List ℕ} {h : ℕ} → Tallied h results counts → (k : ℕ) → k < mostKinds → getD counts k 0 ≤ h
 tallied-few {results} {counts} {h} t k low = omega (arith, t .each k low, many-few results k h)
 
-module _ {results counts : List ℕ} {h : ℕ} (t : Tallied h results counts) (k : ℕ) (same : k ≡ getD results h 0) (low : k < 256) where
+module _ {results counts : List ℕ} {h : ℕ} (t : Tallied h results counts) (k : ℕ) (same : k ≡ kindIn results h) (low : k < mostKinds) where
   abbrev next : List ℕ
   next = set counts k (getD counts k 0 + 1)
 
-  next-each : (j : ℕ) → j < 256 → (b : Bool) → hasKind results j h ≡ b → getD next j 0 ≡ many results j h + bit b
+  next-each : (j : ℕ) → j < mostKinds → (b : Bool) → hasKind results j h ≡ b → getD next j 0 ≡ many results j h + bit b
   next-each j small true e =
       let s = t .size in
-      let here : j ≡ k = sym (eqb-true (getD results h 0) j e) ∙ sym same in
+      let here : j ≡ k = sym (eqb-true (kindIn results h) j e) ∙ sym same in
       ap (λ i. getD next i 0) here ∙ getD-set-same counts k (getD counts k 0 + 1) 0 (omega arith)
       ∙ ap (λ i. getD counts i 0 + 1) (sym here)
       ∙ ap (λ n. n + 1) (t .each j small)
   next-each j small false e =
-      getD-set-other counts k j (getD counts k 0 + 1) 0 (λ z. eqb-false (getD results h 0) j e (sym same ∙ sym z)) ∙ t .each j small ∙ omega arith
+      getD-set-other counts k j (getD counts k 0 + 1) 0 (λ z. eqb-false (kindIn results h) j e (sym same ∙ sym z)) ∙ t .each j small ∙ omega arith
 
   pub tallied-turn : Tallied (h + 1) results next
   tallied-turn = record {

@@ -1,14 +1,14 @@
 // The words of each result kind, by a table of the words' result kinds: counted, and chained one to the next.
 ghost use mathlib.Core.Path.{_≡_};
-ghost use Prim.Native.Nat.{_<_, min};
-ghost use Rattle.wire.specs.Vocabulary.{mostWords};
+ghost use Prim.Native.Nat.{_<_, _%_, min};
+ghost use Rattle.wire.specs.Vocabulary.{mostKinds, mostWords};
 ghost use Rattle.kinds.specs.Kinds.{Tallied, Chained};
 
-fn wide(b: u8) -> usize
-    ensures { λ r. ⌜ r ≡ b ⌝ }
-    ensures { λ r. ⌜ r < 256 ⌝ }
+// The kind that an entry of the table says: a vocabulary has at most 16.
+fn kind(entry: u8) -> usize
+    ensures { λ r. ⌜ r ≡ entry % mostKinds ⌝ }
 {
-    b as usize
+    entry as usize % 16
 }
 
 // As many words as the table has room for.
@@ -22,33 +22,33 @@ fn tabled(words: usize) -> usize
 }
 
 // How many of the first words have each result kind.
-pub fn tally(words: usize, results: &[u8; 96]) -> [u8; 256]
+pub fn tally(words: usize, results: &[u8; 96]) -> [u8; 16]
     ensures { λ r. ⌜ Tallied (min words mostWords) (now (results .entry)) r ⌝ }
 {
     let n = tabled(words);
-    let mut counts = [0u8; 256];
+    let mut counts = [0u8; 16];
     let mut h = 0;
     while h < n {
-        let kind = wide(results[h]);
-        let many = counts[kind];
-        counts[kind] = many + 1;
+        let k = kind(results[h]);
+        let many = counts[k];
+        counts[k] = many + 1;
         h += 1;
     }
     counts
 }
 
-// Chains the first words, from the last to the first: for each result kind its lowest word, and from 256 on for each word
-// the next one of its kind; 255 where there is none.
-pub fn chain(words: usize, results: &[u8; 96]) -> [u8; 352]
+// Chains the first words, from the last to the first: for each word the next one of its result kind, and from 96 on for each
+// kind its lowest word; 255 where there is none.
+pub fn chain(words: usize, results: &[u8; 96]) -> [u8; 112]
     ensures { λ r. ⌜ Chained (min words mostWords) (now (results .entry)) r ⌝ }
 {
-    let mut chains = [255u8; 352];
+    let mut chains = [255u8; 112];
     let mut h = tabled(words);
     while 0 < h {
         h -= 1;
-        let kind = wide(results[h]);
-        chains[256 + h] = chains[kind];
-        chains[kind] = h as u8;
+        let k = kind(results[h]);
+        chains[h] = chains[96 + k];
+        chains[96 + k] = h as u8;
     }
     chains
 }

@@ -16,11 +16,13 @@ use mathlib.Core.List.{List}
 use Prim.Native.Nat.{ℕ, _+_, _-_, _*_, _<_, _≤_}
 use native.Mathlib.Omega.{arith}
 use denote.Ref.{now}
-use lib.ListN.{length, getD}
+use lib.ListN.{length, getD, take}
+use Rattle.wire.specs.EntryBytes.{othersBytes}
+use Rattle.kinds.specs.Kinds.{othersIn}
 use Rattle.maps.proofs.Reading.{map-at}
-use Rattle.complement.specs.Entering.{TermAt, TermListed, PlacesAt, PlacesListed}
+use Rattle.complement.specs.Entering.{Written, OthersAt, TermAt, TermListed, PlacesAt, PlacesListed}
 use Rattle.complement.proofs.Places.{Reached, reached-none, map-inside, out-length, done-inside, reached-all, is-bit, reached-clear, place-term, reached-term, both-inside}
-use Rattle.complement.proofs.Terms.{Word, term-begun, term-word, name-listed, own-room, own-length, own-inside, word-places, word-listed, word-bare}
+use Rattle.complement.proofs.Terms.{Word, term-begun, term-word, name-listed, own-others-at, own-length, own-inside, word-places, word-listed, word-bare}
 use Rattle.complement.proofs.Writing.{part, back, written-length}
 use Rattle.complement.proofs.list_places.Reads as list-places
 use Rattle.complement.proofs.list_places.Kinds as list-places-kinds
@@ -30,6 +32,7 @@ use Rattle.complement.proofs.list_term.Kinds as list-term-kinds
 use Rattle.complement.proofs.+list_places+list_term.Lts-list_term as list-term-lts
 use Rattle.complement.proofs.kept.Reads as kept-reads
 use Rattle.complement.proofs.wide.Reads as wide-reads
+use Rattle.complement.proofs.lowest.Reads as lowest-reads
 use Rattle.maps.proofs.read.Reads as read-reads
 use Rattle.maps.proofs.write.Reads as write-reads
 use Rattle.complement.proofs.write_others.Reads as write-others-reads
@@ -37,10 +40,10 @@ use Rattle.complement.proofs.+list_places+list_term.{statement}
 use Rattle.complement.proofs.+list_places+list_term.Tie.{close}
 
 abbrev μ-list-places : Measures 4 list-places-kinds.ps ℕ
-μ-list-places κs a = 2 * (a .1 .1 .1 .1 .1 .1 .0) - 1
+μ-list-places κs a = 2 * (a .1 .1 .1 .1 .1 .0) - 1
 
 abbrev μ-list-term : Measures 4 list-term-kinds.ps ℕ
-μ-list-term κs a = 2 * (a .1 .1 .1 .1 .1 .0)
+μ-list-term κs a = 2 * (a .1 .1 .1 .1 .0)
 
 abbrev list-places-at : ℕ → In 4 list-places-kinds.ps
 list-places-at t =
@@ -58,11 +61,11 @@ list-term-below t =
     and 4 list-term-kinds.ps (falls 4 list-term-kinds.ps _<_ μ-list-term t) list-term.Pre
 
 abbrev list-places-Inv-loop : list-places-lts.InvT-loop
-list-places-Inv-loop copy₀ at map words results chains left out₀ n₀ next₀ b₀ bits₀ copy out n next b bits =
-    (h : PlacesAt copy₀ at map words results left (length out₀)) → Reached out₀ h b next n bits copy out
+list-places-Inv-loop copy₀ at map chains results left out₀ n₀ next₀ b₀ bits₀ copy out n next b bits =
+    (h : PlacesAt copy₀ at map results chains left (length out₀)) → Reached out₀ h b next n bits copy out
 
 abbrev list-places-μ-loop : list-places-lts.MeasureT-loop
-list-places-μ-loop copy₀ at map words results chains left out₀ n₀ next₀ b₀ bits₀ copy out n next b bits = bits
+list-places-μ-loop copy₀ at map chains results left out₀ n₀ next₀ b₀ bits₀ copy out n next b bits = bits
 
 abbrev places-claims : ℕ → list-places-lts.Claims
 places-claims t = (
@@ -82,6 +85,8 @@ term-claims t = (
   read-reads.Learnt,
   wide-reads.Asked,
   wide-reads.Learnt,
+  lowest-reads.Asked,
+  lowest-reads.Learnt,
   write-others-reads.Asked,
   write-others-reads.Learnt,
   list-places-below t,
@@ -107,11 +112,11 @@ module _ (t : ℕ) (c : InPlaces list-places-lts.At-loop t) where
   -- A word stands in the copy, with the terms of its written bits.
   abbrev Places : Type 0
   Places =
-      PlacesAt (now (start .args .copy)) (start .args .at) (start .args .map) (start .args .words) (now (start .args .results)) (start .args .left)
+      PlacesAt (now (start .args .copy)) (start .args .at) (start .args .map) (now (start .args .results)) (now (start .args .chains)) (start .args .left)
       (length before)
 
   abbrev places : Places
-  places = start .pre .1 .1
+  places = start .pre .1
 
   small : start .args .map < 256
   small = omega arith
@@ -120,7 +125,7 @@ module _ (t : ℕ) (c : InPlaces list-places-lts.At-loop t) where
   reached h = c .loop .inv h
 
 list-places-add-next : (t : ℕ) → InPlaces list-places-lts.Need-add-next t
-list-places-add-next t c = let z = map-inside (c .before .before .pre .1 .1) in search needs
+list-places-add-next t c = let z = map-inside (c .before .before .pre .1) in search needs
 
 list-places-wide-requires : (t : ℕ) → InPlaces list-places-lts.Need-wide-requires t
 list-places-wide-requires t c κs = search needs
@@ -154,8 +159,8 @@ module _ (t : ℕ) (c : InPlaces list-places-lts.After-write t) where
   -- The bit's term stands in the copy.
   abbrev BitTerm : Type 0
   BitTerm =
-      TermAt (c .write .last .1 .0) (at-bit .loop .next) (start t at-bit .args .words)
-      (now (start t at-bit .args .results)) (start t at-bit .args .left - 1) (length (part (at-bit .loop .n) (at-bit .loop .out)))
+      TermAt (c .write .last .1 .0) (at-bit .loop .next) (now (start t at-bit .args .results))
+      (now (start t at-bit .args .chains)) (start t at-bit .args .left - 1) (length (part (at-bit .loop .n) (at-bit .loop .out)))
 
   abbrev bit-term : (h : Places t at-bit) → BitTerm
   bit-term h =
@@ -182,7 +187,7 @@ list-places-list-term-requires t c κs =
     let at-write = c .before .before .before .before in
     let at-loop = at-bit t at-write in
     let begun = start t at-loop in
-    (omega (arith, begun .pre .0, places t at-loop .deep), (begun .pre .1 .0, bit-term t at-write (places t at-loop)))
+    (omega (arith, begun .pre .0, places t at-loop .deep), bit-term t at-write (places t at-loop))
 
 list-places-add-n : (t : ℕ) → InPlaces list-places-lts.Need-add-n t
 list-places-add-n t c =
@@ -192,7 +197,7 @@ list-places-add-n t c =
     let at-loop = at-bit t at-write in
     let h = places t at-loop in
     let z = both-inside _ h (reached t at-loop h) (small t at-loop) (kept .before .before .loop-test .taken) (kept .before .if1 .taken) (kept .kept .ensures) (at-write .write .ensures) (at-term .list-term .ensures (bit-term t at-write h)) in
-    record { fits = omega (arith, z, start t at-loop .good .1 .1 .1 .1 .1 .1 .1 .0 .0) }
+    record { fits = omega (arith, z, start t at-loop .good .1 .1 .1 .1 .1 .1 .0 .0) }
 
 list-places-loop-less : (t : ℕ) → InPlaces list-places-lts.Need-loop-less t
 list-places-loop-less t c = search needs
@@ -244,16 +249,16 @@ list-places-returns t c = λ h. all-places t (c .before .before) h
 -- ---- list_term, at a term
 
 list-term-slice-read-first : (t : ℕ) → InTerm list-term-lts.Need-slice-read-first t
-list-term-slice-read-first t c = let z = term-begun (c .before .before .before .pre .1 .1) .inside in search needs
+list-term-slice-read-first t c = let z = term-begun (c .before .before .before .pre .1) .inside in search needs
 
 list-term-add-end : (t : ℕ) → InTerm list-term-lts.Need-add-end t
-list-term-add-end t c = let z = term-begun (c .before .before .before .before .pre .1 .1) .inside in search needs
+list-term-add-end t c = let z = term-begun (c .before .before .before .before .pre .1) .inside in search needs
 
 list-term-returns : (t : ℕ) → InTerm list-term-lts.Need-returns t
 list-term-returns t c = λ h. name-listed h (c .if1 .taken) _
 
 list-term-add-read : (t : ℕ) → InTerm list-term-lts.Need-add-read t
-list-term-add-read t c = let z = term-word (c .before .before .before .before .before .pre .1 .1) (c .before .if1 .left) .inside in search needs
+list-term-add-read t c = let z = term-word (c .before .before .before .before .before .pre .1) (c .before .if1 .left) .inside in search needs
 
 list-term-read-requires : (t : ℕ) → InTerm list-term-lts.Need-read-requires t
 list-term-read-requires t c κs = search needs
@@ -265,7 +270,7 @@ list-term-wide-requires t c κs = search needs
 
 module _ (t : ℕ) (c : InTerm list-term-lts.After-wide t) where
   abbrev word-start : InTerm list-term-lts.Start t
-  word-start = c .before .before .before .before .before .before .before .before
+  word-start = c .before .before .before .before .before .before .before
 
   abbrev room : List ℕ
   room = now (word-start .args .out)
@@ -273,55 +278,69 @@ module _ (t : ℕ) (c : InTerm list-term-lts.After-wide t) where
   -- A term stands in the copy.
   abbrev Standing : Type 0
   Standing =
-      TermAt (now (word-start .args .copy)) (word-start .args .at) (word-start .args .words) (now (word-start .args .results)) (word-start .args .left)
+      TermAt (now (word-start .args .copy)) (word-start .args .at) (now (word-start .args .results)) (now (word-start .args .chains)) (word-start .args .left)
       (length room)
 
   abbrev standing : Standing
-  standing = word-start .pre .1 .1
+  standing = word-start .pre .1
 
   -- It is a word.
   abbrev word : (h : Standing) → Word h
-  word h = term-word h (c .before .before .before .before .if1 .left)
+  word h = term-word h (c .before .before .before .if1 .left)
 
   abbrev byte : c .wide .result ≡ getD (now (word-start .args .copy)) (word-start .args .at) 0
   byte = c .wide .ensures .same
 
   -- Its map is read.
   abbrev map : ℕ
-  map = c .before .before .read .result
+  map = c .before .read .result
 
   mapped : map ≡ getD (now (word-start .args .copy)) (word-start .args .at + 1) 0
-  mapped = c .before .before .read .ensures ∙ sym (map-at (now (word-start .args .copy)) (word-start .args .at + 1))
+  mapped = c .before .read .ensures ∙ sym (map-at (now (word-start .args .copy)) (word-start .args .at + 1))
+
+list-term-lowest-requires : (t : ℕ) → InTerm list-term-lts.Need-lowest-requires t
+list-term-lowest-requires t c κs =
+    let at-wide = c .before in
+    let h = standing t at-wide in
+    omega (arith, word t at-wide h .known, byte t at-wide, h .tables .inOrder .fewWords)
+
+module _ (t : ℕ) (c : InTerm list-term-lts.After-lowest t) where
+  abbrev at-byte : InTerm list-term-lts.After-wide t
+  at-byte = c .before .before
+
+  -- The other words of its kind, and room for their entries.
+  abbrev others-of : (h : Standing t at-byte) → OthersAt (now (word-start t at-byte .args .copy)) (word-start t at-byte .args .at) (at-byte .wide .result)
+      (c .lowest .result) (now (word-start t at-byte .args .chains)) (length (room t at-byte))
+  others-of h = own-others-at (room t at-byte) h (word t at-byte h) (byte t at-byte) (mapped t at-byte) (c .lowest .ensures .same)
 
 list-term-write-others-requires : (t : ℕ) → InTerm list-term-lts.Need-write-others-requires t
-list-term-write-others-requires t c κs =
-    let at-wide = c .before in
-    let begun = word-start t at-wide in
-    let h = standing t at-wide in
-    let w = word t at-wide h in
-    let z = term-begun h in
-    (omega (arith, z .inside), (omega (arith, z .inside, h .size), (z .few, (omega (arith, w .known, byte t at-wide), (begun .pre .1 .0, own-room (room t at-wide) h w (byte t at-wide) (mapped t at-wide))))))
+list-term-write-others-requires t c κs = others-of t (c .before) (standing t (at-byte t (c .before)))
 
 -- Its own entries are written.
 module _ (t : ℕ) (c : InTerm list-term-lts.After-write-others t) where
   abbrev at-word : InTerm list-term-lts.After-wide t
-  at-word = c .before .before
+  at-word = at-byte t (c .before .before)
 
   abbrev own-after : List ℕ
-  own-after = c .write-others .last .1 .1 .1 .1 .1 .1 .0
+  own-after = c .write-others .last .1 .1 .1 .1 .1 .0
 
   -- The terms of its bits stand in the copy, and have room in the part that is left.
   abbrev WordTerms : Type 0
   WordTerms =
       PlacesAt (now (word-start t at-word .args .copy)) (word-start t at-word .args .at)
-      (map t at-word) (word-start t at-word .args .words)
-      (now (word-start t at-word .args .results)) (word-start t at-word .args .left) (length (part (c .write-others .result) own-after))
+      (map t at-word) (now (word-start t at-word .args .results))
+      (now (word-start t at-word .args .chains)) (word-start t at-word .args .left) (length (part (c .write-others .result) own-after))
+
+  abbrev own-written : (h : Standing t at-word) →
+      Written (othersBytes (take (word-start t at-word .args .at) (now (word-start t at-word .args .copy))) (othersIn (length (h .vocabulary .words)) (now (word-start t at-word .args .results)) (at-word .wide .result)))
+      (room t at-word) (c .write-others .result) own-after
+  own-written h = c .write-others .ensures (others-of t (c .before .before) h)
 
   abbrev word-terms : (h : Standing t at-word) → WordTerms
-  word-terms h = word-places (room t at-word) h (word t at-word h) (byte t at-word) (mapped t at-word) (c .write-others .ensures)
+  word-terms h = word-places (room t at-word) h (word t at-word h) (byte t at-word) (mapped t at-word) (own-written h)
 
   own-entries-inside : c .write-others .result ≤ length own-after
-  own-entries-inside = own-inside (room t at-word) (standing t at-word) (word t at-word (standing t at-word)) (byte t at-word) (mapped t at-word) (c .write-others .ensures)
+  own-entries-inside = own-inside (room t at-word) (standing t at-word) (word t at-word (standing t at-word)) (byte t at-word) (mapped t at-word) (own-written (standing t at-word))
 
 list-term-add-end-2 : (t : ℕ) → InTerm list-term-lts.Need-add-end-2 t
 list-term-add-end-2 t c =
@@ -336,12 +355,12 @@ list-term-same-length-2 : (t : ℕ) → InTerm list-term-lts.Need-same-length-2 
 list-term-same-length-2 t c =
     let own = c .before .before .before in
     let h = standing t (at-word t own) in
-    own-length (room t (at-word t own)) h (word t (at-word t own) h) (byte t (at-word t own)) (mapped t (at-word t own)) (own .write-others .ensures)
+    own-length (room t (at-word t own)) h (word t (at-word t own) h) (byte t (at-word t own)) (mapped t (at-word t own)) (own-written t own h)
 
 list-term-returns-2 : (t : ℕ) → InTerm list-term-lts.Need-returns-2 t
 list-term-returns-2 t c =
     let own = c .before .before .before in
-    λ h. word-bare (room t (at-word t own)) h (word t (at-word t own) h) (byte t (at-word t own)) (mapped t (at-word t own)) (own .write-others .ensures) (c .if2 .taken)
+    λ h. word-bare (room t (at-word t own)) h (word t (at-word t own) h) (byte t (at-word t own)) (mapped t (at-word t own)) (own-written t own h) (c .if2 .taken)
 
 list-term-sub-list-places : (t : ℕ) → InTerm list-term-lts.Need-sub-list-places t
 list-term-sub-list-places t c = own-entries-inside t (c .before .before .before .before)
@@ -357,7 +376,7 @@ list-term-list-places-requires t c κs =
     let own = c .before .before .before .before .before in
     let begun = word-start t (at-word t own) in
     let p = word-terms t own (standing t (at-word t own)) in
-    (omega (arith, begun .pre .0, p .deep), (begun .pre .1 .0, p))
+    (omega (arith, begun .pre .0, p .deep), p)
 
 -- ---- list_term, at a word whose terms are listed
 
@@ -368,10 +387,10 @@ module _ (t : ℕ) (c : InTerm list-term-lts.After-list-places t) where
   -- The whole word is listed.
   abbrev all-listed : (h : Standing t (at-word t own-done)) →
       TermListed h (c .list-places .last .0) (room t (at-word t own-done))
-      (back (own-done .write-others .result) (own-after t own-done) (c .list-places .last .1 .1 .1 .1 .1 .1 .1 .0))
+      (back (own-done .write-others .result) (own-after t own-done) (c .list-places .last .1 .1 .1 .1 .1 .1 .0))
       (c .list-places .result .at) (own-done .write-others .result + c .list-places .result .written)
   all-listed h =
-      word-listed (room t (at-word t own-done)) h (word t (at-word t own-done) h) (byte t (at-word t own-done)) (mapped t (at-word t own-done)) (own-done .write-others .ensures)
+      word-listed (room t (at-word t own-done)) h (word t (at-word t own-done) h) (byte t (at-word t own-done)) (mapped t (at-word t own-done)) (own-written t own-done h)
       (c .list-places .ensures (word-terms t own-done h))
 
 list-term-add-written : (t : ℕ) → InTerm list-term-lts.Need-add-written t
@@ -379,7 +398,7 @@ list-term-add-written t c =
     let at-places = c .before .before .before .before .before in
     let at-own = at-word t (own-done t at-places) in
     let h = standing t at-own in
-    record { fits = omega (arith, h .fits, all-listed t at-places h .written .count, word-start t at-own .good .1 .1 .1 .1 .1 .1 .0 .0) }
+    record { fits = omega (arith, h .fits, all-listed t at-places h .written .count, word-start t at-own .good .1 .1 .1 .1 .1 .0 .0) }
 
 list-term-same-length-3 : (t : ℕ) → InTerm list-term-lts.Need-same-length-3 t
 list-term-same-length-3 t c =
@@ -428,6 +447,7 @@ pub +list-places+list-term-spec : {M : Type 1} → statement M
     (list-term-add-read t)
     (list-term-read-requires t)
     (list-term-wide-requires t)
+    (list-term-lowest-requires t)
     (list-term-write-others-requires t)
     (list-term-add-end-2 t)
     (list-term-same-length t)

@@ -1,12 +1,10 @@
 -- `complement::list_in` meets its contract.
 use borrow.Author.Needs.{needs}
-use mathlib.Core.Path.{_∙_, subst}
-use native.Mathlib.Nat.{min-eq-left}
+use mathlib.Core.Path.{_∙_}
 use native.Mathlib.Omega.{arith}
 use denote.Ref.{now}
 use Rattle.slices.proofs.Copying.{copied-whole}
-use Rattle.kinds.specs.Kinds.{Chained}
-use Rattle.complement.proofs.Linear.{few-words, root-term, root-listed}
+use Rattle.complement.proofs.Linear.{root-term, root-listed}
 use Rattle.complement.proofs.list_in.Statement.{statement}
 use Rattle.complement.proofs.list_in.Tie as tie
 
@@ -21,10 +19,8 @@ list-term-requires c κs =
     let at-copy = c .before .before .before .before .before in
     let at-chain = at-copy .before .before in
     let start = at-chain .before .before .before .before in
-    let h = start .pre .1 .1 .0 in (
-      subst (λ n. Chained n (now (start .args .results)) (at-chain .chain .result)) (min-eq-left (few-words h)) (at-chain .chain .ensures),
-      root-term h (now (start .args .copy)) (at-copy .copy .ensures ∙ copied-whole (now (start .args .pattern)) (now (start .args .copy)) (omega arith)) (omega arith) (now (start .args .out)) (start .pre .1 .1 .1 h),
-    )
+    let h = start .pre .1 .1 .0 in
+    root-term h (at-chain .chain .ensures) (now (start .args .copy)) (at-copy .copy .ensures ∙ copied-whole (now (start .args .pattern)) (now (start .args .copy)) (omega arith)) (omega arith) (now (start .args .out)) (start .pre .1 .1 .1 h)
 
 same-length : tie.Need-same-length
 same-length c = search needs
@@ -36,12 +32,13 @@ returns : tie.Need-returns
 returns c =
     let at-list = c .before .before .before .before in
     let at-copy = at-list .before .before .before .before .before .before in
-    let start = at-copy .before .before .before .before .before .before in
+    let at-chain = at-copy .before .before in
+    let start = at-chain .before .before .before .before in
     λ h.
     let copied = at-copy .copy .ensures ∙ copied-whole (now (start .args .pattern)) (now (start .args .copy)) (omega arith) in
     let room = start .pre .1 .1 .1 h in
-    root-listed h (now (start .args .copy)) copied (omega arith) (now (start .args .out)) room
-    (at-list .list-term .ensures (root-term h (now (start .args .copy)) copied (omega arith) (now (start .args .out)) room))
+    root-listed h (at-chain .chain .ensures) (now (start .args .copy)) copied (omega arith) (now (start .args .out)) room
+    (at-list .list-term .ensures (root-term h (at-chain .chain .ensures) (now (start .args .copy)) copied (omega arith) (now (start .args .out)) room))
 
 pub list-in-spec : {M : Type 1} → statement M
 list-in-spec =

@@ -3,17 +3,22 @@ use borrow.Author.Needs.{needs}
 use Prim.Native.Nat.{_-_}
 use native.Mathlib.Omega.{arith}
 use denote.Ref.{now}
-use lib.ListN.{take}
+use lib.ListN.{length, take}
 use lib.Seq.{length-take-le}
-use Rattle.complement.proofs.Following.{Followed, followed-none, followed-less, followed-room, followed-taken, followed-left, followed-all}
+use Rattle.complement.specs.Entering.{OthersAt}
+use Rattle.complement.proofs.Following.{Followed, followed-none, followed-inside, followed-less, followed-room, followed-taken, followed-left, followed-all}
 use Rattle.complement.proofs.write_others.Statement.{statement}
 use Rattle.complement.proofs.write_others.Tie as tie
 
 abbrev Inv-loop : tie.InvT-loop
-Inv-loop copy at f words results chains out₀ n₀ h₀ out n h = Followed (take at copy) words results chains f out₀ h n out
+Inv-loop copy at f first chains out₀ n₀ h₀ out n h =
+    (o : OthersAt copy at f first chains (length out₀)) → Followed (take at copy) (o .words) (o .results) chains f out₀ h n out
 
 abbrev μ-loop : tie.MeasureT-loop
-μ-loop copy at f words results chains out₀ n₀ h₀ out n h = words - h
+μ-loop copy at f first chains out₀ n₀ h₀ out n h = 96 - h
+
+loop-holds : tie.Need-loop-holds Inv-loop μ-loop
+loop-holds c = λ o. followed-none (o .few) (o .chained) (o .fits) (o .starts)
 
 element-copy-out-wide : tie.Need-element-copy-out-wide Inv-loop μ-loop
 element-copy-out-wide c = search needs
@@ -21,35 +26,20 @@ element-copy-out-wide c = search needs
 wide-requires : tie.Need-wide-requires Inv-loop μ-loop
 wide-requires c κs = search needs
 
-element-copy-out-wide-2 : tie.Need-element-copy-out-wide-2 Inv-loop μ-loop
-element-copy-out-wide-2 c = search needs
-
-wide-requires-2 : tie.Need-wide-requires-2 Inv-loop μ-loop
-wide-requires-2 c κs = search needs
-
-loop-holds : tie.Need-loop-holds Inv-loop μ-loop
-loop-holds c =
-    let at-wide = c .before .before in
-    let start = at-wide .before .before .before .before in
-    followed-none (start .pre .1 .1 .0) (start .pre .1 .1 .1 .1 .0) (start .pre .1 .1 .1 .1 .1) _ _ (at-wide .wide .ensures .same) (at-wide .wide .ensures .small) (c .wide2 .ensures .same)
-
-add-wide : tie.Need-add-wide Inv-loop μ-loop
-add-wide c = search needs
-
-element-copy-out-wide-3 : tie.Need-element-copy-out-wide-3 Inv-loop μ-loop
-element-copy-out-wide-3 c = search needs
-
-wide-requires-3 : tie.Need-wide-requires-3 Inv-loop μ-loop
-wide-requires-3 c κs = search needs
-
 cast-write-entry : tie.Need-cast-write-entry Inv-loop μ-loop
 cast-write-entry c = search needs
 
 sub-write-entry : tie.Need-sub-write-entry Inv-loop μ-loop
-sub-write-entry c = search needs
+sub-write-entry c =
+    let at-loop = c .before .before .before .before in
+    let followed = at-loop .loop .inv (at-loop .before .before .before .pre) in
+    omega (arith, followed .inside, followed .size)
 
 part-write-entry-start : tie.Need-part-write-entry-start Inv-loop μ-loop
-part-write-entry-start c = search needs
+part-write-entry-start c =
+    let at-loop = c .before .before .before .before in
+    let followed = at-loop .loop .inv (at-loop .before .before .before .pre) in
+    omega (arith, followed .inside, followed .size)
 
 part-write-entry-end : tie.Need-part-write-entry-end Inv-loop μ-loop
 part-write-entry-end c = search needs
@@ -59,51 +49,70 @@ write-entry-requires c κs =
     let at-if1 = c .before in
     let at-loop-test = at-if1 .before .before .before in
     let at-loop = at-loop-test .before in
-    let start = at-loop .before .before .before .before .before .before .before in
-    (start .pre .0, followed-room (at-loop .loop .inv) (at-loop-test .loop-test .taken) (at-if1 .if1 .taken) (length-take-le (start .args .at) (now (start .args .copy)) (omega arith)))
+    let start = at-loop .before .before .before in
+    let o = start .pre in
+    let followed = at-loop .loop .inv o in
+    (o .inside, followed-room followed (followed-inside followed (at-loop-test .loop-test .taken)) (at-if1 .if1 .taken) (length-take-le (start .args .at) (now (start .args .copy)) (o .inside)))
 
 add-n : tie.Need-add-n Inv-loop μ-loop
-add-n c = search needs
+add-n c =
+    let at-loop = c .before .before .before .before .before .before .before .before in
+    let o = at-loop .before .before .before .pre in
+    let inside = at-loop .loop .inv o .inside in
+    let small = o .small in
+    search needs
 
 add-n-2 : tie.Need-add-n-2 Inv-loop μ-loop
-add-n-2 c = search needs
+add-n-2 c =
+    let at-loop = c .before .before .before .before .before .before .before .before in
+    let o = at-loop .before .before .before .pre in
+    let inside = at-loop .loop .inv o .inside in
+    let small = o .small in
+    search needs
 
 loop-less : tie.Need-loop-less Inv-loop μ-loop
 loop-less c =
-    let at-wide3 = c .before .before .before .before .before in
-    let at-loop-test = at-wide3 .before .before in
+    let at-wide = c .before .before .before .before .before in
+    let at-loop-test = at-wide .before .before in
     let at-loop = at-loop-test .before in
-    let z = followed-less (at-loop .loop .inv) (at-loop-test .loop-test .taken) _ (at-wide3 .wide3 .ensures .same) in omega arith
+    let followed = at-loop .loop .inv (at-loop .before .before .before .pre) in
+    let z = followed-less followed (followed-inside followed (at-loop-test .loop-test .taken)) _ (at-wide .wide .ensures .same) in omega arith
 
 loop-again : tie.Need-loop-again Inv-loop μ-loop
 loop-again c =
     let at-write-entry = c .before .before in
     let at-if1 = at-write-entry .before .before in
-    let at-wide3 = at-if1 .before in
-    let at-loop-test = at-wide3 .before .before in
+    let at-wide = at-if1 .before in
+    let at-loop-test = at-wide .before .before in
     let at-loop = at-loop-test .before in
-    let start = at-loop .before .before .before .before .before .before .before in
-    followed-taken (at-loop .loop .inv) (at-loop-test .loop-test .taken) _ (at-wide3 .wide3 .ensures .same) (at-if1 .if1 .taken) (length-take-le (start .args .at) (now (start .args .copy)) (omega arith)) (at-write-entry .write-entry .ensures)
+    let start = at-loop .before .before .before in
+    λ o.
+    let followed = at-loop .loop .inv o in
+    followed-taken followed (followed-inside followed (at-loop-test .loop-test .taken)) _ (at-wide .wide .ensures .same) (at-if1 .if1 .taken) (length-take-le (start .args .at) (now (start .args .copy)) (o .inside)) (at-write-entry .write-entry .ensures)
 
 loop-less-2 : tie.Need-loop-less-2 Inv-loop μ-loop
 loop-less-2 c =
-    let at-wide3 = c .before in
-    let at-loop-test = at-wide3 .before .before in
+    let at-wide = c .before in
+    let at-loop-test = at-wide .before .before in
     let at-loop = at-loop-test .before in
-    let z = followed-less (at-loop .loop .inv) (at-loop-test .loop-test .taken) _ (at-wide3 .wide3 .ensures .same) in omega arith
+    let followed = at-loop .loop .inv (at-loop .before .before .before .pre) in
+    let z = followed-less followed (followed-inside followed (at-loop-test .loop-test .taken)) _ (at-wide .wide .ensures .same) in omega arith
 
 loop-again-2 : tie.Need-loop-again-2 Inv-loop μ-loop
 loop-again-2 c =
-    let at-wide3 = c .before in
-    let at-loop-test = at-wide3 .before .before in
-    let at-loop = at-loop-test .before in
-    followed-left (at-loop .loop .inv) (at-loop-test .loop-test .taken) _ (at-wide3 .wide3 .ensures .same) (c .if1 .left)
+    let at-wide = c .before in
+    let at-loop-test = at-wide .before .before in
+    λ o.
+    let followed = at-loop-test .before .loop .inv o in
+    followed-left followed (followed-inside followed (at-loop-test .loop-test .taken)) _ (at-wide .wide .ensures .same) (c .if1 .left)
 
 same-length : tie.Need-same-length Inv-loop μ-loop
-same-length c = search needs
+same-length c =
+    let at-loop = c .before in
+    at-loop .loop .inv (at-loop .before .before .before .pre) .size
 
 returns : tie.Need-returns Inv-loop μ-loop
-returns c = followed-all (c .before .loop .inv) (c .loop-test .left)
+returns c = λ o. followed-all (c .before .loop .inv o) (c .loop-test .left)
 
 pub write-others-spec : {M : Type 1} → statement M
 write-others-spec =
@@ -111,14 +120,9 @@ write-others-spec =
     (tie.spec
     Inv-loop
     μ-loop
+    loop-holds
     element-copy-out-wide
     wide-requires
-    element-copy-out-wide-2
-    wide-requires-2
-    loop-holds
-    add-wide
-    element-copy-out-wide-3
-    wide-requires-3
     cast-write-entry
     sub-write-entry
     part-write-entry-start

@@ -22,23 +22,26 @@ loop-holds c = chained-none (c .tabled .ensures)
 sub-h : tie.Need-sub-h Inv-loop μ-loop
 sub-h c = search needs
 
-element-copy-out-wide : tie.Need-element-copy-out-wide Inv-loop μ-loop
-element-copy-out-wide c = let b = c .before .loop .inv .below in search needs
+element-copy-out-kind : tie.Need-element-copy-out-kind Inv-loop μ-loop
+element-copy-out-kind c = let b = c .before .loop .inv .below in search needs
 
-wide-requires : tie.Need-wide-requires Inv-loop μ-loop
-wide-requires c κs = search needs
+kind-requires : tie.Need-kind-requires Inv-loop μ-loop
+kind-requires c κs = search needs
+
+add-chains : tie.Need-add-chains Inv-loop μ-loop
+add-chains c = search needs
 
 array-read-chains : tie.Need-array-read-chains Inv-loop μ-loop
 array-read-chains c = search needs
-
-add-chains : tie.Need-add-chains Inv-loop μ-loop
-add-chains c = let b = c .before .before .before .loop .inv .below in search needs
 
 array-write-chains : tie.Need-array-write-chains Inv-loop μ-loop
 array-write-chains c = let b = c .before .before .before .loop .inv .below in search needs
 
 cast-chains : tie.Need-cast-chains Inv-loop μ-loop
 cast-chains c = let b = c .before .before .before .loop .inv .below in search needs
+
+add-chains-2 : tie.Need-add-chains-2 Inv-loop μ-loop
+add-chains-2 c = search needs
 
 array-write-chains-2 : tie.Need-array-write-chains-2 Inv-loop μ-loop
 array-write-chains-2 c = search needs
@@ -50,7 +53,7 @@ loop-again : tie.Need-loop-again Inv-loop μ-loop
 loop-again c =
     let at-loop-test = c .before .before in
     let some = at-loop-test .loop-test .taken in
-    chained-turn (at-loop-test .before .loop .inv) (omega arith) (omega arith) _ (c .wide .ensures .0) (c .wide .ensures .1)
+    chained-turn (at-loop-test .before .loop .inv) (omega arith) (omega arith) _ (c .kind .ensures) (let e = c .kind .ensures in omega arith)
 
 returns : tie.Need-returns Inv-loop μ-loop
 returns c = chained-all (c .before .loop .inv) (c .loop-test .left)
@@ -64,12 +67,13 @@ chain-spec =
     tabled-requires
     loop-holds
     sub-h
-    element-copy-out-wide
-    wide-requires
-    array-read-chains
+    element-copy-out-kind
+    kind-requires
     add-chains
+    array-read-chains
     array-write-chains
     cast-chains
+    add-chains-2
     array-write-chains-2
     loop-less
     loop-again

@@ -21,11 +21,11 @@ tabled-requires c κs = search needs
 loop-holds : tie.Need-loop-holds Inv-loop μ-loop
 loop-holds c = (tallied-none _, omega arith)
 
-element-copy-out-wide : tie.Need-element-copy-out-wide Inv-loop μ-loop
-element-copy-out-wide c = search needs
+element-copy-out-kind : tie.Need-element-copy-out-kind Inv-loop μ-loop
+element-copy-out-kind c = search needs
 
-wide-requires : tie.Need-wide-requires Inv-loop μ-loop
-wide-requires c κs = search needs
+kind-requires : tie.Need-kind-requires Inv-loop μ-loop
+kind-requires c κs = search needs
 
 array-read-many : tie.Need-array-read-many Inv-loop μ-loop
 array-read-many c = search needs
@@ -33,7 +33,7 @@ array-read-many c = search needs
 add-counts : tie.Need-add-counts Inv-loop μ-loop
 add-counts c =
     let at-loop = c .before .before .before in
-    let few = tallied-few (at-loop .loop .inv .0) (c .wide .result) (c .wide .ensures .1) in
+    let few = tallied-few (at-loop .loop .inv .0) (c .kind .result) (let e = c .kind .ensures in omega arith) in
     record { fits = omega (arith, few, at-loop .loop .inv .1, at-loop .before .tabled .ensures) }
 
 array-write-counts : tie.Need-array-write-counts Inv-loop μ-loop
@@ -48,7 +48,7 @@ loop-less c = search needs
 loop-again : tie.Need-loop-again Inv-loop μ-loop
 loop-again c =
     let at-loop = c .before .before .before in
-    (tallied-turn (at-loop .loop .inv .0) _ (c .wide .ensures .0) (c .wide .ensures .1), omega arith)
+    (tallied-turn (at-loop .loop .inv .0) _ (c .kind .ensures) (let e = c .kind .ensures in omega arith), omega arith)
 
 returns : tie.Need-returns Inv-loop μ-loop
 returns c =
@@ -64,8 +64,8 @@ tally-spec =
     μ-loop
     tabled-requires
     loop-holds
-    element-copy-out-wide
-    wide-requires
+    element-copy-out-kind
+    kind-requires
     array-read-many
     add-counts
     array-write-counts

@@ -1,4 +1,4 @@
--- `complement::measure` meets its contract. The loop's invariant: what is summed, and what is left to sum. The measure is the number of bytes left.
+-- `sizes::measure_front` meets its contract. The loop's invariant: what is summed, and what is left to sum. The measure is the number of bytes left.
 use borrow.Author.Needs.{needs}
 use mathlib.Core.Path.{subst}
 use Prim.Native.Nat.{_-_}
@@ -7,12 +7,12 @@ use native.Mathlib.Omega.{arith}
 use denote.Ref.{now}
 use lib.ListN.{length}
 use Rattle.kinds.specs.Kinds.{Tallied}
-use Rattle.complement.proofs.Measuring.{Summed, summed-none, summed-room, summed-word, summed-other, summed-all}
-use Rattle.complement.proofs.measure.Statement.{statement}
-use Rattle.complement.proofs.measure.Tie as tie
+use Rattle.sizes.proofs.Measuring.{SummedTo, summed-none, summed-room, summed-word, summed-other, summed-all}
+use Rattle.sizes.proofs.measure_front.Statement.{statement}
+use Rattle.sizes.proofs.measure_front.Tie as tie
 
 abbrev Inv-loop : tie.InvT-loop
-Inv-loop p words results counts entries₀ bytes₀ at₀ entries bytes at = Summed p words results entries bytes at
+Inv-loop p words results counts entries₀ bytes₀ at₀ entries bytes at = SummedTo words results p entries bytes at
 
 abbrev μ-loop : tie.MeasureT-loop
 μ-loop p words results counts entries₀ bytes₀ at₀ entries bytes at = length p - at
@@ -44,7 +44,7 @@ add-entries c =
     let at-loop-test = at-wide .before .before in
     let at-loop = at-loop-test .before in
     let start = at-loop .before .before .before in
-    record { fits = omega (arith, summed-room (start .pre .0) (start .pre .1) (at-loop .loop .inv) (at-loop-test .loop-test .taken) (at-wide .wide .ensures .same) (c .sibling-count .ensures) .1, at-loop .loop .inv .low) }
+    record { fits = omega (arith, summed-room (start .pre .0) (start .pre .1) (at-loop .loop .inv) (at-loop-test .loop-test .taken) (at-wide .wide .ensures) (c .sibling-count .ensures) .1, at-loop .loop .inv .low) }
 
 add-bytes : tie.Need-add-bytes Inv-loop μ-loop
 add-bytes c = search needs
@@ -55,7 +55,7 @@ mul-bytes c =
     let at-loop-test = at-wide .before .before in
     let at-loop = at-loop-test .before in
     let start = at-loop .before .before .before in
-    record { fits = omega (arith, summed-room (start .pre .0) (start .pre .1) (at-loop .loop .inv) (at-loop-test .loop-test .taken) (at-wide .wide .ensures .same) (c .sibling-count .ensures) .0) }
+    record { fits = omega (arith, summed-room (start .pre .0) (start .pre .1) (at-loop .loop .inv) (at-loop-test .loop-test .taken) (at-wide .wide .ensures) (c .sibling-count .ensures) .0) }
 
 add-bytes-2 : tie.Need-add-bytes-2 Inv-loop μ-loop
 add-bytes-2 c =
@@ -63,7 +63,7 @@ add-bytes-2 c =
     let at-loop-test = at-wide .before .before in
     let at-loop = at-loop-test .before in
     let start = at-loop .before .before .before in
-    record { fits = omega (arith, summed-room (start .pre .0) (start .pre .1) (at-loop .loop .inv) (at-loop-test .loop-test .taken) (at-wide .wide .ensures .same) (c .sibling-count .ensures) .2, at-loop .loop .inv .low) }
+    record { fits = omega (arith, summed-room (start .pre .0) (start .pre .1) (at-loop .loop .inv) (at-loop-test .loop-test .taken) (at-wide .wide .ensures) (c .sibling-count .ensures) .2, at-loop .loop .inv .low) }
 
 add-at : tie.Need-add-at Inv-loop μ-loop
 add-at c = search needs
@@ -78,7 +78,7 @@ loop-again c =
     let at-loop-test = at-wide .before .before in
     let at-loop = at-loop-test .before in
     let start = at-loop .before .before .before in
-    summed-word (start .pre .0) (start .pre .1) (at-loop .loop .inv) (at-loop-test .loop-test .taken) (at-wide .wide .ensures .same) (c .sibling-count .ensures) (at-if1 .if1 .taken)
+    summed-word (start .pre .0) (start .pre .1) (at-loop .loop .inv) (at-loop-test .loop-test .taken) (at-wide .wide .ensures) (c .sibling-count .ensures) (at-if1 .if1 .taken)
 
 add-at-2 : tie.Need-add-at-2 Inv-loop μ-loop
 add-at-2 c = search needs
@@ -92,7 +92,7 @@ loop-again-2 c =
     let at-loop-test = at-wide .before .before in
     let at-loop = at-loop-test .before in
     let start = at-loop .before .before .before in
-    summed-other (start .pre .0) (start .pre .1) (at-loop .loop .inv) (at-loop-test .loop-test .taken) (at-wide .wide .ensures .same) (c .if1 .left)
+    summed-other (start .pre .0) (start .pre .1) (at-loop .loop .inv) (at-loop-test .loop-test .taken) (at-wide .wide .ensures) (c .if1 .left)
 
 returns : tie.Need-returns Inv-loop μ-loop
 returns c =
@@ -100,8 +100,8 @@ returns c =
     let start = at-loop .before .before .before in
     summed-all (start .pre .0) (start .pre .1) (at-loop .loop .inv) (c .loop-test .left)
 
-pub measure-spec : {M : Type 1} → statement M
-measure-spec =
+pub measure-front-spec : {M : Type 1} → statement M
+measure-front-spec =
     tie.close
     (tie.spec
     Inv-loop
