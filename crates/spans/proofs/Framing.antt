@@ -2,6 +2,7 @@
 --
 --   Framing p s frames spans from x depth i j    what is due is as the frame x and those below it say; the word began at `from`
 --   framing-begins, framing-ends, framing-fails  the frame of the word itself; none any more; there is no filling
+--   framing-rest                                 the pattern ends
 --   Turn, Written                                a turn that takes the lowest place off the frame; one at a written place
 --   turn-leave, turn-gap, turn-opened            the frame is done; there is no place; it is open
 --   turn-leaf, turn-pushed, turn-differs         a word without places, one with places, another word
@@ -16,7 +17,7 @@ use native.Mathlib.Omega.{arith}
 use lib.Dec.{eqb}
 use lib.ListN.{length, getD, set, replicate, length-set}
 use borrow.Author.Tests.{eq-eqb, ne-eqb}
-use Rattle.terms.specs.Term.{Terms, Grounds}
+use Rattle.terms.specs.Term.{Terms, nil, Grounds, gnil}
 use Rattle.wire.specs.Map.{mapBytes}
 use Rattle.wire.specs.Matching.{Inputs}
 use Rattle.wire.proofs.GroundBytes.{joined}
@@ -25,7 +26,7 @@ use Rattle.spans.specs.Spans.{Standing, ends, Covered}
 use Rattle.spans.specs.Walking.{InputsRead, Walked, Side, AtSharedWord, WordWalked}
 use Rattle.spans.proofs.Joined.{chained}
 use Rattle.spans.proofs.Marks.{Mark, marks, marksOf, marksDue, marks-none, Shifted, marks-place, marks-gap, marks-kept, marks-again, Marked}
-use Rattle.spans.proofs.Side.{Facing, facing, facing-inside, stands, turn-open}
+use Rattle.spans.proofs.Side.{Facing, facing, facing-inside, stands, turn-open, open-all}
 use Rattle.spans.proofs.Words.{AtWord, at-word, word-pattern, word-situation, word-differs, word-goes, word-marked}
 use Rattle.spans.proofs.Names.{AtName, at-name, name-inside, name-known, name-spans, name-goes, name-later, name-none}
 use Rattle.spans.proofs.Begin.{walked-none}
@@ -78,6 +79,16 @@ module _ {p s frames spans : List ℕ} {from due depth i j : ℕ} (c : Framing p
           side = over .side;
           shut = subst (λ x. Marked (over .terms) (marksDue due frames x)) zero (over .marked);
         };
+  }
+
+  -- Nothing but open places is due.
+  pub framing-rest : i ≡ length p → WordWalked p s spans from i (length s)
+  framing-rest e = record {
+    no = λ e. absurd (let further = c .further in omega arith);
+    further = λ d. c .further;
+    on = λ d a.
+        let over = c .over a in
+        record { terms = nil; grounds = gnil; side = open-all (over .terms) (over .side) e; shut = record { written = refl; shallow = omega arith } };
   }
 
   -- The same terms are due by other frames.

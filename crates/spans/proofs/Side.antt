@@ -7,8 +7,9 @@
 --   stands                         the second stands in the situation
 --   situation-behind, situation-inside    what stands behind it
 --   turn-open                      an open place takes the part
+--   open-all                       where the pattern ends, open places take the rest of the situation
 --
-use mathlib.Core.Path.{_≡_, refl, sym, ap, _∙_}
+use mathlib.Core.Path.{_≡_, refl, sym, ap, subst, _∙_}
 use mathlib.Core.Bool.{true, false, not, true≢false}
 use mathlib.Core.List.{List, [], _∷_}
 use Prim.Native.Nat.{ℕ, _+_, _<_, _≤_}
@@ -124,3 +125,22 @@ turn-open {t = any} {g = g} c e = record {
 }
 turn-open {t = var n} c e = absurd (true≢false e)
 turn-open {t = app k us} c e = absurd (true≢false e)
+
+-- ---- nothing but open places
+
+no-term : (W : Vocabulary) (g : Ground) (gs : Grounds) (ks : List ℕ) → SortedAll (signature W) nil ks → SortedGs (signature W) (gcons g gs) ks → ⊥
+no-term W g gs [] h k = k
+no-term W g gs (x ∷ ks) h k = h
+
+-- Behind the last byte of the pattern open places take the rest of the situation.
+pub open-all : {x : Inputs} {p s spans : List ℕ} (ts : Terms) {gs : Grounds} {i j : ℕ} → Side x p s spans ts gs i j → i ≡ length p →
+    Side x p s spans nil gnil i (length s)
+open-all {x} {p} {s} {spans} nil {gs = gnil} {i = i} {j = j} c e =
+    let inside = c .insideSituation in
+    let whole : j ≡ length s = omega (arith, length-drop j s, ap length (c .situation)) in
+    subst (λ j. Side x p s spans nil gnil i j) whole c
+open-all {x} nil {gs = gcons g gs} c e = absurd (no-term (x .vocabulary) g gs (c .sorts) (c .sorted) (c .sortedGrounds))
+open-all {x} (cons t ts) {gs = gnil} c e = absurd (no-ground (x .vocabulary) t ts (c .sorts) (c .sorted) (c .sortedGrounds))
+open-all (cons any ts) {gs = gcons g gs} c e = open-all ts (turn-open c refl) e
+open-all {p = p} (cons (var n) ts) {gs = gcons g gs} {i = i} c e = absurd (omega (arith, length-drop i p, ap length (c .pattern)))
+open-all {p = p} (cons (app k us) ts) {gs = gcons g gs} {i = i} c e = absurd (omega (arith, length-drop i p, ap length (c .pattern)))

@@ -169,6 +169,13 @@ fn walk_word(p: &[u8], s: &[u8], spans: &mut [u16; 128], from: usize, at: usize)
             due = passed(due);
             if places % 2 == 1 {
                 if written == 0 {
+                    // Behind the pattern's last byte only open places are due, which take the rest.
+                    if i == p.len() {
+                        return Reached {
+                            pattern: i,
+                            situation: s.len(),
+                        };
+                    }
                     j = end_of(s, j);
                 } else {
                     let b = p[i];

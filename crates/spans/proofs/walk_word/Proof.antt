@@ -15,7 +15,7 @@ use Rattle.spans.specs.Frames.{placesIn}
 use Rattle.spans.specs.Walking.{InputsRead}
 use Rattle.spans.proofs.Offsets.{offset-fits}
 use Rattle.spans.proofs.Going.{shared-pattern, shared-situation}
-use Rattle.spans.proofs.Framing.{Framing, framing-begins, framing-ends, framing-fails, top-slot, turn-leave}
+use Rattle.spans.proofs.Framing.{Framing, framing-begins, framing-ends, framing-rest, framing-fails, top-slot, turn-leave}
 use Rattle.spans.proofs.Framing.{Turn, turn-gap, open-part, turn-opened}
 use Rattle.spans.proofs.Framing.{Written, pattern-inside, word-node, part-node, word-room, turn-differs, turn-leaf, turn-pushed}
 use Rattle.spans.proofs.Framing.{name-behind, name-covers, turn-named, part-later, turn-unnamed}
@@ -130,15 +130,21 @@ loop-again c =
 passed-requires : tie.Need-passed-requires Inv-loop μ-loop
 passed-requires c κs = tt
 
+returns : tie.Need-returns Inv-loop μ-loop
+returns c =
+    let at-loop = c .before .before .before .before .before .before .before in
+    framing-rest (at-loop .loop .inv) (c .if4 .taken)
+
 end-of-requires : tie.Need-end-of-requires Inv-loop μ-loop
 end-of-requires c κs =
-    let at-if2 = c .before in
+    let at-if3 = c .before in
+    let at-if2 = at-if3 .before in
     let at-passed = at-if2 .before in
-    open-part (turn at-passed) (place at-passed (at-if2 .if2 .taken)) (c .if3 .taken) (read at-passed)
+    open-part (turn at-passed) (place at-passed (at-if2 .if2 .taken)) (at-if3 .if3 .taken) (read at-passed)
 
 loop-less-2 : tie.Need-loop-less-2 Inv-loop μ-loop
 loop-less-2 c =
-    let at-if3 = c .before in
+    let at-if3 = c .before .before in
     let at-if2 = at-if3 .before in
     let at-passed = at-if2 .before in
     let end = c .end-of .ensures (open-part (turn at-passed) (place at-passed (at-if2 .if2 .taken)) (at-if3 .if3 .taken) (read at-passed)) in
@@ -146,7 +152,7 @@ loop-less-2 c =
 
 loop-again-2 : tie.Need-loop-again-2 Inv-loop μ-loop
 loop-again-2 c =
-    let at-if3 = c .before in
+    let at-if3 = c .before .before in
     let at-if2 = at-if3 .before in
     let at-passed = at-if2 .before in
     turn-opened (turn at-passed) (place at-passed (at-if2 .if2 .taken)) (at-if3 .if3 .taken) _ (c .end-of .ensures)
@@ -157,89 +163,89 @@ shared-slice-read-b c =
     let at-passed = at-if3 .before .before in
     pattern-inside (written at-if3) (read at-passed)
 
-shared-slice-read-if5 : tie.Need-shared-slice-read-if5 Inv-loop μ-loop
-shared-slice-read-if5 c =
-    let at-if4 = c .before in
-    let at-if3 = at-if4 .before .before in
+shared-slice-read-if6 : tie.Need-shared-slice-read-if6 Inv-loop μ-loop
+shared-slice-read-if6 c =
+    let at-if5 = c .before in
+    let at-if3 = at-if5 .before .before in
     let at-passed = at-if3 .before .before in
-    omega (arith, part-node (written at-if3) (at-if4 .if4 .taken) (read at-passed))
+    omega (arith, part-node (written at-if3) (at-if5 .if5 .taken) (read at-passed))
 
-returns : tie.Need-returns Inv-loop μ-loop
-returns c =
-    let at-if4 = c .before .before in
-    let at-if3 = at-if4 .before .before in
-    framing-fails (turn-differs (written at-if3) (at-if4 .if4 .taken) (c .if5 .taken))
+returns-2 : tie.Need-returns-2 Inv-loop μ-loop
+returns-2 c =
+    let at-if5 = c .before .before in
+    let at-if3 = at-if5 .before .before in
+    framing-fails (turn-differs (written at-if3) (at-if5 .if5 .taken) (c .if6 .taken))
 
 map-at-requires-3 : tie.Need-map-at-requires-3 Inv-loop μ-loop
 map-at-requires-3 c κs =
-    let at-if4 = c .before .before in
-    let at-if3 = at-if4 .before .before in
+    let at-if5 = c .before .before in
+    let at-if3 = at-if5 .before .before in
     let at-passed = at-if3 .before .before in
-    part-node (written at-if3) (at-if4 .if4 .taken) (read at-passed)
+    part-node (written at-if3) (at-if5 .if5 .taken) (read at-passed)
 
 map-at-requires-4 : tie.Need-map-at-requires-4 Inv-loop μ-loop
 map-at-requires-4 c κs =
-    let at-if4 = c .before .before .before in
-    let at-if3 = at-if4 .before .before in
+    let at-if5 = c .before .before .before in
+    let at-if3 = at-if5 .before .before in
     let at-passed = at-if3 .before .before in
-    word-node (written at-if3) (at-if4 .if4 .taken) (read at-passed)
+    word-node (written at-if3) (at-if5 .if5 .taken) (read at-passed)
 
 frame-requires-2 : tie.Need-frame-requires-2 Inv-loop μ-loop
 frame-requires-2 c κs = tt
 
 add-i-2 : tie.Need-add-i-2 Inv-loop μ-loop
 add-i-2 c =
-    let at-if4 = c .before .before .before .before .before in
-    let at-if3 = at-if4 .before .before in
+    let at-if5 = c .before .before .before .before .before in
+    let at-if3 = at-if5 .before .before in
     let at-passed = at-if3 .before .before in
-    offset-fits (word-node (written at-if3) (at-if4 .if4 .taken) (read at-passed)) (read at-passed .held .pattern .limits .most)
+    offset-fits (word-node (written at-if3) (at-if5 .if5 .taken) (read at-passed)) (read at-passed .held .pattern .limits .most)
 
 add-j-2 : tie.Need-add-j-2 Inv-loop μ-loop
 add-j-2 c =
-    let at-if4 = c .before .before .before .before .before in
-    let at-if3 = at-if4 .before .before in
+    let at-if5 = c .before .before .before .before .before in
+    let at-if3 = at-if5 .before .before in
     let at-passed = at-if3 .before .before in
-    offset-fits (part-node (written at-if3) (at-if4 .if4 .taken) (read at-passed)) (read at-passed .held .situation .limits .most)
+    offset-fits (part-node (written at-if3) (at-if5 .if5 .taken) (read at-passed)) (read at-passed .held .situation .limits .most)
 
 mul-frames : tie.Need-mul-frames Inv-loop μ-loop
 mul-frames c =
-    let at-if4 = c .before .before .before .before .before .before in
-    let at-if3 = at-if4 .before .before in
+    let at-if5 = c .before .before .before .before .before .before in
+    let at-if3 = at-if5 .before .before in
     let at-passed = at-if3 .before .before in
-    scaled-fits _ 32 2 (word-room (written at-if3) (at-if4 .if4 .taken) (read at-passed)) (lit< tt)
+    scaled-fits _ 32 2 (word-room (written at-if3) (at-if5 .if5 .taken) (read at-passed)) (lit< tt)
 
 array-write-frames : tie.Need-array-write-frames Inv-loop μ-loop
 array-write-frames c =
-    let at-if4 = c .before .before .before .before .before .before in
-    let at-if3 = at-if4 .before .before in
+    let at-if5 = c .before .before .before .before .before .before in
+    let at-if3 = at-if5 .before .before in
     let at-passed = at-if3 .before .before in
-    word-room (written at-if3) (at-if4 .if4 .taken) (read at-passed)
+    word-room (written at-if3) (at-if5 .if5 .taken) (read at-passed)
 
 add-depth : tie.Need-add-depth Inv-loop μ-loop
 add-depth c =
-    let at-if4 = c .before .before .before .before .before .before in
-    let at-if3 = at-if4 .before .before in
+    let at-if5 = c .before .before .before .before .before .before in
+    let at-if3 = at-if5 .before .before in
     let at-passed = at-if3 .before .before in
-    let room = word-room (written at-if3) (at-if4 .if4 .taken) (read at-passed) in record { fits = omega arith }
+    let room = word-room (written at-if3) (at-if5 .if5 .taken) (read at-passed) in record { fits = omega arith }
 
 loop-less-3 : tie.Need-loop-less-3 Inv-loop μ-loop
 loop-less-3 c =
-    let at-if4 = c .before .before .before .before .before .before in
-    let at-if3 = at-if4 .before .before in
+    let at-if5 = c .before .before .before .before .before .before in
+    let at-if3 = at-if5 .before .before in
     let at-passed = at-if3 .before .before in
     let here = written at-if3 in
-    left-word (turn at-passed) (full at-passed) _ (word-room here (at-if4 .if4 .taken) (read at-passed)) (part-node here (at-if4 .if4 .taken) (read at-passed))
+    left-word (turn at-passed) (full at-passed) _ (word-room here (at-if5 .if5 .taken) (read at-passed)) (part-node here (at-if5 .if5 .taken) (read at-passed))
 
 loop-again-3 : tie.Need-loop-again-3 Inv-loop μ-loop
 loop-again-3 c =
     let at-frame2 = c .before in
     let at-map-at4 = at-frame2 .before in
     let at-map-at3 = at-map-at4 .before in
-    let at-if5 = at-map-at3 .before in
-    let at-if4 = at-if5 .before .before in
-    let at-if3 = at-if4 .before .before in
+    let at-if6 = at-map-at3 .before in
+    let at-if5 = at-if6 .before .before in
+    let at-if3 = at-if5 .before .before in
     let at-passed = at-if3 .before .before in
-    turn-pushed (written at-if3) (at-if4 .if4 .taken) (at-if5 .if5 .left) (read at-passed) _ (rw (at-map-at3 .map-at3 .ensures, at-map-at4 .map-at4 .ensures) at (at-frame2 .frame2 .ensures))
+    turn-pushed (written at-if3) (at-if5 .if5 .taken) (at-if6 .if6 .left) (read at-passed) _ (rw (at-map-at3 .map-at3 .ensures, at-map-at4 .map-at4 .ensures) at (at-frame2 .frame2 .ensures))
 
 loop-less-4 : tie.Need-loop-less-4 Inv-loop μ-loop
 loop-less-4 c =
@@ -249,57 +255,57 @@ loop-less-4 c =
 loop-again-4 : tie.Need-loop-again-4 Inv-loop μ-loop
 loop-again-4 c =
     let at-map-at3 = c .before .before .before in
-    let at-if5 = at-map-at3 .before in
-    let at-if4 = at-if5 .before .before in
-    let at-if3 = at-if4 .before .before in
-    turn-leaf (written at-if3) (at-if4 .if4 .taken) (at-if5 .if5 .left) (sym (at-map-at3 .map-at3 .ensures) ∙ c .if6 .left)
+    let at-if6 = at-map-at3 .before in
+    let at-if5 = at-if6 .before .before in
+    let at-if3 = at-if5 .before .before in
+    turn-leaf (written at-if3) (at-if5 .if5 .taken) (at-if6 .if6 .left) (sym (at-map-at3 .map-at3 .ensures) ∙ c .if7 .left)
 
 wide-requires : tie.Need-wide-requires Inv-loop μ-loop
 wide-requires c κs = tt
 
 sub-cover : tie.Need-sub-cover Inv-loop μ-loop
 sub-cover c =
-    let at-if4 = c .before .before in
-    let byte = c .wide .ensures in let high = at-if4 .if4 .left in omega arith
+    let at-if5 = c .before .before in
+    let byte = c .wide .ensures in let high = at-if5 .if5 .left in omega arith
 
 cover-requires : tie.Need-cover-requires Inv-loop μ-loop
 cover-requires c κs =
-    let at-if4 = c .before .before in
-    let at-if3 = at-if4 .before .before in
+    let at-if5 = c .before .before in
+    let at-if3 = at-if5 .before .before in
     let at-passed = at-if3 .before .before in
-    name-covers (written at-if3) (at-if4 .if4 .left) (c .wide .ensures) (read at-passed)
+    name-covers (written at-if3) (at-if5 .if5 .left) (c .wide .ensures) (read at-passed)
 
-returns-2 : tie.Need-returns-2 Inv-loop μ-loop
-returns-2 c =
+returns-3 : tie.Need-returns-3 Inv-loop μ-loop
+returns-3 c =
     let at-cover = c .before in
     let at-wide = at-cover .before in
-    let at-if4 = at-wide .before .before in
-    let at-if3 = at-if4 .before .before in
-    framing-fails (turn-unnamed (written at-if3) (at-if4 .if4 .left) (at-wide .wide .ensures) (at-cover .cover .ensures) (c .if7 .taken))
+    let at-if5 = at-wide .before .before in
+    let at-if3 = at-if5 .before .before in
+    framing-fails (turn-unnamed (written at-if3) (at-if5 .if5 .left) (at-wide .wide .ensures) (at-cover .cover .ensures) (c .if8 .taken))
 
 add-i-3 : tie.Need-add-i-3 Inv-loop μ-loop
 add-i-3 c =
-    let at-if4 = c .before .before .before .before in
-    let at-if3 = at-if4 .before .before in
+    let at-if5 = c .before .before .before .before in
+    let at-if3 = at-if5 .before .before in
     let at-passed = at-if3 .before .before in
-    offset-fits (name-behind (written at-if3) (at-if4 .if4 .left) (read at-passed)) (read at-passed .held .pattern .limits .most)
+    offset-fits (name-behind (written at-if3) (at-if5 .if5 .left) (read at-passed)) (read at-passed .held .pattern .limits .most)
 
 loop-less-5 : tie.Need-loop-less-5 Inv-loop μ-loop
 loop-less-5 c =
     let at-cover = c .before in
     let at-wide = at-cover .before in
-    let at-if4 = at-wide .before .before in
-    let at-if3 = at-if4 .before .before in
+    let at-if5 = at-wide .before .before in
+    let at-if3 = at-if5 .before .before in
     let at-passed = at-if3 .before .before in
-    left-on (turn at-passed) (full at-passed) _ (part-later (written at-if3) (at-if4 .if4 .left) (at-wide .wide .ensures) (at-cover .cover .ensures) (read at-passed) (c .if7 .left))
+    left-on (turn at-passed) (full at-passed) _ (part-later (written at-if3) (at-if5 .if5 .left) (at-wide .wide .ensures) (at-cover .cover .ensures) (read at-passed) (c .if8 .left))
 
 loop-again-5 : tie.Need-loop-again-5 Inv-loop μ-loop
 loop-again-5 c =
     let at-cover = c .before in
     let at-wide = at-cover .before in
-    let at-if4 = at-wide .before .before in
-    let at-if3 = at-if4 .before .before in
-    turn-named (written at-if3) (at-if4 .if4 .left) (at-wide .wide .ensures) (at-cover .cover .ensures) (c .if7 .left)
+    let at-if5 = at-wide .before .before in
+    let at-if3 = at-if5 .before .before in
+    turn-named (written at-if3) (at-if5 .if5 .left) (at-wide .wide .ensures) (at-cover .cover .ensures) (c .if8 .left)
 
 loop-less-6 : tie.Need-loop-less-6 Inv-loop μ-loop
 loop-less-6 c =
@@ -312,8 +318,8 @@ loop-again-6 c =
     let at-places-due = at-passed .before .before in
     turn-gap (turn at-passed) (λ e. c .if2 .left (ap (λ n. n % 2) (at-places-due .places-due .ensures) ∙ e))
 
-returns-3 : tie.Need-returns-3 Inv-loop μ-loop
-returns-3 c =
+returns-4 : tie.Need-returns-4 Inv-loop μ-loop
+returns-4 c =
     let at-loop = c .before in
     framing-ends (at-loop .loop .inv) (c .loop-test .left)
 
@@ -336,12 +342,13 @@ walk-word-spec =
     loop-less
     loop-again
     passed-requires
+    returns
     end-of-requires
     loop-less-2
     loop-again-2
     shared-slice-read-b
-    shared-slice-read-if5
-    returns
+    shared-slice-read-if6
+    returns-2
     map-at-requires-3
     map-at-requires-4
     frame-requires-2
@@ -357,10 +364,10 @@ walk-word-spec =
     wide-requires
     sub-cover
     cover-requires
-    returns-2
+    returns-3
     add-i-3
     loop-less-5
     loop-again-5
     loop-less-6
     loop-again-6
-    returns-3)
+    returns-4)
