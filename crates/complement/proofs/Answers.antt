@@ -6,7 +6,7 @@ use lib.ListN.{getD}
 use Rattle.wire.specs.Reply.{Reply, accepted, refused}
 use Rattle.signature.specs.declared.VocabularyRefusal.the-variants.{Head, WordCount, Ends, NoSuchKind, Continues, EmptyKind}
 use Rattle.signature.proofs.Answers.{vocabularyRefusalOf}
-use Rattle.reader.specs.declared.TermRefusal.the-variants as T
+use Rattle.reader.specs.declared.refusal.TermRefusal.the-variants as T
 use Rattle.reader.proofs.Answers.{termRefusalOf}
 use Rattle.complement.specs.Answers.{listNumbers, ListAnswersDiffer}
 use Rattle.complement.specs.declared.ListAnswer.{ListAnswer}

@@ -35,8 +35,8 @@ use Rattle.signature.specs.declared.VocabularyRefusal.{VocabularyRefusal}
 use Rattle.signature.specs.declared.VocabularyRefusal.the-variants.{Head, WordCount, Ends, NoSuchKind, Continues, EmptyKind}
 use Rattle.signature.proofs.Accepted.{accepted-words}
 use Rattle.reader.specs.Answers.{termRefused}
-use Rattle.reader.specs.declared.TermRefusal.{TermRefusal}
-use Rattle.reader.specs.declared.TermRefusal.the-variants as T
+use Rattle.reader.specs.declared.refusal.TermRefusal.{TermRefusal}
+use Rattle.reader.specs.declared.refusal.TermRefusal.the-variants as T
 use Rattle.complement.specs.Calls.{Patterned, ListsPattern}
 
 -- ---- a name that stands twice

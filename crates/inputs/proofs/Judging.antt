@@ -30,7 +30,7 @@ use Rattle.wire.proofs.Inputs.{checked-in}
 use Rattle.wire.proofs.Matching.{not-accepted}
 use Rattle.wire.proofs.Theorems.{vocabularies-inverse, first-gap-is-exact}
 use Rattle.reader.specs.Whole.{gapOr, toldOf, toldBy, extentValues, bothTold, pairUnder, pairReply}
-use Rattle.reader.specs.declared.Extent.{Extent}
+use Rattle.reader.specs.declared.whole.Extent.{Extent}
 use Rattle.reader.specs.Nodes.{numberOf, placeOf}
 use Rattle.reader.proofs.Calls.{refused-never}
 use Rattle.reader.proofs.Told.{refusal-reply}

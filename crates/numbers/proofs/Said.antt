@@ -17,8 +17,8 @@ use Rattle.signature.specs.declared.VocabularyRefusal.the-variants as W
 use Rattle.signature.specs.declared.VocabularyAnswer.{VocabularyAnswer}
 use Rattle.signature.specs.declared.VocabularyAnswer.the-variants as C
 use Rattle.reader.specs.Answers.{termRefused, termNumbers}
-use Rattle.reader.specs.declared.TermRefusal.{TermRefusal}
-use Rattle.reader.specs.declared.TermRefusal.the-variants as T
+use Rattle.reader.specs.declared.refusal.TermRefusal.{TermRefusal}
+use Rattle.reader.specs.declared.refusal.TermRefusal.the-variants as T
 use Rattle.reader.specs.declared.TermAnswer.{TermAnswer}
 use Rattle.reader.specs.declared.TermAnswer.the-variants as A
 use Rattle.inputs.specs.Answers.{inputsRefused}

@@ -8,8 +8,8 @@ use Rattle.wire.specs.Reply.{Reply, accepted, refused}
 use Rattle.signature.specs.declared.VocabularyRefusal.the-variants.{Head, WordCount, Ends, NoSuchKind, Continues, EmptyKind}
 use Rattle.signature.proofs.Answers.{vocabularyRefusalOf}
 use Rattle.reader.specs.Answers.{termNumbers, TermAnswersDiffer}
-use Rattle.reader.specs.declared.TermRefusal.{TermRefusal}
-use Rattle.reader.specs.declared.TermRefusal.the-variants as T
+use Rattle.reader.specs.declared.refusal.TermRefusal.{TermRefusal}
+use Rattle.reader.specs.declared.refusal.TermRefusal.the-variants as T
 use Rattle.reader.specs.declared.TermAnswer.{TermAnswer}
 use Rattle.reader.specs.declared.TermAnswer.the-variants as A
 

@@ -31,7 +31,7 @@ use Rattle.reader.specs.Frames.{runIn, kindsIn, FrameIn}
 use Rattle.reader.specs.Names.{Named}
 use Rattle.reader.specs.Cursors.{started, pastLeaf, atFrame, gapLeft, tallyAt, openDue, restRun, Going}
 use Rattle.reader.specs.Terms.{Passed, nodeDue, nodeRun, Leads, Refuses, Follows, Under, Ends, Answers, NodesRead, WholeAt}
-use Rattle.reader.specs.declared.TermRefusal.{TermRefusal}
+use Rattle.reader.specs.declared.refusal.TermRefusal.{TermRefusal}
 use Rattle.reader.specs.declared.cursor.Cursor.{Cursor}
 use Rattle.reader.specs.declared.term.Reading.{Reading}
 use Rattle.reader.specs.declared.term.Reading.the-variants as R

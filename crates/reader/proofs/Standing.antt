@@ -19,7 +19,7 @@ use Rattle.wire.specs.Vocabulary.{Vocabulary}
 use Rattle.wire.specs.Parser.{stop, nameHere, fault, node, atLimit}
 use Rattle.wire.specs.Scan.{Scanned}
 use Rattle.reader.specs.Nodes.{TablesOf, nodeOf, Inside, Limited, NodeAt, WordAt}
-use Rattle.reader.specs.declared.TermRefusal.the-variants as T
+use Rattle.reader.specs.declared.refusal.TermRefusal.the-variants as T
 use Rattle.reader.specs.declared.node.Node.{Node as Answer}
 use Rattle.reader.specs.declared.node.Node.the-variants.{Word, Name, Fault}
 use Rattle.reader.proofs.Nodes.{within-and, within-not, node-ends, node-differs, node-short, node-stray, node-word, node-name, node-unknown}

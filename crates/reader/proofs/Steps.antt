@@ -30,8 +30,8 @@ use Rattle.reader.specs.Names.{clashing, Named}
 use Rattle.reader.specs.Cursors.{pastLeaf, pastWord, wentDown}
 use Rattle.reader.specs.Nodes.{numberOf, placeOf}
 use Rattle.reader.specs.Terms.{nodeRun, Leads, Refuses, Follows, NodeAnswers, Under}
-use Rattle.reader.specs.declared.TermRefusal.{TermRefusal}
-use Rattle.reader.specs.declared.TermRefusal.the-variants as T
+use Rattle.reader.specs.declared.refusal.TermRefusal.{TermRefusal}
+use Rattle.reader.specs.declared.refusal.TermRefusal.the-variants as T
 use Rattle.reader.specs.declared.cursor.Cursor.{Cursor}
 use Rattle.reader.specs.declared.node.Node.the-variants.{Word, Name, Fault}
 use Rattle.reader.specs.declared.term.Step.{Step}

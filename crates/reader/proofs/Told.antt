@@ -40,9 +40,9 @@ use Rattle.reader.specs.Cursors.{gapLeft, tallyAt}
 use Rattle.reader.specs.Nodes.{numberOf, placeOf}
 use Rattle.reader.specs.Terms.{Refuses, Ends, Answers, TermRead}
 use Rattle.reader.specs.Whole.{gapOr, toldBy, told, extentValues, bothTold}
-use Rattle.reader.specs.declared.TermRefusal.{TermRefusal}
-use Rattle.reader.specs.declared.TermRefusal.the-variants as T
-use Rattle.reader.specs.declared.Extent.{Extent}
+use Rattle.reader.specs.declared.refusal.TermRefusal.{TermRefusal}
+use Rattle.reader.specs.declared.refusal.TermRefusal.the-variants as T
+use Rattle.reader.specs.declared.whole.Extent.{Extent}
 use Rattle.reader.specs.declared.cursor.Cursor.{Cursor}
 use Rattle.reader.specs.declared.term.Reading.{Reading as Answer}
 use Rattle.reader.specs.declared.term.Reading.the-variants as R

@@ -9,8 +9,8 @@ use mathlib.Core.List.{[], _∷_}
 use Prim.Native.Nat.{ℕ}
 use Rattle.wire.specs.Reply.{Reply, accepted, refused}
 use Rattle.signature.specs.Answers.{vocabularyRefused}
-use Rattle.reader.specs.declared.TermRefusal.{TermRefusal}
-use Rattle.reader.specs.declared.TermRefusal.the-variants as T
+use Rattle.reader.specs.declared.refusal.TermRefusal.{TermRefusal}
+use Rattle.reader.specs.declared.refusal.TermRefusal.the-variants as T
 use Rattle.reader.specs.declared.TermAnswer.{TermAnswer}
 use Rattle.reader.specs.declared.TermAnswer.the-variants as A
 

@@ -23,7 +23,7 @@ use Rattle.wire.specs.Parser.{stop, Node, wordHere, nameHere, fault, node, atLi
 use Rattle.wire.specs.Scan.{Scanned}
 use Rattle.signature.specs.Tables.{Tabled}
 use Rattle.reader.specs.Answers.{termRefused}
-use Rattle.reader.specs.declared.TermRefusal.{TermRefusal}
+use Rattle.reader.specs.declared.refusal.TermRefusal.{TermRefusal}
 use Rattle.reader.specs.declared.node.Node.{Node as Answer}
 use Rattle.reader.specs.declared.node.Node.the-variants.{Word, Name, Fault}
 

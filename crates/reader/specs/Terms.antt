@@ -31,7 +31,7 @@ use Rattle.reader.specs.Frames.{runIn}
 use Rattle.reader.specs.Names.{Named}
 use Rattle.reader.specs.Cursors.{tallyAt, openDue, restRun, Going}
 use Rattle.reader.specs.Nodes.{numberOf, placeOf}
-use Rattle.reader.specs.declared.TermRefusal.{TermRefusal}
+use Rattle.reader.specs.declared.refusal.TermRefusal.{TermRefusal}
 use Rattle.reader.specs.declared.cursor.Cursor.{Cursor}
 use Rattle.reader.specs.declared.term.Step.{Step}
 use Rattle.reader.specs.declared.term.Step.the-variants as S

@@ -26,7 +26,7 @@ use Rattle.wire.specs.SituationComputed.{firstGap}
 use Rattle.signature.specs.Answers.{vocabularyRefused}
 use Rattle.reader.specs.Answers.{termRefused}
 use Rattle.reader.specs.Nodes.{numberOf, placeOf}
-use Rattle.reader.specs.declared.Extent.{Extent}
+use Rattle.reader.specs.declared.whole.Extent.{Extent}
 use Rattle.reader.specs.declared.PairAnswer.{PairAnswer}
 use Rattle.reader.specs.declared.PairAnswer.the-variants as P
 use Rattle.reader.specs.declared.whole.Whole.{Whole}

@@ -14,35 +14,18 @@ use whole::Whole;
 mod cursor;
 mod frame;
 mod node;
+pub mod refusal;
 mod term;
-mod whole;
+pub mod whole;
 
-// Why a term is refused, with the place where it is not fixed: document 01, lines 7 to 15.
-pub enum TermRefusal {
-    Size,
-    NoSuchKind,
-    Ends(usize),
-    TooDeep(usize),
-    NoWordOrName(usize),
-    WrongKind(usize),
-    Clashes(usize),
-    StrayBit(usize),
-    Continues(usize),
-}
+pub use refusal::TermRefusal;
+pub use whole::Extent;
 
 // An accepted term's number of words and its deepest level, or why it or the vocabulary is refused.
 pub enum TermAnswer {
     Accepted(usize, usize),
     Vocabulary(VocabularyRefusal),
     Term(TermRefusal),
-}
-
-// What reading a term tells of it: its words, its deepest level and the offset of its first gap, its length where it
-// has none.
-pub struct Extent {
-    pub words: usize,
-    pub deepest: usize,
-    pub gap: usize,
 }
 
 // What reading two terms tells of them, or why the vocabulary or one of them is refused.

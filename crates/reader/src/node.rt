@@ -4,7 +4,7 @@ ghost use Prim.Native.Nat.{_+_, _<_, _≤_};
 ghost use lib.ListN.{length, getD};
 ghost use Rattle.reader.specs.Names.{clashing};
 ghost use Rattle.reader.specs.Nodes.{NodeAt, WordAt};
-use crate::TermRefusal;
+use crate::refusal::TermRefusal;
 
 // A word with its written map, a name, or what is wrong.
 pub(crate) enum Node {

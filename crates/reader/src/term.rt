@@ -7,12 +7,12 @@ ghost use Rattle.signature.specs.Tables.{Tables};
 ghost use Rattle.reader.specs.Frames.{runIn};
 ghost use Rattle.reader.specs.Cursors.{Going};
 ghost use Rattle.reader.specs.Terms.{FullWord, Passed, NodeRead, NodesRead, WholeAt, TermRead};
-use crate::TermRefusal;
 use crate::cursor;
 use crate::cursor::Cursor;
 use crate::frame;
 use crate::node;
 use crate::node::Node;
+use crate::refusal::TermRefusal;
 
 // How a reading goes on behind a node, or what is wrong there.
 enum Step {

@@ -2,11 +2,18 @@
 ghost use mathlib.Core.Path.{_≡_};
 ghost use Rattle.signature.specs.Tables.{Tables, vocabularyIn};
 ghost use Rattle.reader.specs.Whole.{told, wholeTold};
-use crate::Extent;
-use crate::TermRefusal;
 use crate::cursor;
+use crate::refusal::TermRefusal;
 use crate::term;
 use crate::term::Reading;
+
+// What reading a term tells of it: its words, its deepest level and the offset of its first gap, its length where it
+// has none.
+pub struct Extent {
+    pub words: usize,
+    pub deepest: usize,
+    pub gap: usize,
+}
 
 // What is told of a term, or why it is refused.
 pub(crate) enum Whole {

@@ -15,8 +15,8 @@ use Rattle.signature.specs.Answers.{vocabularyRefused}
 use Rattle.signature.specs.declared.VocabularyRefusal.{VocabularyRefusal}
 use Rattle.signature.specs.declared.VocabularyRefusal.the-variants as Voc
 use Rattle.reader.specs.Answers.{termRefused}
-use Rattle.reader.specs.declared.TermRefusal.{TermRefusal}
-use Rattle.reader.specs.declared.TermRefusal.the-variants as T
+use Rattle.reader.specs.declared.refusal.TermRefusal.{TermRefusal}
+use Rattle.reader.specs.declared.refusal.TermRefusal.the-variants as T
 use Rattle.inputs.specs.Answers.{inputsRefused}
 use Rattle.inputs.specs.declared.InputsRefusal.{InputsRefusal}
 use Rattle.inputs.specs.declared.InputsRefusal.the-variants as I
