@@ -2,7 +2,7 @@
 -- at the end.
 --
 --   First, first-of, none-above   the terms of the bits, where the next bit stands and where none does
---   low-bit, halved, bit-at       the bits of the map, by their numbers
+--   low-bit, halved, bit-at, kept-all   the bits of the map, by their numbers
 --   map-inside                    the word's map stands inside the copy
 --   Reached                       the loop: the terms below a bit are listed
 --   reached-none, reached-all     it begins, and it ends
@@ -15,8 +15,8 @@
 use mathlib.Core.Path.{_≡_, refl, sym, ap, ap₂, _∙_, subst}
 use mathlib.Core.Bool.{Bool, true, false, true≢false}
 use mathlib.Core.List.{List, [], _∷_, _++_, append-nil, append-assoc}
-use Prim.Native.Nat.{ℕ, zero, suc, _+_, _-_, _/_, _%_, _^_, _<_, _≤_, max}
-use native.Mathlib.Nat.{le-max-left, le-max-right, pow-suc, div-div-eq-div-mul}
+use Prim.Native.Nat.{ℕ, zero, suc, _+_, _-_, _*_, _/_, _%_, _^_, _<_, _≤_, max}
+use native.Mathlib.Nat.{le-max-left, le-max-right, pow-suc, zero-mul, div-div-eq-div-mul, mod-eq-sub-div-mul}
 use native.Mathlib.Numerals.{add-one}
 use native.Mathlib.Omega.{arith}
 use lib.Dec.{eqb, ltb}
@@ -90,6 +90,15 @@ halved m b = div-div-eq-div-mul m (2 ^ b) 2 ∙ ap (λ k. m / k) (sym (pow-suc 2
 bit-at : (m b x : ℕ) → b < mapBits → m / 2 ^ b % 2 ≡ x → drop b (flags m) ≡ eqb x 1 ∷ drop (b + 1) (flags m)
 bit-at m b x h e = flags-at b m h ∙ ap₂ (λ x i. eqb x 1 ∷ drop i (flags m)) e (sym (add-one b))
 
+-- Where no bit stands above b, the bits up to b are all.
+kept-all : (b m : ℕ) → m / 2 ^ (b + 1) ≡ 0 → m % 2 ^ suc b ≡ m
+kept-all b m z =
+    ap (λ i. m % 2 ^ i) (sym (add-one b))
+    ∙ mod-eq-sub-div-mul m (2 ^ (b + 1))
+    ∙ ap (λ q. m - q * 2 ^ (b + 1)) z
+    ∙ ap (λ q. m - q) (zero-mul (2 ^ (b + 1)))
+    ∙ omega arith
+
 -- ---- the loop
 
 -- The word's map stands inside the copy.
@@ -119,6 +128,7 @@ module _ {copy : List ℕ} {at map : ℕ} {results chains : List ℕ} {left : �
     pub done : List ℕ
     pub low : b ≤ mapBits
     pub shifted : bits ≡ map / 2 ^ b
+    pub full : bits ≡ 0 → current ≡ map
     pub whole : body ++ encodeAll W terms ≡ encodeAll W (h .terms)
     pub stands : copied ≡ kept-up-to current
     pub offset : next ≡ at + 1 + mapBytes + length body
@@ -135,6 +145,7 @@ module _ {copy : List ℕ} {at map : ℕ} {results chains : List ℕ} {left : �
     done = [];
     low = omega arith;
     shifted = e ∙ (let z : map ≡ map / 2 ^ 0 = omega arith in z);
+    full = λ z. refl;
     whole = refl;
     stands = h .stands;
     offset = omega arith;
@@ -172,8 +183,8 @@ module _ {copy : List ℕ} {at map : ℕ} {results chains : List ℕ} {left : �
     done-inside = omega (arith, r .written .count, room-done, out-length)
 
     -- No bit stands from b on.
-    pub reached-all : {restored : List ℕ} → restored ≡ mapPut map copied (at + 1) → bits ≡ 0 → PlacesListed h restored before out next n
-    reached-all put z =
+    pub reached-all : bits ≡ 0 → PlacesListed h copied before out next n
+    reached-all z =
         let low = r .low in
         let off = none-above (mapBits - b) b map (omega arith) (sym (r .shifted) ∙ z) in
         let none : r .terms ≡ nil = terms-none W (drop b (flags map)) (r .terms) off (r .due) in
@@ -185,7 +196,7 @@ module _ {copy : List ℕ} {at map : ℕ} {results chains : List ℕ} {left : �
         ∙ append-nil (r .done) in
         record {
           passed = omega (arith, r .offset, ap length body-is);
-          restored = put ∙ put-map map ∙ sym (h .stands);
+          restored = r .stands ∙ ap kept-up-to (r .full z) ∙ sym (h .stands);
           written = subst (λ bytes. Written bytes before n out) (sym all-done) (r .written);
         }
 
@@ -207,6 +218,7 @@ module _ {copy : List ℕ} {at map : ℕ} {results chains : List ℕ} {left : �
             done = r .done;
             low = omega (arith, is-bit);
             shifted = shifted-next;
+            full = λ z. absurd (some-bit (omega arith));
             whole = r .whole;
             stands = r .stands;
             offset = r .offset;
@@ -298,6 +310,7 @@ module _ {copy : List ℕ} {at map : ℕ} {results chains : List ℕ} {left : �
             done = r .done ++ term-bytes;
             low = omega (arith, is-bit);
             shifted = shifted-next;
+            full = λ z. keeps ∙ kept-all b map (sym shifted-next ∙ z);
             whole = append-assoc (r .body) (encodeAt W t) (encodeAll W us) ∙ whole-here;
             stands = l .restored ∙ put ∙ put-map k;
             offset = omega (arith, l .passed, r .offset, length-append (r .body) (encodeAt W t));
@@ -314,5 +327,5 @@ module _ {copy : List ℕ} {at map : ℕ} {results chains : List ℕ} {left : �
   -- A word with no written bit.
   pub places-none : map ≡ 0 → PlacesListed h copy before before (at + 2) 0
   places-none e =
-      let p = reached-all (reached-none {bits = map} refl) refl e in
+      let p = reached-all (reached-none {bits = map} refl) e in
       record { passed = p .passed; restored = refl; written = p .written }

@@ -130,7 +130,7 @@ fn list_term(
 }
 
 // The listing of the terms of a word's written bits, the lowest first, each into the rest of the lent slice behind
-// the one before it. The word's map keeps only the bits up to each term in turn; at the end it is the pattern's again.
+// the one before it. The word's map keeps only the bits up to each term in turn; at the highest it is the pattern's again.
 fn list_places(
     copy: &mut [u8],
     at: usize,
@@ -159,7 +159,6 @@ fn list_places(
             n = n + here.written;
         }
     }
-    maps::write(map, copy, at + 1);
     Progress {
         at: next,
         written: n,

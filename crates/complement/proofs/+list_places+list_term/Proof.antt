@@ -219,32 +219,22 @@ list-places-loop-again-2 : (t : ℕ) → InPlaces list-places-lts.Need-loop-agai
 list-places-loop-again-2 t c =
     λ h. reached-clear _ h (reached t (c .before .before) h) (omega arith) (c .before .loop-test .taken) (c .if1 .left)
 
-list-places-add-write-2 : (t : ℕ) → InPlaces list-places-lts.Need-add-write-2 t
-list-places-add-write-2 t c = let z = map-inside (places t (c .before .before)) in search needs
-
-list-places-write-requires-2 : (t : ℕ) → InPlaces list-places-lts.Need-write-requires-2 t
-list-places-write-requires-2 t c κs = search needs
-
--- The map is the pattern's again.
-module _ (t : ℕ) (c : InPlaces list-places-lts.After-write2 t) where
+-- No bit is left: the map is the pattern's again.
+module _ (t : ℕ) (c : InPlaces list-places-lts.After-loop t) where
   abbrev at-end : InPlaces list-places-lts.At-loop t
-  at-end = c .before .before .before
+  at-end = c .before
 
-  all-places : (h : Places t at-end) → PlacesListed h (c .write2 .last .1 .0) (before t at-end) (at-end .loop .out) (at-end .loop .next) (at-end .loop .n)
-  all-places h = reached-all _ h (reached t at-end h) (c .write2 .ensures) (c .before .before .loop-test .left)
+  all-places : (h : Places t at-end) → PlacesListed h (at-end .loop .copy) (before t at-end) (at-end .loop .out) (at-end .loop .next) (at-end .loop .n)
+  all-places h = reached-all _ h (reached t at-end h) (c .loop-test .left)
 
 list-places-same-length : (t : ℕ) → InPlaces list-places-lts.Need-same-length t
-list-places-same-length t c =
-    let at-write = c .before .before in
-    ap length (all-places t at-write (places t (at-end t at-write)) .restored)
+list-places-same-length t c = ap length (all-places t c (places t (at-end t c)) .restored)
 
 list-places-same-length-2 : (t : ℕ) → InPlaces list-places-lts.Need-same-length-2 t
-list-places-same-length-2 t c =
-    let at-loop = at-end t (c .before .before) in
-    out-length _ _ (reached t at-loop (places t at-loop))
+list-places-same-length-2 t c = out-length _ _ (reached t (at-end t c) (places t (at-end t c)))
 
 list-places-returns : (t : ℕ) → InPlaces list-places-lts.Need-returns t
-list-places-returns t c = λ h. all-places t (c .before .before) h
+list-places-returns t c = λ h. all-places t c h
 
 -- ---- list_term, at a term
 
@@ -435,8 +425,6 @@ pub +list-places+list-term-spec : {M : Type 1} → statement M
     (list-places-loop-again t)
     (list-places-loop-less-2 t)
     (list-places-loop-again-2 t)
-    (list-places-add-write-2 t)
-    (list-places-write-requires-2 t)
     (list-places-same-length t)
     (list-places-same-length-2 t)
     (list-places-returns t))
