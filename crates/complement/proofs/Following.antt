@@ -3,6 +3,7 @@
 --   least-from, -inside, -low, -outside   the lowest number of a range that passes a test
 --   Followed                  the loop: h is the next word of the kind, and the others before it have their entries
 --   followed-none, -all       it begins, and it ends
+--   followed-inside           where h is below 96 it is a word
 --   followed-room, -less      the next entry has room, and the next word is a higher one
 --   followed-taken, -left     a turn, at another word and at the word itself
 --

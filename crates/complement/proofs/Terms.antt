@@ -1,7 +1,7 @@
 -- Terms: what list_term does at a name and at a word.
 --
 --   Shape, shape              a term that is no open place is a name or a word
---   Begun, term-begun         what the first byte tells
+--   term-inside               its first byte stands in the copy
 --   name-listed               a name has no entries
 --   Word, term-word           the word that stands there, with its map and terms
 --   own-others-at, own-length, own-inside   its own entries have room and are written
@@ -72,17 +72,13 @@ module _ {copy : List ℕ} {at : ℕ} {results chains : List ℕ} {left room : �
       let s = subst (λ t. Sorted (signature W) t (h .kind)) e (h .sorted) in
       omega (arith, s .0, length-symbols W)
 
-  -- What the first byte tells.
-  pub record Begun : Type 0 where
-    pub inside : at < length copy
-
-  pub term-begun : Begun
-  term-begun = go (shape (h .term) (h .closed))
+  -- The term's first byte stands in the copy.
+  pub term-inside : at < length copy
+  term-inside = go (shape (h .term) (h .closed))
     where
-      go : Shape (h .term) → Begun
-      go (name n e) = record { inside = let z = longer (nameByte n) [] (ap (encodeAt W) e) in omega arith }
-      go (symbol f ts e) =
-          record { inside = let z = longer f (writeMap (writtenMap W f ts) ++ encodeAll W ts) (ap (encodeAt W) e) in omega arith }
+      go : Shape (h .term) → at < length copy
+      go (name n e) = let z = longer (nameByte n) [] (ap (encodeAt W) e) in omega arith
+      go (symbol f ts e) = let z = longer f (writeMap (writtenMap W f ts) ++ encodeAll W ts) (ap (encodeAt W) e) in omega arith
 
   -- A name has no entries.
   pub name-listed : 127 < getD copy at 0 → (before : List ℕ) → TermListed h copy before before (at + 1) 0

@@ -38,7 +38,7 @@ pub fn tally(words: usize, results: &[u8; 96]) -> [u8; 16]
 }
 
 // Chains the first words, from the last to the first: for each word the next one of its result kind, and from 96 on for each
-// kind its lowest word; 255 where there is none.
+// kind its lowest word; 255 where there is none. The next words stand in front: they are read more often, and without an offset.
 pub fn chain(words: usize, results: &[u8; 96]) -> [u8; 112]
     ensures { λ r. ⌜ Chained (min words mostWords) (now (results .entry)) r ⌝ }
 {

@@ -22,7 +22,7 @@ use Rattle.kinds.specs.Kinds.{othersIn}
 use Rattle.maps.proofs.Reading.{map-at}
 use Rattle.complement.specs.Entering.{Written, OthersAt, TermAt, TermListed, PlacesAt, PlacesListed}
 use Rattle.complement.proofs.Places.{Reached, reached-none, map-inside, out-length, done-inside, reached-all, is-bit, reached-clear, place-term, reached-term, both-inside}
-use Rattle.complement.proofs.Terms.{Word, term-begun, term-word, name-listed, own-others-at, own-length, own-inside, word-places, word-listed, word-bare}
+use Rattle.complement.proofs.Terms.{Word, term-inside, term-word, name-listed, own-others-at, own-length, own-inside, word-places, word-listed, word-bare}
 use Rattle.complement.proofs.Writing.{part, back, written-length}
 use Rattle.complement.proofs.list_places.Reads as list-places
 use Rattle.complement.proofs.list_places.Kinds as list-places-kinds
@@ -239,10 +239,10 @@ list-places-returns t c = λ h. all-places t c h
 -- ---- list_term, at a term
 
 list-term-slice-read-first : (t : ℕ) → InTerm list-term-lts.Need-slice-read-first t
-list-term-slice-read-first t c = let z = term-begun (c .before .before .before .pre .1) .inside in search needs
+list-term-slice-read-first t c = let z = term-inside (c .before .before .before .pre .1) in search needs
 
 list-term-add-end : (t : ℕ) → InTerm list-term-lts.Need-add-end t
-list-term-add-end t c = let z = term-begun (c .before .before .before .before .pre .1) .inside in search needs
+list-term-add-end t c = let z = term-inside (c .before .before .before .before .pre .1) in search needs
 
 list-term-returns : (t : ℕ) → InTerm list-term-lts.Need-returns t
 list-term-returns t c = λ h. name-listed h (c .if1 .taken) _
@@ -321,6 +321,7 @@ module _ (t : ℕ) (c : InTerm list-term-lts.After-write-others t) where
       (map t at-word) (now (word-start t at-word .args .results))
       (now (word-start t at-word .args .chains)) (word-start t at-word .args .left) (length (part (c .write-others .result) own-after))
 
+  -- The entries of the other words of its kind.
   abbrev own-written : (h : Standing t at-word) →
       Written (othersBytes (take (word-start t at-word .args .at) (now (word-start t at-word .args .copy))) (othersIn (length (h .vocabulary .words)) (now (word-start t at-word .args .results)) (at-word .wide .result)))
       (room t at-word) (c .write-others .result) own-after
