@@ -126,12 +126,6 @@ fn frame(written: u8, places: u8) -> u16
     (written as u16) + 256 * (places as u16)
 }
 
-fn places_due(frame: u16) -> u16
-    ensures { λ r. ⌜ r ≡ placesIn frame ⌝ }
-{
-    frame / 256 % 256
-}
-
 // The frame without its lowest place.
 fn passed(frame: u16) -> u16
     ensures { λ r. ⌜ TwoMaps r (writtenIn frame / 2) (placesIn frame / 2) ⌝ }
@@ -160,7 +154,7 @@ fn walk_word(p: &[u8], s: &[u8], spans: &mut [u16; 128], from: usize, at: usize)
     let mut i = from + maps::NODE;
     let mut j = at + maps::NODE;
     while 0 < depth {
-        let places = places_due(due);
+        let places = due / 256 % 256;
         if places == 0 {
             depth -= 1;
             due = frames[depth];

@@ -2,16 +2,14 @@
 -- number of turns that the frames and the rest of the situation can take.
 --
 --   read                       the inputs, as they are known at a turn
---   turn, full, place, written    what is known of the place that a turn takes off the frame
+--   turn, written              what is known of the place that a turn takes off the frame
 --
-use mathlib.Core.Path.{_≡_, sym, ap, _∙_}
-use Prim.Native.Nat.{_%_}
+use mathlib.Core.Path.{_≡_, sym, _∙_}
 use native.Mathlib.Nat.{le-refl}
 use native.Mathlib.Omega.{arith}
 use denote.Ref.{now}
 use lib.Dec.{lit<}
 use borrow.Author.Needs.{scaled-fits}
-use Rattle.spans.specs.Frames.{placesIn}
 use Rattle.spans.specs.Walking.{InputsRead}
 use Rattle.spans.proofs.Offsets.{offset-fits}
 use Rattle.spans.proofs.Going.{shared-pattern, shared-situation}
@@ -31,37 +29,30 @@ abbrev μ-loop : tie.MeasureT-loop
 
 -- The inputs, as they are known at a turn.
 read : (c : tie.After-passed Inv-loop μ-loop) →
-    let a = c .before .before .before .before .before .before .before .before .before .before .args in
+    let a = c .before .before .before .before .before .before .before .before .before .args in
     InputsRead (now (a .p)) (now (a .s))
-read c = c .before .before .before .before .before .before .before .before .before .before .pre .0
+read c = c .before .before .before .before .before .before .before .before .before .pre .0
 
 -- A turn that takes the lowest place off the frame.
 turn : (c : tie.After-passed Inv-loop μ-loop) →
-    let at-loop = c .before .before .before .before in
+    let at-loop = c .before .before .before in
     let a = at-loop .before .before .before .before .before .before .args in
     let l = at-loop .loop in
     Turn (now (a .p)) (now (a .s)) (l .frames) (l .spans) (a .from) (l .due) (l .depth) (l .i) (l .j) (c .passed .result)
 turn c =
-    let at-loop-test = c .before .before .before in
+    let at-loop-test = c .before .before in
     record { inv = at-loop-test .before .loop .inv; some = at-loop-test .loop-test .taken; shifted = c .passed .ensures }
-
-full : (c : tie.After-passed Inv-loop μ-loop) → placesIn (c .before .before .before .before .loop .due) ≡ 0 → ⊥
-full c e = c .before .if1 .left (c .before .before .places-due .ensures ∙ e)
-
--- Whether there is a place.
-place : (c : tie.After-passed Inv-loop μ-loop) → c .before .before .places-due .result % 2 ≡ 1 → placesIn (c .before .before .before .before .loop .due) % 2 ≡ 1
-place c odd = sym (ap (λ n. n % 2) (c .before .before .places-due .ensures)) ∙ odd
 
 -- The place is written.
 written : (c : tie.Else3 Inv-loop μ-loop) →
     let at-passed = c .before .before in
-    let at-loop = at-passed .before .before .before .before in
+    let at-loop = at-passed .before .before .before in
     let a = at-loop .before .before .before .before .before .before .args in
     let l = at-loop .loop in
     Written (now (a .p)) (now (a .s)) (l .frames) (l .spans) (a .from) (l .due) (l .depth) (l .i) (l .j) (at-passed .passed .result)
 written c =
     let at-if2 = c .before in
-    record { turn = turn (at-if2 .before); place = place (at-if2 .before) (at-if2 .if2 .taken); bit = c .if3 .left }
+    record { turn = turn (at-if2 .before); place = at-if2 .if2 .taken; bit = c .if3 .left }
 
 map-at-requires : tie.Need-map-at-requires Inv-loop μ-loop
 map-at-requires c κs =
@@ -93,46 +84,43 @@ loop-holds c =
     let start = at-map-at .before .before .before in
     framing-begins (start .pre .1) (rw (at-map-at .map-at .ensures, at-map-at2 .map-at2 .ensures) at (c .frame .ensures))
 
-places-due-requires : tie.Need-places-due-requires Inv-loop μ-loop
-places-due-requires c κs = tt
-
 sub-depth : tie.Need-sub-depth Inv-loop μ-loop
 sub-depth c =
-    let at-loop-test = c .before .before in
+    let at-loop-test = c .before in
     at-loop-test .loop-test .taken
 
 mul-due : tie.Need-mul-due Inv-loop μ-loop
 mul-due c =
-    let at-loop-test = c .before .before in
+    let at-loop-test = c .before in
     let at-loop = at-loop-test .before in
     scaled-fits _ 32 2 (top-slot (at-loop .loop .inv) (at-loop-test .loop-test .taken)) (lit< tt)
 
 array-read-due : tie.Need-array-read-due Inv-loop μ-loop
 array-read-due c =
-    let at-loop-test = c .before .before in
+    let at-loop-test = c .before in
     let at-loop = at-loop-test .before in
     top-slot (at-loop .loop .inv) (at-loop-test .loop-test .taken)
 
 loop-less : tie.Need-loop-less Inv-loop μ-loop
 loop-less c =
-    let at-loop-test = c .before .before in
+    let at-loop-test = c .before in
     let at-loop = at-loop-test .before in
     let start = at-loop .before .before .before .before .before .before in
     left-leave (now (start .args .s)) (at-loop .loop .due) (at-loop .loop .frames) (at-loop .loop .depth) (at-loop .loop .j) (at-loop-test .loop-test .taken)
 
 loop-again : tie.Need-loop-again Inv-loop μ-loop
 loop-again c =
-    let at-places-due = c .before in
-    let at-loop-test = at-places-due .before in
+    let at-loop-test = c .before in
     let at-loop = at-loop-test .before in
-    turn-leave (at-loop .loop .inv) (at-loop-test .loop-test .taken) (sym (at-places-due .places-due .ensures) ∙ c .if1 .taken)
+    turn-leave (at-loop .loop .inv) (at-loop-test .loop-test .taken) (c .if1 .taken)
 
 passed-requires : tie.Need-passed-requires Inv-loop μ-loop
 passed-requires c κs = tt
 
 returns : tie.Need-returns Inv-loop μ-loop
 returns c =
-    let at-loop = c .before .before .before .before .before .before .before in
+    let at-passed = c .before .before .before in
+    let at-loop = at-passed .before .before .before in
     framing-rest (at-loop .loop .inv) (c .if4 .taken)
 
 end-of-requires : tie.Need-end-of-requires Inv-loop μ-loop
@@ -140,22 +128,22 @@ end-of-requires c κs =
     let at-if3 = c .before in
     let at-if2 = at-if3 .before in
     let at-passed = at-if2 .before in
-    open-part (turn at-passed) (place at-passed (at-if2 .if2 .taken)) (at-if3 .if3 .taken) (read at-passed)
+    open-part (turn at-passed) (at-if2 .if2 .taken) (at-if3 .if3 .taken) (read at-passed)
 
 loop-less-2 : tie.Need-loop-less-2 Inv-loop μ-loop
 loop-less-2 c =
     let at-if3 = c .before .before in
     let at-if2 = at-if3 .before in
     let at-passed = at-if2 .before in
-    let end = c .end-of .ensures (open-part (turn at-passed) (place at-passed (at-if2 .if2 .taken)) (at-if3 .if3 .taken) (read at-passed)) in
-    left-on (turn at-passed) (full at-passed) _ (omega arith)
+    let end = c .end-of .ensures (open-part (turn at-passed) (at-if2 .if2 .taken) (at-if3 .if3 .taken) (read at-passed)) in
+    left-on (turn at-passed) (at-passed .before .if1 .left) _ (omega arith)
 
 loop-again-2 : tie.Need-loop-again-2 Inv-loop μ-loop
 loop-again-2 c =
     let at-if3 = c .before .before in
     let at-if2 = at-if3 .before in
     let at-passed = at-if2 .before in
-    turn-opened (turn at-passed) (place at-passed (at-if2 .if2 .taken)) (at-if3 .if3 .taken) _ (c .end-of .ensures)
+    turn-opened (turn at-passed) (at-if2 .if2 .taken) (at-if3 .if3 .taken) _ (c .end-of .ensures)
 
 shared-slice-read-b : tie.Need-shared-slice-read-b Inv-loop μ-loop
 shared-slice-read-b c =
@@ -234,7 +222,7 @@ loop-less-3 c =
     let at-if3 = at-if5 .before .before in
     let at-passed = at-if3 .before .before in
     let here = written at-if3 in
-    left-word (turn at-passed) (full at-passed) _ (word-room here (at-if5 .if5 .taken) (read at-passed)) (part-node here (at-if5 .if5 .taken) (read at-passed))
+    left-word (turn at-passed) (at-passed .before .if1 .left) _ (word-room here (at-if5 .if5 .taken) (read at-passed)) (part-node here (at-if5 .if5 .taken) (read at-passed))
 
 loop-again-3 : tie.Need-loop-again-3 Inv-loop μ-loop
 loop-again-3 c =
@@ -250,7 +238,7 @@ loop-again-3 c =
 loop-less-4 : tie.Need-loop-less-4 Inv-loop μ-loop
 loop-less-4 c =
     let at-passed = c .before .before .before .before .before .before .before .before .before .before in
-    left-on (turn at-passed) (full at-passed) _ (omega arith)
+    left-on (turn at-passed) (at-passed .before .if1 .left) _ (omega arith)
 
 loop-again-4 : tie.Need-loop-again-4 Inv-loop μ-loop
 loop-again-4 c =
@@ -297,7 +285,7 @@ loop-less-5 c =
     let at-if5 = at-wide .before .before in
     let at-if3 = at-if5 .before .before in
     let at-passed = at-if3 .before .before in
-    left-on (turn at-passed) (full at-passed) _ (part-later (written at-if3) (at-if5 .if5 .left) (at-wide .wide .ensures) (at-cover .cover .ensures) (read at-passed) (c .if8 .left))
+    left-on (turn at-passed) (at-passed .before .if1 .left) _ (part-later (written at-if3) (at-if5 .if5 .left) (at-wide .wide .ensures) (at-cover .cover .ensures) (read at-passed) (c .if8 .left))
 
 loop-again-5 : tie.Need-loop-again-5 Inv-loop μ-loop
 loop-again-5 c =
@@ -310,13 +298,12 @@ loop-again-5 c =
 loop-less-6 : tie.Need-loop-less-6 Inv-loop μ-loop
 loop-less-6 c =
     let at-passed = c .before in
-    left-on (turn at-passed) (full at-passed) _ (le-refl _)
+    left-on (turn at-passed) (at-passed .before .if1 .left) _ (le-refl _)
 
 loop-again-6 : tie.Need-loop-again-6 Inv-loop μ-loop
 loop-again-6 c =
     let at-passed = c .before in
-    let at-places-due = at-passed .before .before in
-    turn-gap (turn at-passed) (λ e. c .if2 .left (ap (λ n. n % 2) (at-places-due .places-due .ensures) ∙ e))
+    turn-gap (turn at-passed) (c .if2 .left)
 
 returns-4 : tie.Need-returns-4 Inv-loop μ-loop
 returns-4 c =
@@ -335,7 +322,6 @@ walk-word-spec =
     add-i
     add-j
     loop-holds
-    places-due-requires
     sub-depth
     mul-due
     array-read-due
