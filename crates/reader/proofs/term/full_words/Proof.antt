@@ -1,6 +1,14 @@
+-- `reader::term::full_words` meets its contract. The loop's invariant: reading on from the cursor gives what it gave from the
+-- first cursor on. The measure is a bound on the turns that are left.
+--
+--   word-turn     the turn at a full word, up to where its place is passed
+--   known         the word's number is one of the tables'
+--   past          the cursor behind the word
+--
 use borrow.Author.Needs.{needs}
 use mathlib.Core.Path.{_≡_, refl, sym, ap, subst, _∙_}
 use mathlib.Core.Bool.{true}
+use Prim.Native.Nat.{_<_}
 use native.Mathlib.Omega.{arith}
 use native.Mathlib.Nat.{le-refl, lt-of-lt-of-le}
 use denote.Ref.{now}
@@ -10,22 +18,11 @@ use borrow.Author.Needs.{scaled-fits}
 use borrow.Author.Tests.{not-false}
 use Rattle.reader.specs.Cursors.{pastWord, wentDown, atFrame}
 use Rattle.reader.proofs.Tables.{few-words}
-use Rattle.reader.proofs.Turns.{Turned, turned-none, turned-as, turned-ends, turned-up, turned-advanced, turned-bare, turned-down, FullHere, WordTurn, full-here, word-inside, turnsLeft, less-up, less-advanced, less-bare, less-down, less-as, first-due, none-due, advance-asks, pass-asks, kind-inside, word-asks}
+use Rattle.reader.proofs.Turns.{Turned, turned-none, turned-as, turned-ends, turned-up, turned-advanced, turned-bare, turned-down}
+use Rattle.reader.proofs.Turns.{FullHere, WordTurn, full-here, word-inside, turnsLeft, less-up, less-advanced, less-bare, less-down, less-as}
+use Rattle.reader.proofs.Turns.{first-due, none-due, advance-asks, pass-asks, kind-inside, word-asks}
 use Rattle.reader.proofs.term.full_words.Statement.{statement}
 use Rattle.reader.proofs.term.full_words.Tie as tie
-use Rattle.reader.proofs.term.full_words.Reads as reads
-use Rattle.reader.proofs.term.full_words.Lts as lts
-use Rattle.reader.proofs.cursor.Cursor.down.Reads as down-reads
-use Rattle.reader.proofs.cursor.Cursor.onto.Reads as onto-reads
-use Rattle.reader.proofs.cursor.Cursor.up.Reads as up-reads
-use Rattle.reader.proofs.cursor.Cursor.word.Reads as word-reads
-use Rattle.reader.proofs.frame.advanced.Reads as advanced-reads
-use Rattle.reader.proofs.frame.full.Reads as full-reads
-use Rattle.reader.proofs.frame.kinds.Reads as kinds-reads
-use Rattle.reader.proofs.frame.passed.Reads as passed-reads
-use Rattle.reader.proofs.frame.written.Reads as written-reads
-use Rattle.reader.proofs.node.wide.Reads as wide-reads
-use Rattle.reader.proofs.term.full_word.Reads as full-word-reads
 
 abbrev Inv-loop : tie.InvT-loop
 Inv-loop v t frames₀ words offsets results maps c₀ frames c = Turned v t frames₀ c₀ frames c
@@ -58,9 +55,13 @@ word-turn c =
           (full-here (start .pre .0) (read .full-word .ensures (not-false _ (c .before .before .before .if5 .left))) (c .before .wide .ensures));
     }
 
+known : (c : tie.After-passed Inv-loop μ-loop) → c .before .wide .result < 96
+known c = lt-of-lt-of-le (word-turn c .here .known) (few-words (word-turn c .tables) (word-turn c .bytes))
+
 -- The cursor behind the word.
 past : (c : tie.After-word Inv-loop μ-loop) →
-    c .word .result ≡ pastWord true (atFrame (c .before .before .passed .result) (c .before .before .before .before .before .before .before .before .before .before .before .before .before .before .loop .c))
+    let at-loop = c .before .before .before .before .before .before .before .before .before .before .before .before .before .before in
+    c .word .result ≡ pastWord true (atFrame (c .before .before .passed .result) (at-loop .loop .c))
 past c = c .word .ensures ∙ ap (pastWord true) (c .before .onto2 .ensures)
 
 loop-holds : tie.Need-loop-holds Inv-loop μ-loop
@@ -83,18 +84,23 @@ up-requires c κs = search needs
 
 loop-less : tie.Need-loop-less Inv-loop μ-loop
 loop-less c =
-    let at-loop = c .before .before .before .before .before .before .before in
+    let turn = c .before .before .before .before in
+    let at-loop = turn .before .before .before in
     let t = now (at-loop .before .before .before .args .t) in
-    less-as t (at-loop .loop .frames) (c .up .ensures) (less-up t (at-loop .loop .frames) (at-loop .loop .c) (c .before .before .before .before .before .if1 .taken))
+    less-as t (at-loop .loop .frames) (c .up .ensures) (less-up t (at-loop .loop .frames) (at-loop .loop .c) (turn .before .if1 .taken))
 
 loop-again : tie.Need-loop-again Inv-loop μ-loop
 loop-again c =
     let test = c .before .before in
     let turn = test .before .before in
-    turned-as (c .up .ensures) (turned-up (turn .before .before .before .loop .inv) (turn .before .if1 .taken) (none-due _ (turn .if2 .taken)) (sym (test .before .written .ensures) ∙ test .if3 .taken))
+    let at-loop = turn .before .before .before in
+    turned-as (c .up .ensures)
+    (turned-up (at-loop .loop .inv) (turn .before .if1 .taken) (none-due _ (turn .if2 .taken)) (sym (test .before .written .ensures) ∙ test .if3 .taken))
 
 advanced-requires : tie.Need-advanced-requires Inv-loop μ-loop
-advanced-requires c κs = advance-asks (c .before .before .before .before .before .loop .inv .going .due)
+advanced-requires c κs =
+    let at-loop = c .before .before .before .before .before in
+    advance-asks (at-loop .loop .inv .going .due)
 
 onto-requires : tie.Need-onto-requires Inv-loop μ-loop
 onto-requires c κs = search needs
@@ -109,16 +115,27 @@ loop-less-2 c =
     (λ e. test .if3 .left (test .before .written .ensures ∙ e)))
 
 loop-again-2 : tie.Need-loop-again-2 Inv-loop μ-loop
-loop-again-2 c = turned-as (c .onto .ensures) (turned-advanced (c .before .before .before .before .before .before .before .loop .inv) (c .before .before .before .before .before .if1 .taken) (c .before .advanced .ensures) (none-due _ (c .before .before .before .before .if2 .taken)))
+loop-again-2 c =
+    let test = c .before .before in
+    let turn = test .before .before in
+    let at-loop = turn .before .before .before in
+    turned-as (c .onto .ensures)
+    (turned-advanced (at-loop .loop .inv) (turn .before .if1 .taken) (c .before .advanced .ensures) (none-due _ (turn .if2 .taken)))
 
 kinds-requires : tie.Need-kinds-requires Inv-loop μ-loop
 kinds-requires c κs = search needs
 
 shared-slice-read-kind : tie.Need-shared-slice-read-kind Inv-loop μ-loop
-shared-slice-read-kind c = kind-inside (c .before .before .before .before .before .loop .inv .going .due) (first-due (c .before .before .before .before .before .loop .c .due) (c .before .before .if2 .left)) (c .before .kinds .ensures)
+shared-slice-read-kind c =
+    let turn = c .before .before in
+    let at-loop = turn .before .before .before in
+    kind-inside (at-loop .loop .inv .going .due) (first-due (at-loop .loop .c .due) (turn .if2 .left)) (c .before .kinds .ensures)
 
 returns : tie.Need-returns Inv-loop μ-loop
-returns c = turned-ends (c .before .before .before .before .before .before .loop .inv) (λ low. first-due (c .before .before .before .before .before .before .loop .c .due) (c .before .before .before .if2 .left))
+returns c =
+    let turn = c .before .before .before in
+    let at-loop = turn .before .before .before in
+    turned-ends (at-loop .loop .inv) (λ low. first-due (at-loop .loop .c .due) (turn .if2 .left))
 
 sub-full-word : tie.Need-sub-full-word Inv-loop μ-loop
 sub-full-word c = search needs
@@ -130,10 +147,15 @@ part-full-word-end : tie.Need-part-full-word-end Inv-loop μ-loop
 part-full-word-end c = search needs
 
 full-word-requires : tie.Need-full-word-requires Inv-loop μ-loop
-full-word-requires c κs = few-words (c .before .before .before .before .before .before .before .before .before .before .pre .0) (λ i. c .before .before .before .before .before .before .before .before .before .shared-slice-known .given i .fits)
+full-word-requires c κs =
+    let at-loop = c .before .before .before .before .before .before .before in
+    few-words (at-loop .before .before .before .pre .0) (λ i. at-loop .before .before .shared-slice-known .given i .fits)
 
 returns-2 : tie.Need-returns-2 Inv-loop μ-loop
-returns-2 c = turned-ends (c .before .before .before .before .before .before .before .before .before .loop .inv) (λ low. first-due (c .before .before .before .before .before .before .before .before .before .loop .c .due) (c .before .before .before .before .before .before .if2 .left))
+returns-2 c =
+    let turn = c .before .before .before .before .before .before in
+    let at-loop = turn .before .before .before in
+    turned-ends (at-loop .loop .inv) (λ low. first-due (at-loop .loop .c .due) (turn .if2 .left))
 
 shared-slice-read-wide : tie.Need-shared-slice-read-wide Inv-loop μ-loop
 shared-slice-read-wide c =
@@ -155,11 +177,12 @@ onto-requires-2 c κs = search needs
 word-requires : tie.Need-word-requires Inv-loop μ-loop
 word-requires c κs =
     let turn = word-turn (c .before) in
-    let a = c .before .before .before .before .before .before .before .before .before .before .before .before .before .before .before .before .args in
-    word-asks (c .onto2 .result) (turn .turned .going) (ap (λ d. d .at) (c .onto2 .ensures)) (ap (λ d. d .words) (c .onto2 .ensures)) (turn .here .long) (c .before .before .before .before .before .before .before .before .before .before .before .before .before .before .before .before .good .1 .0 .0)
+    let start = c .before .before .before .before .before .before .before .before .before .before .before .before .before .before .before .before in
+    word-asks (c .onto2 .result) (turn .turned .going) (ap (λ d. d .at) (c .onto2 .ensures)) (ap (λ d. d .words) (c .onto2 .ensures)) (turn .here .long)
+    (start .good .1 .0 .0)
 
 element-copy-out-if6 : tie.Need-element-copy-out-if6 Inv-loop μ-loop
-element-copy-out-if6 c = lt-of-lt-of-le (word-turn (c .before .before) .here .known) (few-words (word-turn (c .before .before) .tables) (word-turn (c .before .before) .bytes))
+element-copy-out-if6 c = known (c .before .before)
 
 mul-frames : tie.Need-mul-frames Inv-loop μ-loop
 mul-frames c = search needs
@@ -168,36 +191,44 @@ element-write-frames : tie.Need-element-write-frames Inv-loop μ-loop
 element-write-frames c = search needs
 
 element-copy-out-full : tie.Need-element-copy-out-full Inv-loop μ-loop
-element-copy-out-full c = lt-of-lt-of-le (word-turn (c .before .before .before .before) .here .known) (few-words (word-turn (c .before .before .before .before) .tables) (word-turn (c .before .before .before .before) .bytes))
+element-copy-out-full c = known (c .before .before .before .before)
 
 mul-full : tie.Need-mul-full Inv-loop μ-loop
-mul-full c = scaled-fits _ 96 2 (lt-of-lt-of-le (word-turn (c .before .before .before .before .before) .here .known) (few-words (word-turn (c .before .before .before .before .before) .tables) (word-turn (c .before .before .before .before .before) .bytes))) (lit< tt)
+mul-full c = scaled-fits _ 96 2 (known (c .before .before .before .before .before)) (lit< tt)
 
 element-copy-out-full-2 : tie.Need-element-copy-out-full-2 Inv-loop μ-loop
-element-copy-out-full-2 c = lt-of-lt-of-le (word-turn (c .before .before .before .before .before) .here .known) (few-words (word-turn (c .before .before .before .before .before) .tables) (word-turn (c .before .before .before .before .before) .bytes))
+element-copy-out-full-2 c = known (c .before .before .before .before .before)
 
 full-requires : tie.Need-full-requires Inv-loop μ-loop
 full-requires c κs = search needs
 
 down-requires : tie.Need-down-requires Inv-loop μ-loop
-down-requires c κs = let depth = ap (λ d. d .depth) (past (c .before .before .before .before .before)) in let room = word-turn (c .before .before .before .before .before .before .before) .room in omega arith
+down-requires c κs =
+    let at-word = c .before .before .before .before .before in
+    let depth = ap (λ d. d .depth) (past at-word) in
+    let room = word-turn (at-word .before .before) .room in
+    omega arith
 
 loop-less-3 : tie.Need-loop-less-3 Inv-loop μ-loop
 loop-less-3 c =
-    let turn = word-turn (c .before .before .before .before .before .before .before .before) in
-    let a = c .before .before .before .before .before .before .before .before .before .before .before .before .before .before .before .before .before .before .before .before .before .before .before .args in
-    less-as (now (a .t)) _ (c .down .ensures ∙ ap (wentDown (c .before .full .result)) (past (c .before .before .before .before .before .before))) (less-down turn (c .before .full .result) (c .before .full .ensures))
+    let at-word = c .before .before .before .before .before .before in
+    let at-passed = at-word .before .before in
+    let start = at-passed .before .before .before .before .before .before .before .before .before .before .before .before .before .before .before in
+    less-as (now (start .args .t)) _ (c .down .ensures ∙ ap (wentDown (c .before .full .result)) (past at-word))
+    (less-down (word-turn at-passed) (c .before .full .result) (c .before .full .ensures))
 
 loop-again-3 : tie.Need-loop-again-3 Inv-loop μ-loop
 loop-again-3 c =
-    let turn = word-turn (c .before .before .before .before .before .before .before .before) in
-    turned-as (c .down .ensures ∙ ap (wentDown (c .before .full .result)) (past (c .before .before .before .before .before .before))) (turned-down turn (c .before .before .before .before .if6 .taken) (c .before .full .ensures))
+    let at-word = c .before .before .before .before .before .before in
+    turned-as (c .down .ensures ∙ ap (wentDown (c .before .full .result)) (past at-word))
+    (turned-down (word-turn (at-word .before .before)) (c .before .before .before .before .if6 .taken) (c .before .full .ensures))
 
 loop-less-4 : tie.Need-loop-less-4 Inv-loop μ-loop
 loop-less-4 c =
-    let turn = word-turn (c .before .before .before .before) in
-    let a = c .before .before .before .before .before .before .before .before .before .before .before .before .before .before .before .before .before .before .before .args in
-    less-as (now (a .t)) (c .before .before .before .before .before .before .before .before .before .before .before .before .before .before .before .before .loop .frames) (past (c .before .before)) (less-bare turn)
+    let at-word = c .before .before in
+    let at-passed = at-word .before .before in
+    let at-loop = at-passed .before .before .before .before .before .before .before .before .before .before .before .before in
+    less-as (now (at-loop .before .before .before .args .t)) (at-loop .loop .frames) (past at-word) (less-bare (word-turn at-passed))
 
 loop-again-4 : tie.Need-loop-again-4 Inv-loop μ-loop
 loop-again-4 c = turned-as (past (c .before .before)) (turned-bare (word-turn (c .before .before .before .before)) (c .if6 .left))
