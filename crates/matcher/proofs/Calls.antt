@@ -6,8 +6,7 @@
 --   found-long                            the table of spans has 128 numbers
 --   Ensured                               what match ensures of a reply
 --   match-refused, match-length, match-yes, match-no    it does so of each answer
---   table-part                            part's span is the one that the table of spans gives the name
---   part-inside, found-inside             .. and lies in the situation
+--   part-inside, found-inside             part's span lies in the situation
 --   Stands                                what part ensures of where its answer stands
 --   part-above, part-found                it does so of each answer
 --
@@ -37,7 +36,7 @@ use Rattle.wire.proofs.Matching as W
 use Rattle.wire.proofs.GroundBytes.{size-least, root-ground}
 use Rattle.wire.proofs.Spans.{coverFrom, SpanHolds, span-covers}
 use Rattle.wire.proofs.SpanTable.{length-table}
-use Rattle.wire.proofs.PartTable.{part-is-table}
+use Rattle.wire.proofs.PartTable.{part-is-table, blank-part}
 use Rattle.inputs.specs.Answers.{inputsRefused}
 use Rattle.inputs.specs.declared.InputsRefusal.{InputsRefusal}
 use Rattle.spans.specs.Answers.{spansNumbers}
@@ -160,24 +159,6 @@ module _ {v p s : List ℕ} (lent : Lent v p s) where
   -- ---- part
 
   module _ (n : ℕ) where
-    -- The table of spans is blank where match would not say yes.
-    blank-span : n < nameCount → spanIn blank n ≡ noSpan
-    blank-span low =
-        ap₂ {C = Span} (λ o l. record { offset = o; bytes = l })
-        (getD-replicate 128 (2 * n) 0 0 (omega arith)) (getD-replicate 128 (2 * n + 1) 0 0 (omega arith))
-
-    pub table-part : n < nameCount → spanIn (matched v p s blank .after) n ≡ partSpan v p s n
-    table-part low = go (W.yes-or-kept v p s blank)
-      where
-        law : (matched v p s blank .reply ≡ yes → n < nameCount → partSpan v p s n ≡ spanIn (matched v p s blank .after) n) ×
-            ((matched v p s blank .reply ≡ yes → ⊥) ⊎ (nameCount ≤ n) → partSpan v p s n ≡ noSpan)
-        law = part-is-table v p s blank n refl
-
-        go : (matched v p s blank .reply ≡ yes) ⊎ ((matched v p s blank .reply ≡ yes → ⊥) × (matched v p s blank .after ≡ blank)) →
-            spanIn (matched v p s blank .after) n ≡ partSpan v p s n
-        go (inl e) = sym (law .0 e low)
-        go (inr (e, kept)) = ap (λ t. spanIn t n) kept ∙ blank-span low ∙ sym (law .1 (inl e))
-
     -- A span of the situation.
     abbrev Inside : Span → Type 0
     Inside y = y .offset + y .bytes ≤ length s
@@ -245,7 +226,7 @@ module _ {v p s : List ℕ} (lent : Lent v p s) where
         {from long : ℕ} (offset : from ≡ getD spans (2 * n) 0) (bytes : long ≡ getD spans (2 * n + 1) 0) where
       here : partSpan v p s n ≡ record { offset = from; bytes = long }
       here =
-          sym (table-part low) ∙ ap (λ t. spanIn t n) (sym table)
+          sym (blank-part v p s n low) ∙ ap (λ t. spanIn t n) (sym table)
           ∙ sym (ap₂ {C = Span} (λ o l. record { offset = o; bytes = l }) offset bytes)
 
       pub found-inside : from + long ≤ length s

@@ -1,16 +1,16 @@
 -- Parts: where the part of a name stands, read off the table of match.
 use mathlib.Core.Path.{_≡_, refl, sym, ap, ap₂, _∙_, subst}
 use mathlib.Core.List.{List, [], _∷_}
-use mathlib.Core.Logic.{_⊎_, inl, inr}
+use mathlib.Core.Logic.{inr}
 use Prim.Native.Nat.{ℕ, _+_, _*_, _<_}
 use native.Mathlib.Omega.{arith}
-use lib.ListN.{getD, replicate, getD-replicate}
+use lib.ListN.{getD, replicate}
 use Rattle.wire.specs.Reply.{accepted}
 use Rattle.wire.specs.TermBytes.{nameCount}
 use Rattle.wire.specs.Matching.{tableLength, Span, noSpan, spanIn, yes, cutOut, PartPromise}
 use Rattle.wire.specs.MatchComputed.{matched, partSpan}
-use Rattle.wire.proofs.Matching.{yes-or-kept, part-keeps}
-use Rattle.wire.proofs.PartTable.{part-is-table}
+use Rattle.wire.proofs.Matching.{part-keeps}
+use Rattle.wire.proofs.PartTable.{part-is-table, blank-part}
 use Rattle.matcher.proofs.Calls.{Lent}
 use Rattle.numbers.specs.Numbers.{replyNumbers, spanSaid}
 use Rattle.pheasantry.specs.Replies.{PartReplied}
@@ -18,11 +18,6 @@ use Rattle.pheasantry.specs.Replies.{PartReplied}
 -- The table as it is lent to match.
 abbrev pub blank : List ℕ
 blank = replicate tableLength 0
-
-blank-span : (n : ℕ) → n < nameCount → spanIn blank n ≡ noSpan
-blank-span n low =
-    ap₂ {C = Span} (λ o l. record { offset = o; bytes = l }) (getD-replicate tableLength (2 * n) 0 0 (omega arith))
-    (getD-replicate tableLength (2 * n + 1) 0 0 (omega arith))
 
 module _ {v p s : List ℕ} (lent : Lent v p s) (n : ℕ) where
   -- What part ensures of its numbers.
@@ -45,17 +40,8 @@ module _ {v p s : List ℕ} (lent : Lent v p s) (n : ℕ) where
   pub part-above : {numbers : List ℕ} → 63 < n → numbers ≡ replyNumbers (accepted (0 ∷ 0 ∷ [])) → Ensured numbers
   part-above l said = replied noSpan said (sym (part-is-table v p s blank n refl .1 (inr (omega arith))))
 
-  -- A table that match did not fill is still blank.
-  table-part : n < nameCount → spanIn (matched v p s blank .after) n ≡ partSpan v p s n
-  table-part low = go (yes-or-kept v p s blank)
-    where
-      go : (matched v p s blank .reply ≡ yes) ⊎ ((matched v p s blank .reply ≡ yes → ⊥) × (matched v p s blank .after ≡ blank)) →
-          spanIn (matched v p s blank .after) n ≡ partSpan v p s n
-      go (inl e) = sym (part-is-table v p s blank n refl .0 e low)
-      go (inr (e, kept)) = ap (λ t. spanIn t n) kept ∙ blank-span n low ∙ sym (part-is-table v p s blank n refl .1 (inl e))
-
   pub part-matched : {table numbers : List ℕ} {o l : ℕ} → n < nameCount → table ≡ matched v p s blank .after →
       o ≡ getD table (2 * n) 0 → l ≡ getD table (2 * n + 1) 0 → numbers ≡ replyNumbers (accepted (o ∷ l ∷ [])) → Ensured numbers
   part-matched {o = o} {l = l} low t e h said =
       replied (record { offset = o; bytes = l }) said
-      (ap₂ {C = Span} (λ a b. record { offset = a; bytes = b }) e h ∙ ap (λ t. spanIn t n) t ∙ table-part low)
+      (ap₂ {C = Span} (λ a b. record { offset = a; bytes = b }) e h ∙ ap (λ t. spanIn t n) t ∙ blank-part v p s n low)
