@@ -10,7 +10,6 @@
 --   is-bit, reached-clear         a turn at a bit that is clear
 --   place-term                    the term of a bit that stands, in the copy whose map is kept up to it
 --   reached-term, both-inside     a turn at such a bit
---   places-none                   a word with no written bit
 --
 use mathlib.Core.Path.{_≡_, refl, sym, ap, ap₂, _∙_, subst}
 use mathlib.Core.Bool.{Bool, true, false, true≢false}
@@ -323,9 +322,3 @@ module _ {copy : List ℕ} {at map : ℕ} {results chains : List ℕ} {left : �
           pub both-inside : n + m ≤ length before
           unfolding place-term
           both-inside = omega (arith, l .written .count, r .written .count, room-here, part-room (r .written) room-done, room-done)
-
-  -- A word with no written bit.
-  pub places-none : map ≡ 0 → PlacesListed h copy before before (at + 2) 0
-  places-none e =
-      let p = reached-all (reached-none {bits = map} refl) e in
-      record { passed = p .passed; restored = refl; written = p .written }

@@ -6,7 +6,7 @@
 --   Word, term-word           the word that stands there, with its map and terms
 --   own-others-at, own-length, own-inside   its own entries have room and are written
 --   word-places               the terms of its bits stand in the copy, and have room behind these entries
---   word-listed, word-bare    the word is listed, with its terms and where it has none
+--   word-listed               the word is listed, with its terms
 --
 use mathlib.Core.Path.{_≡_, refl, sym, ap, ap₂, _∙_, subst}
 use mathlib.Core.Bool.{false, true≢false}
@@ -29,8 +29,7 @@ use Rattle.wire.proofs.EntryWalk.{closed-stands, word-bytes}
 use Rattle.kinds.specs.Kinds.{kindIn, othersIn}
 use Rattle.kinds.proofs.Others.{others-tabled}
 use Rattle.complement.specs.Entering.{OthersAt, Written, TermAt, TermListed, PlacesAt, PlacesListed}
-use Rattle.complement.proofs.Places.{places-none}
-use Rattle.complement.proofs.Writing.{part, back, back-same, part-room, written-none, written-more, written-length}
+use Rattle.complement.proofs.Writing.{part, back, part-room, written-none, written-more, written-length}
 
 -- A term that is no open place is a name or a word.
 data Shape (t : Term) : Type 0 where
@@ -188,7 +187,7 @@ module _ {copy : List ℕ} {at : ℕ} {results chains : List ℕ} {left : ℕ} (
       ∙ ap (λ m. h .front ++ (f ∷ (writeMap m ++ (encodeAll U ts ++ h .rest)))) (sym map-is)
 
   module _ {after : List ℕ} {n : ℕ} (l : Written own-bytes before n after) where
-    pub own-length : length after ≡ length before
+    own-length : length after ≡ length before
     own-length = written-length l own-room
 
     pub own-inside : n ≤ length after
@@ -219,10 +218,3 @@ module _ {copy : List ℕ} {at : ℕ} {results chains : List ℕ} {left : ℕ} (
       restored = p .restored;
       written = subst (λ bytes. Written bytes before (n + n′) (back n after ys)) (sym all-bytes) (written-more l own-room (p .written));
     }
-
-    -- A word with no written place.
-    pub word-bare : m ≡ 0 → TermListed h copy before after (at + 2) n
-    word-bare e =
-        subst (λ o. TermListed h copy before o (at + 2) n) (back-same n after)
-        (subst (TermListed h copy before (back n after (part n after)) (at + 2)) (let z : n + 0 ≡ n = omega arith in z)
-        (word-listed (places-none (part n after) word-places e)))

@@ -4,7 +4,7 @@ use mathlib.Core.List.{List, [], _∷_, _++_, append-nil, append-assoc}
 use Prim.Native.Nat.{ℕ, suc, _+_, _-_, _≤_}
 use native.Mathlib.Numerals.{add-one}
 use native.Mathlib.Omega.{arith}
-use lib.ListN.{length, take, drop, set, length-append, length-drop, take-append-drop}
+use lib.ListN.{length, take, drop, set, length-append, length-drop}
 use lib.Seq.{length-take-le, take-all, take-at, drop-at, drop-drop, drop-length}
 use Rattle.slices.specs.Copied.{copied}
 use Rattle.slices.proofs.Copying.{copied-whole, stored}
@@ -29,10 +29,6 @@ part-is n out = take-all (length out - n) (drop n out) (let e = length-drop n ou
 
 part-end : (n : ℕ) (out : List ℕ) → drop (length out - n) (drop n out) ≡ []
 part-end n out = ap (λ k. drop k (drop n out)) (sym (length-drop n out)) ∙ drop-length (drop n out)
-
--- The part comes back as it was.
-pub back-same : (n : ℕ) (out : List ℕ) → back n out (part n out) ≡ out
-back-same n out = ap (λ l. take n out ++ l) (take-append-drop (length out - n) (drop n out)) ∙ take-append-drop n out
 
 pub part-length : (n : ℕ) (out : List ℕ) → length (part n out) ≡ length out - n
 part-length n out = ap length (part-is n out) ∙ length-drop n out

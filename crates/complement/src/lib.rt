@@ -116,13 +116,6 @@ fn list_term(
     let map = maps::read(copy, at + 1);
     let f = wide(first);
     let n = write_others(copy, at, f, lowest(f, results, chains), chains, out);
-    if map == 0 {
-        let end = at + maps::NODE;
-        return Progress {
-            at: end,
-            written: n,
-        };
-    }
     let below = list_places(copy, at, map, chains, results, left, &mut out[n..]);
     let end = below.at;
     let written = n + below.written;

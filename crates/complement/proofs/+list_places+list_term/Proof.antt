@@ -22,7 +22,7 @@ use Rattle.kinds.specs.Kinds.{othersIn}
 use Rattle.maps.proofs.Reading.{map-at}
 use Rattle.complement.specs.Entering.{Written, OthersAt, TermAt, TermListed, PlacesAt, PlacesListed}
 use Rattle.complement.proofs.Places.{Reached, reached-none, map-inside, out-length, done-inside, reached-all, is-bit, reached-clear, place-term, reached-term, both-inside}
-use Rattle.complement.proofs.Terms.{Word, term-inside, term-word, name-listed, own-others-at, own-length, own-inside, word-places, word-listed, word-bare}
+use Rattle.complement.proofs.Terms.{Word, term-inside, term-word, name-listed, own-others-at, own-inside, word-places, word-listed}
 use Rattle.complement.proofs.Writing.{part, back, written-length}
 use Rattle.complement.proofs.list_places.Reads as list-places
 use Rattle.complement.proofs.list_places.Kinds as list-places-kinds
@@ -333,38 +333,18 @@ module _ (t : ℕ) (c : InTerm list-term-lts.After-write-others t) where
   own-entries-inside : c .write-others .result ≤ length own-after
   own-entries-inside = own-inside (room t at-word) (standing t at-word) (word t at-word (standing t at-word)) (byte t at-word) (mapped t at-word) (own-written (standing t at-word))
 
-list-term-add-end-2 : (t : ℕ) → InTerm list-term-lts.Need-add-end-2 t
-list-term-add-end-2 t c =
-    let at-own = at-word t (c .before .before .before) in
-    let z = word t at-own (standing t at-own) .inside in
-    search needs
-
-list-term-same-length : (t : ℕ) → InTerm list-term-lts.Need-same-length t
-list-term-same-length t c = search needs
-
-list-term-same-length-2 : (t : ℕ) → InTerm list-term-lts.Need-same-length-2 t
-list-term-same-length-2 t c =
-    let own = c .before .before .before in
-    let h = standing t (at-word t own) in
-    own-length (room t (at-word t own)) h (word t (at-word t own) h) (byte t (at-word t own)) (mapped t (at-word t own)) (own-written t own h)
-
-list-term-returns-2 : (t : ℕ) → InTerm list-term-lts.Need-returns-2 t
-list-term-returns-2 t c =
-    let own = c .before .before .before in
-    λ h. word-bare (room t (at-word t own)) h (word t (at-word t own) h) (byte t (at-word t own)) (mapped t (at-word t own)) (own-written t own h) (c .if2 .taken)
-
 list-term-sub-list-places : (t : ℕ) → InTerm list-term-lts.Need-sub-list-places t
-list-term-sub-list-places t c = own-entries-inside t (c .before .before .before .before)
+list-term-sub-list-places t c = own-entries-inside t (c .before .before .before)
 
 list-term-part-list-places-start : (t : ℕ) → InTerm list-term-lts.Need-part-list-places-start t
-list-term-part-list-places-start t c = own-entries-inside t (c .before .before .before .before)
+list-term-part-list-places-start t c = own-entries-inside t (c .before .before .before)
 
 list-term-part-list-places-end : (t : ℕ) → InTerm list-term-lts.Need-part-list-places-end t
 list-term-part-list-places-end t c = search needs
 
 list-term-list-places-requires : (t : ℕ) → InTerm list-term-lts.Need-list-places-requires t
 list-term-list-places-requires t c κs =
-    let own = c .before .before .before .before .before in
+    let own = c .before .before .before .before in
     let begun = word-start t (at-word t own) in
     let p = word-terms t own (standing t (at-word t own)) in
     (omega (arith, begun .pre .0, p .deep), p)
@@ -373,7 +353,7 @@ list-term-list-places-requires t c κs =
 
 module _ (t : ℕ) (c : InTerm list-term-lts.After-list-places t) where
   abbrev own-done : InTerm list-term-lts.After-write-others t
-  own-done = c .before .before .before .before .before .before
+  own-done = c .before .before .before .before .before
 
   -- The whole word is listed.
   abbrev all-listed : (h : Standing t (at-word t own-done)) →
@@ -391,19 +371,19 @@ list-term-add-written t c =
     let h = standing t at-own in
     record { fits = omega (arith, h .fits, all-listed t at-places h .written .count, word-start t at-own .good .1 .1 .1 .1 .1 .0 .0) }
 
-list-term-same-length-3 : (t : ℕ) → InTerm list-term-lts.Need-same-length-3 t
-list-term-same-length-3 t c =
+list-term-same-length : (t : ℕ) → InTerm list-term-lts.Need-same-length t
+list-term-same-length t c =
     let at-places = c .before .before .before .before .before in
     ap length (all-listed t at-places (standing t (at-word t (own-done t at-places))) .restored)
 
-list-term-same-length-4 : (t : ℕ) → InTerm list-term-lts.Need-same-length-4 t
-list-term-same-length-4 t c =
+list-term-same-length-2 : (t : ℕ) → InTerm list-term-lts.Need-same-length-2 t
+list-term-same-length-2 t c =
     let at-places = c .before .before .before .before .before in
     let h = standing t (at-word t (own-done t at-places)) in
     written-length (all-listed t at-places h .written) (h .fits)
 
-list-term-returns-3 : (t : ℕ) → InTerm list-term-lts.Need-returns-3 t
-list-term-returns-3 t c = λ h. all-listed t (c .before .before .before .before .before) h
+list-term-returns-2 : (t : ℕ) → InTerm list-term-lts.Need-returns-2 t
+list-term-returns-2 t c = λ h. all-listed t (c .before .before .before .before .before) h
 
 pub +list-places+list-term-spec : {M : Type 1} → statement M
 +list-places+list-term-spec = close μ-list-places μ-list-term (λ t. list-places-lts.spec (places-claims t) (list-places-at t) list-places.Post
@@ -438,15 +418,11 @@ pub +list-places+list-term-spec : {M : Type 1} → statement M
     (list-term-wide-requires t)
     (list-term-lowest-requires t)
     (list-term-write-others-requires t)
-    (list-term-add-end-2 t)
-    (list-term-same-length t)
-    (list-term-same-length-2 t)
-    (list-term-returns-2 t)
     (list-term-sub-list-places t)
     (list-term-part-list-places-start t)
     (list-term-part-list-places-end t)
     (list-term-list-places-requires t)
     (list-term-add-written t)
-    (list-term-same-length-3 t)
-    (list-term-same-length-4 t)
-    (list-term-returns-3 t)
+    (list-term-same-length t)
+    (list-term-same-length-2 t)
+    (list-term-returns-2 t)
