@@ -265,26 +265,22 @@ fn compare_all(
     tally
 }
 
-fn say_sums(tally: Tally) {
-    say::count(tally.differences, b" differences, offsets ");
-    say::count(tally.offsets, b", lengths ");
-    say::count(tally.lengths, b"\n");
-}
-
 fn say_tally(tally: Tally) {
     say::count(
         plus(plus(tally.yes, tally.no), tally.differences),
-        b" cases, ",
+        say::CASES,
     );
-    say::count(tally.yes, b" yes, ");
-    say::count(tally.no, b" no, ");
-    say_sums(tally);
+    say::count(tally.yes, say::YES);
+    say::count(tally.no, say::NO);
+    say::count(tally.differences, say::DIFFERENCES);
+    say::count(tally.offsets, say::LENGTHS);
+    say::count(tally.lengths, say::END);
 }
 
 // Runs a family and prints its line. Patterns are those of the first p numbers in the first alphabet, situations
 // those of the first s in the second, whose maps are the words' place maps.
 pub(crate) fn family(
-    label: &[u8],
+    label: usize,
     vocabulary: &[u8],
     kind: u8,
     tokens: &[u8],
@@ -293,7 +289,7 @@ pub(crate) fn family(
     s: usize,
 ) {
     say::text(label);
-    say::count(count(vocabulary, kind, tokens, p), b" patterns, ");
-    say::count(count(vocabulary, kind, words, s), b" situations, ");
+    say::count(count(vocabulary, kind, tokens, p), say::PATTERNS);
+    say::count(count(vocabulary, kind, words, s), say::SITUATIONS);
     say_tally(compare_all(vocabulary, kind, tokens, p, words, s));
 }
