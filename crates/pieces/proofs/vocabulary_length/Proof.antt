@@ -1,12 +1,12 @@
--- `report::vocabulary_length` meets its contract.
+-- `pieces::vocabulary_length` meets its contract.
 use mathlib.Core.Path.{_∙_, ap₂}
 use Prim.Native.Nat.{_+_, _*_}
 use native.Mathlib.Omega.{arith}
 use denote.Ref.{now}
-use Rattle.report.proofs.Parts.{length-none, length-two}
+use Rattle.pieces.proofs.Parts.{length-none, length-two}
 use borrow.Author.Needs.{needs}
-use Rattle.report.proofs.vocabulary_length.Statement.{statement}
-use Rattle.report.proofs.vocabulary_length.Tie as tie
+use Rattle.pieces.proofs.vocabulary_length.Statement.{statement}
+use Rattle.pieces.proofs.vocabulary_length.Tie as tie
 
 returns : tie.Need-returns
 returns c = length-none (now (c .before .before .args .input)) (c .if1 .taken)

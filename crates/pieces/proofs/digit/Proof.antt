@@ -1,12 +1,12 @@
--- `report::digit` meets its contract.
+-- `pieces::digit` meets its contract.
 use lib.Dec.{ltb}
 use native.Mathlib.Omega.{arith}
 use mathlib.Core.Path.{_∙_, sym}
 use borrow.Author.Tests.{lt-ltb, le-ltb}
 use Rattle.wire.proofs.Cond.{cond-true, cond-false}
 use borrow.Author.Needs.{needs}
-use Rattle.report.proofs.digit.Statement.{statement}
-use Rattle.report.proofs.digit.Tie as tie
+use Rattle.pieces.proofs.digit.Statement.{statement}
+use Rattle.pieces.proofs.digit.Tie as tie
 
 add-result : tie.Need-add-result
 add-result c = search needs

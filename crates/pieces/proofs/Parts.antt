@@ -39,10 +39,13 @@ pub part-length : (n : ℕ) (l : List ℕ) → length (take (length l - n) (drop
 part-length n l = ap length (to-end n l) ∙ length-drop n l
 
 -- "Only the first 65,536 bytes are taken".
-pub input-taken : (b : List ℕ) (n : ℕ) → n ≡ min (length b) mostInput → take n b ≡ take mostInput b
+input-taken : (b : List ℕ) (n : ℕ) → n ≡ min (length b) mostInput → take n b ≡ take mostInput b
 input-taken b n e = ap (λ (k : ℕ). take k b) (let f : n ≡ min mostInput (length b) = omega arith in f) ∙ take-min mostInput b
 
-module _ (b : List ℕ) (from to n : ℕ) (begins : from ≡ min 2 (length b)) (ends : to ≡ from + n) (size : n ≡ min (vocabularyLength b) (length b - from)) where
+pub front-taken : (b : List ℕ) (n : ℕ) → n ≡ min (length b) mostInput → take (n - 0) b ≡ take mostInput b
+front-taken b n e = ap (λ (k : ℕ). take k b) (let z : n - 0 ≡ n = omega arith in z) ∙ input-taken b n e
+
+module _ (b : List ℕ) (from to n : ℕ) (begins : from ≡ min 2 (length b)) (ends : to ≡ from + n) (size : n ≡ min (vocabularyLength b) (length b - min 2 (length b))) where
   behind : drop from b ≡ drop 2 b
   behind = ap (λ (k : ℕ). drop k b) begins ∙ drop-min 2 b
 
