@@ -1,6 +1,6 @@
 // The text that document 01's program `leftovers` prints for its standard input.
 ghost use mathlib.Core.Path.{_≡_};
-ghost use mathlib.Core.List.{_++_};
+ghost use mathlib.Core.List.{[], _∷_, _++_};
 ghost use Prim.Native.Nat.{_+_, _≤_};
 ghost use lib.ListN.{length, take};
 ghost use Rattle.wire.specs.Text.{decimal, hexadecimal};
@@ -27,15 +27,15 @@ fn put(bytes: &[u8], text: &mut [u8], at: usize) -> usize
     next
 }
 
-// Puts a number in decimal, and bytes behind it.
-fn put_number(n: u64, behind: &[u8], text: &mut [u8], at: usize) -> usize
-    requires { ⌜ at + length (decimal n ++ now behind) ≤ length (now text) ⌝ }
-    ensures { λ r. ⌜ Put (decimal n ++ now (behind .entry)) (now (text .entry)) at r (now (text .exit)) ⌝ }
+// Puts a number in decimal, and a byte behind it.
+fn put_number(n: u64, behind: u8, text: &mut [u8], at: usize) -> usize
+    requires { ⌜ at + length (decimal n ++ (behind ∷ [])) ≤ length (now text) ⌝ }
+    ensures { λ r. ⌜ Put (decimal n ++ (behind ∷ [])) (now (text .entry)) at r (now (text .exit)) ⌝ }
 {
     let mut digits = [0u8; 20];
     let k = io::decimal(n, &mut digits);
     let next = put(&digits[0..k], text, at);
-    put(behind, text, next)
+    put(&[behind], text, next)
 }
 
 // Puts bytes in hexadecimal.
@@ -60,7 +60,7 @@ fn put_line(number: u64, entry: &[u8], text: &mut [u8], at: usize) -> usize
     requires { ⌜ at + length (entryLine number (now entry)) ≤ length (now text) ⌝ }
     ensures { λ r. ⌜ Put (entryLine number (now (entry .entry))) (now (text .entry)) at r (now (text .exit)) ⌝ }
 {
-    let numbered = put_number(number, b" ", text, at);
+    let numbered = put_number(number, b' ', text, at);
     let written = put_hexadecimal(entry, text, numbered);
     put(b"\n", text, written)
 }
@@ -119,7 +119,7 @@ fn put_listing(listing: &[u8], n: u64, text: &mut [u8]) -> usize
     ensures { λ r. ⌜ Put (cutText n (now (listing .entry))) (now (text .entry)) 0 r (now (text .exit)) ⌝ }
 {
     let named = put(b"leftovers ", text, 0);
-    let counted = put_number(n, b"\n", text, named);
+    let counted = put_number(n, b'\n', text, named);
     put_lines(listing, n, text, counted)
 }
 
@@ -129,9 +129,9 @@ fn put_refusal(line: u64, input: u64, place: u64, text: &mut [u8]) -> usize
     ensures { λ r. ⌜ Put (refusalText line input place) (now (text .entry)) 0 r (now (text .exit)) ⌝ }
 {
     let a = put(b"refused ", text, 0);
-    let b = put_number(line, b" ", text, a);
-    let c = put_number(input, b" ", text, b);
-    put_number(place, b"\n", text, c)
+    let b = put_number(line, b' ', text, a);
+    let c = put_number(input, b' ', text, b);
+    put_number(place, b'\n', text, c)
 }
 
 // Puts the text for an answer of list, with the entries in the lent slice.
