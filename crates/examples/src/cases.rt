@@ -18,8 +18,6 @@ use crate::match_line;
 use crate::notation;
 use crate::report_line;
 use crate::say;
-ghost use Prim.Native.Nat.{_≤_};
-ghost use lib.ListN.{length};
 
 // A line's first byte, and a number sign for an empty line.
 fn key(line: &[u8]) -> u8 {
@@ -36,53 +34,77 @@ fn of_report(key: u8) -> bool {
     key == b'd'
 }
 
-// Runs the cases of a text.
-pub(crate) fn all(text: &[u8]) {
-    let mut vocabulary = [0u8; 4097];
-    let mut size = 0;
+// The line at an offset.
+fn line_at(text: &[u8], at: usize) -> &[u8] {
+    notation::before(notation::between(text, at, text.len()), b'\n')
+}
+
+// Runs the cases of the first n bytes of a text.
+pub(crate) fn all(text: &[u8; 131072], n: usize) {
+    lines(notation::between(text, 0, n));
+}
+
+fn lines(text: &[u8]) {
+    let mut under = 0;
     let mut at = 0;
     while at < text.len() {
-        let end = notation::find(text, at, b'\n');
-        size = line(&text[at..end], &mut vocabulary, size);
-        at = end + 1;
+        let size = notation::find(&text[at..], b'\n');
+        if text[at] == b'u' {
+            under = at;
+        }
+        line(line_at(text, at), line_at(text, under));
+        at += size + 1;
     }
 }
 
-// Runs the case of a line, or takes its vocabulary. Says how long the vocabulary is then.
-fn line(line: &[u8], vocabulary: &mut [u8], size: usize) -> usize {
+// Runs the case of a line, with the line that has its vocabulary.
+fn line(line: &[u8], under: &[u8]) {
     let asked = key(line);
     if asked == b'#' {
-        return size;
-    }
-    let colon = notation::find(line, 0, b':');
-    say::text(&line[0..colon]);
-    if asked == b'u' {
-        say::text(b"\n");
-        return notation::decode(&line[colon..], vocabulary);
-    }
-    say::text(b": ");
-    case(notation::between(vocabulary, 0, size), line, colon);
-    size
-}
-
-fn case(vocabulary: &[u8], line: &[u8], colon: usize)
-    requires { ⌜ colon ≤ length (now line) ⌝ }
-{
-    if of_report(key(line)) {
-        report_line::printed(key(line), &line[colon..]);
         return;
     }
-    let slash = notation::find(line, colon, b'/');
-    let mut one = [0u8; 4097];
-    let mut other = [0u8; 4097];
-    let n = notation::decode(&line[colon..slash], &mut one);
-    let m = notation::decode(&line[slash..], &mut other);
+    say::text(notation::before(line, b':'));
+    if asked == b'u' {
+        say::fixed(say::END);
+        return;
+    }
+    say::fixed(say::COLON);
+    case(line, notation::onward(under, b':'));
+}
+
+fn case(line: &[u8], vocabulary: &[u8]) {
+    if of_report(key(line)) {
+        report_line::printed(key(line), notation::onward(line, b':'));
+        return;
+    }
+    let mut bytes = [0u8; 4097];
+    let n = notation::decode(vocabulary, &mut bytes);
+    under(line, notation::between(&bytes, 0, n));
+}
+
+// The case of a line under a vocabulary.
+fn under(line: &[u8], vocabulary: &[u8]) {
+    let mut bytes = [0u8; 4097];
+    let n = notation::decode(
+        notation::before(notation::onward(line, b':'), b'/'),
+        &mut bytes,
+    );
+    beside(line, vocabulary, notation::between(&bytes, 0, n));
+}
+
+// The same with the bytes before the slash.
+fn beside(line: &[u8], vocabulary: &[u8], one: &[u8]) {
+    let mut bytes = [0u8; 4097];
+    let n = notation::decode(
+        notation::onward(notation::onward(line, b':'), b'/'),
+        &mut bytes,
+    );
     call(
         key(line),
-        notation::number(notation::word(notation::behind(line))),
+        notation::number(line, b' '),
         vocabulary,
-        notation::between(&one, 0, n),
-        notation::between(&other, 0, m),
+        one,
+        notation::between(&bytes, 0, n),
     );
 }
 

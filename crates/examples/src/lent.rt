@@ -1,17 +1,10 @@
 // The lent table of match: filled before the call with numbers that no entry of an answer can be, and told after
 // it by what each entry is.
 use crate::say;
-ghost use Prim.Native.Nat.{_≤_};
 
 // What the lent table holds at an index before the call.
 fn mark(i: usize) -> u16 {
-    60000 + remainder(i)
-}
-
-fn remainder(i: usize) -> u16
-    ensures { λ r. ⌜ r ≤ 999 ⌝ }
-{
-    (i % 1000) as u16
+    (60000 + i % 1000) as u16
 }
 
 pub(crate) fn filled() -> [u16; 130] {
@@ -24,33 +17,24 @@ pub(crate) fn filled() -> [u16; 130] {
     out
 }
 
-// The next number, as far as a count of entries goes.
-fn one_more(n: usize) -> usize {
-    if n < 130 { n + 1 } else { n }
-}
-
-// How many entries are as they were lent.
-fn as_lent(table: &[u16]) -> usize {
-    let mut n = 0;
-    let mut i = 0;
-    while i < table.len() {
-        if table[i] == mark(i) {
-            n = one_more(n);
-        }
-        i += 1;
+// What an entry is: 0 as it was lent, 1 zero, 2 another number.
+fn sort(i: usize, value: u16) -> u8 {
+    if value == 0 {
+        return 1;
     }
-    n
+    if value == mark(i) { 0 } else { 2 }
 }
 
-// How many entries are 0.
-fn zeros(table: &[u16]) -> usize {
+// How many entries are of a sort.
+fn count(table: &[u16], wanted: u8) -> usize {
     let mut n = 0;
     let mut i = 0;
     while i < table.len() {
-        if table[i] == 0 {
-            n = one_more(n);
-        }
+        let found = sort(i, table[i]);
         i += 1;
+        if found == wanted {
+            n += 1;
+        }
     }
     n
 }
@@ -59,27 +43,28 @@ fn wide(value: u16) -> usize {
     value as usize
 }
 
-// Prints an index and its entry.
+// Prints an index and its entry, if it is another number.
 fn entry(i: usize, value: u16) {
-    say::text(b" ");
-    say::count(i, b"=");
-    say::count(wide(value), b"");
+    if sort(i, value) == 2 {
+        say::fixed(say::BLANK);
+        say::count(i, say::EQUALS);
+        say::count(wide(value), say::NOTHING);
+    }
+}
+
+fn entries(table: &[u16]) {
+    let mut i = 0;
+    while i < table.len() {
+        entry(i, table[i]);
+        i += 1;
+    }
 }
 
 // Prints how many entries are as lent, how many are 0, and all the others.
 pub(crate) fn contents(table: &[u16]) {
-    say::text(b", ");
-    say::count(as_lent(table), b" as lent, ");
-    say::count(zeros(table), b" zero");
-    let mut i = 0;
-    while i < table.len() {
-        let value = table[i];
-        if value != 0 {
-            if value != mark(i) {
-                entry(i, value);
-            }
-        }
-        i += 1;
-    }
-    say::text(b"\n");
+    say::fixed(say::COMMA);
+    say::count(count(table, 0), say::AS_LENT);
+    say::count(count(table, 1), say::ZERO);
+    entries(table);
+    say::fixed(say::END);
 }

@@ -1,14 +1,15 @@
 // List on one case: calls it and prints the reply and the slice. The lent slice is filled with 238 (ee) before the call.
 use crate::notation;
 use crate::say;
+use numbers::Numbers;
 use reader::TermAnswer;
 ghost use Prim.Native.Nat.{_<_};
 ghost use lib.ListN.{length};
 
 // How many bytes of the slice the entries have.
-fn written(line: u64, bytes: u64) -> usize {
-    if line == 0 {
-        return bytes as usize;
+fn written(given: Numbers) -> usize {
+    if given[0] == 0 {
+        return given[2] as usize;
     }
     0
 }
@@ -38,19 +39,17 @@ fn as_lent(bytes: &[u8]) -> usize {
     n
 }
 
-// Tells the sum of the entries' bytes, n in all, and how many bytes behind them are as lent.
-fn told_sum(n: usize, out: &[u8]) {
-    let behind = notation::between(out, n, out.len());
-    say::text(b", sum ");
-    say::count(sum(notation::between(out, 0, n)), b", ");
-    say::count(as_lent(behind), b" of ");
-    say::count(behind.len(), b" behind as lent\n");
+// Tells how many bytes behind the entries are as lent.
+fn told_behind(behind: &[u8]) {
+    say::count(as_lent(behind), say::OF);
+    say::count(behind.len(), say::BEHIND);
 }
 
-// Tells the whole slice.
-fn told_whole(out: &[u8]) {
-    say::text(b", ");
-    say::bytes(out);
+// Tells the sum of the entries' bytes, n in all, and how many bytes behind them are as lent.
+fn told_sum(n: usize, out: &[u8]) {
+    say::fixed(say::SUM);
+    say::count(sum(notation::between(out, 0, n)), say::COMMA);
+    told_behind(notation::between(out, n, out.len()));
 }
 
 fn accepted(vocabulary: &[u8], term: &[u8]) -> bool {
@@ -76,20 +75,6 @@ fn entry_end(vocabulary: &[u8], entries: &[u8], from: usize) -> usize
     to
 }
 
-fn same(one: &[u8], other: &[u8]) -> bool {
-    if one.len() != other.len() {
-        return false;
-    }
-    let mut i = 0;
-    while i < one.len() {
-        if one[i] != other[i] {
-            return false;
-        }
-        i += 1;
-    }
-    true
-}
-
 // As which of the entries, from 1, the sought one stands there, or 0.
 fn place(vocabulary: &[u8], sought: &[u8], entries: &[u8]) -> usize {
     let mut number = 0;
@@ -97,7 +82,7 @@ fn place(vocabulary: &[u8], sought: &[u8], entries: &[u8]) -> usize {
     while at < entries.len() {
         let end = entry_end(vocabulary, entries, at);
         number += 1;
-        if same(notation::between(entries, at, end), sought) {
+        if slices::equal(notation::between(entries, at, end), sought) {
             return number;
         }
         at = end;
@@ -106,38 +91,42 @@ fn place(vocabulary: &[u8], sought: &[u8], entries: &[u8]) -> usize {
 }
 
 // Tells where the sought entry stands.
-fn told_place(vocabulary: &[u8], sought: &[u8], entries: &[u8]) {
-    let number = place(vocabulary, sought, entries);
+fn told_place(number: usize) {
     if number == 0 {
-        say::text(b", it is no entry\n");
+        say::fixed(say::NO_ENTRY);
         return;
     }
-    say::text(b", it is entry ");
-    say::count(number, b"\n");
+    say::fixed(say::ENTRY);
+    say::count(number, say::END);
+}
+
+// Tells what the line asks of the slice: the sum of its entries, n bytes in all, where the sought one stands, or
+// the whole slice.
+fn told(key: u8, vocabulary: &[u8], sought: &[u8], out: &[u8], n: usize) {
+    if key == b's' {
+        told_sum(n, out);
+        return;
+    }
+    if key == b'f' {
+        told_place(place(vocabulary, sought, notation::between(out, 0, n)));
+        return;
+    }
+    say::fixed(say::COMMA);
+    say::bytes(out);
 }
 
 // Lists into the lent slice, and tells the answer and what the line asks of the slice.
 fn asked(key: u8, vocabulary: &[u8], pattern: &[u8], sought: &[u8], out: &mut [u8]) {
     let given = numbers::list_numbers(complement::list(vocabulary, pattern, out));
-    say::reply(given[0], given[1], given[2]);
-    let n = written(given[0], given[2]);
-    if key == b'l' {
-        told_whole(out);
-    }
-    if key == b's' {
-        told_sum(n, out);
-    }
-    if key == b'f' {
-        told_place(vocabulary, sought, notation::between(out, 0, n));
-    }
+    say::reply(given);
+    told(key, vocabulary, sought, out, written(given));
 }
 
 // Lends the first so many bytes of a slice.
 fn lend(key: u8, vocabulary: &[u8], pattern: &[u8], sought: &[u8], out: &mut [u8], length: usize) {
-    if out.len() < length {
-        return;
+    if length <= out.len() {
+        asked(key, vocabulary, pattern, sought, &mut out[0..length]);
     }
-    asked(key, vocabulary, pattern, sought, &mut out[0..length]);
 }
 
 // Lists into so many bytes, at most 524,288.

@@ -13,5 +13,5 @@ use libc::STDIN_FILENO;
 fn main() {
     let mut input = [0u8; 131072];
     let n = io::read_full(STDIN_FILENO, &mut input);
-    cases::all(&input[..n]);
+    cases::all(&input, n);
 }

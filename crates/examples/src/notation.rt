@@ -1,15 +1,12 @@
 // The text of the cases: its lines, its numbers, and its bytes in hexadecimal.
-ghost use mathlib.Core.Path.{_≡_};
-ghost use Prim.Native.Nat.{_≤_, _<_};
+ghost use Prim.Native.Nat.{_≤_};
 ghost use lib.ListN.{length};
 
-// The offset of the next such byte from an offset on, or the text's length.
-pub(crate) fn find(text: &[u8], from: usize, byte: u8) -> usize
-    requires { ⌜ from ≤ length (now text) ⌝ }
-    ensures { λ r. ⌜ from ≤ r ⌝ }
+// The offset of the first such byte, or the text's length.
+pub(crate) fn find(text: &[u8], byte: u8) -> usize
     ensures { λ r. ⌜ r ≤ length (now (text .entry)) ⌝ }
 {
-    let mut at = from;
+    let mut at = 0;
     while at < text.len() {
         if text[at] == byte {
             return at;
@@ -21,78 +18,88 @@ pub(crate) fn find(text: &[u8], from: usize, byte: u8) -> usize
 
 // The part from an offset up to an end, and no byte where it does not lie within the text.
 pub(crate) fn between(text: &[u8], from: usize, to: usize) -> &[u8] {
-    if text.len() < to {
-        return &text[0..0];
+    if to <= text.len() {
+        if from <= to {
+            return &text[from..to];
+        }
     }
-    if to < from {
-        return &text[0..0];
-    }
-    &text[from..to]
+    &text[0..0]
 }
 
-// The first word of a text, up to a blank.
-pub(crate) fn word(text: &[u8]) -> &[u8] {
-    let blank = find(text, 0, b' ');
-    &text[0..blank]
+// What a text has from the first such byte on.
+pub(crate) fn onward(text: &[u8], byte: u8) -> &[u8] {
+    let at = find(text, byte);
+    &text[at..]
 }
 
-// What stands behind the first blank.
-pub(crate) fn behind(text: &[u8]) -> &[u8] {
-    let blank = find(text, 0, b' ');
-    between(text, blank + 1, text.len())
+// What a text has before the first such byte.
+pub(crate) fn before(text: &[u8], byte: u8) -> &[u8] {
+    let at = find(text, byte);
+    &text[0..at]
+}
+
+// The field of a row that stands behind so many bars, without its own bar.
+pub(crate) fn field(row: &[u8], number: usize) -> &[u8] {
+    let mut left = number;
+    let mut at = 0;
+    while at < row.len() {
+        if left == 0 {
+            return before(&row[at..], b'|');
+        }
+        if row[at] == b'|' {
+            left -= 1;
+        }
+        at += 1;
+    }
+    &row[0..0]
 }
 
 pub(crate) fn wide(byte: u8) -> usize
-    ensures { λ r. ⌜ r ≡ byte ⌝ }
-    ensures { λ r. ⌜ r < 256 ⌝ }
+    ensures { λ r. ⌜ r ≤ 255 ⌝ }
 {
     byte as usize
 }
 
-// A hexadecimal digit's value, and 16 of any other character.
+// A hexadecimal digit's value, and 15 of any other character.
 fn digit(character: u8) -> u8
-    ensures { λ r. ⌜ r ≤ 16 ⌝ }
+    ensures { λ r. ⌜ r ≤ 15 ⌝ }
 {
     if character < 48 {
-        return 16;
+        return 15;
     }
     if character < 58 {
         return character - 48;
     }
     if character < 97 {
-        return 16;
+        return 15;
     }
-    if character < 103 { character - 87 } else { 16 }
+    if character < 103 { character - 87 } else { 15 }
 }
 
-// A number and one more decimal digit, as far as 64 bits go.
-fn longer(n: usize, digit: u8) -> usize
-    requires { ⌜ digit < 10 ⌝ }
-{
-    if 1844674407370955161 < n {
-        return n;
-    }
-    if n < 1844674407370955161 {
-        return 10 * n + wide(digit);
-    }
-    if 5 < digit {
-        return n;
-    }
-    10 * n + wide(digit)
+// A number of 64 bits and one more decimal digit.
+fn longer(n: usize, digit: u8) -> usize {
+    let tenfold = std::num::wrapping_add_usize(n << 3, n << 1);
+    std::num::wrapping_add_usize(tenfold, wide(digit))
 }
 
-// The number that the decimal digits of a text write.
-pub(crate) fn number(text: &[u8]) -> usize {
+// The number that the decimal digits from an offset on write.
+fn number_at(text: &[u8], from: usize) -> usize {
     let mut n = 0;
-    let mut at = 0;
+    let mut at = from;
     while at < text.len() {
         let d = digit(text[at]);
-        at += 1;
-        if d < 10 {
-            n = longer(n, d);
+        if 9 < d {
+            return n;
         }
+        n = longer(n, d);
+        at += 1;
     }
     n
+}
+
+// The number behind the first such byte.
+pub(crate) fn number(text: &[u8], byte: u8) -> usize {
+    number_at(text, find(text, byte) + 1)
 }
 
 // Puts a byte behind the first n of a buffer, where there is room, and says how many there are then.
@@ -122,20 +129,15 @@ fn copy(out: &mut [u8], n: usize, from: usize, count: usize) -> usize {
     end
 }
 
-// The offset and the count of a copy stand on both sides of a comma.
-fn again(token: &[u8], out: &mut [u8], n: usize) -> usize {
-    let comma = find(token, 0, b',');
-    copy(out, n, number(&token[0..comma]), number(&token[comma..]))
-}
-
+// Writes the bytes of a token behind the first n of a buffer.
 fn token(token: &[u8], out: &mut [u8], n: usize) -> usize {
     if token.len() < 2 {
         return n;
     }
     if token[0] == b'[' {
-        return again(token, out, n);
+        return copy(out, n, number_at(token, 1), number(token, b','));
     }
-    put(out, n, 16 * (digit(token[0]) % 16) + digit(token[1]) % 16)
+    put(out, n, 16 * digit(token[0]) + digit(token[1]))
 }
 
 // Writes the bytes that a text stands for into a buffer, and says how many they are. Blanks stand between the
@@ -144,9 +146,9 @@ pub(crate) fn decode(text: &[u8], out: &mut [u8]) -> usize {
     let mut n = 0;
     let mut at = 0;
     while at < text.len() {
-        let end = find(text, at, b' ');
-        n = token(&text[at..end], out, n);
-        at = end + 1;
+        let size = find(&text[at..], b' ');
+        n = token(&text[at..at + size], out, n);
+        at += size + 1;
     }
     n
 }

@@ -6,8 +6,8 @@ use crate::say;
 // Tells the whole text, or its length and a sum of its bytes.
 fn told(key: u8, text: &[u8]) {
     if key == b'd' {
-        say::count(text.len(), b" bytes, sum ");
-        say::count(list_line::sum(text), b"\n");
+        say::count(text.len(), say::BYTES);
+        say::count(list_line::sum(text), say::END);
         return;
     }
     say::text(text);

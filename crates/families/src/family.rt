@@ -7,10 +7,9 @@ use matcher::MatchAnswer;
 use reader::TermAnswer;
 ghost use Prim.Native.Nat.{_≤_};
 
-// What a family came to: how many cases, yes, no and differences, and of all the tables that a yes filled the
-// sum of the offsets and the sum of the lengths.
+// What a family came to: how many yes, no and differences, and of all the tables that a yes filled the sum of
+// the offsets and the sum of the lengths.
 struct Tally {
-    cases: usize,
     yes: usize,
     no: usize,
     differences: usize,
@@ -18,148 +17,77 @@ struct Tally {
     lengths: usize,
 }
 
-// Writes a token of an alphabet at an offset, and says where it ends.
-fn put(alphabet: &[u8], token: usize, out: &mut [u8; 16], at: usize) -> usize {
+// The first n bytes of an array.
+struct Term {
+    bytes: [u8; 16],
+    n: usize,
+}
+
+// Adds a token of an alphabet to a term.
+fn longer(term: Term, alphabet: &[u8], token: usize) -> Term {
+    let mut bytes = term.bytes;
+    let n = term.n;
     if alphabet.len() / 2 <= token {
-        return at;
+        return term;
     }
-    if 14 < at {
-        return at;
+    if 14 < n {
+        return term;
     }
-    let byte = alphabet[2 * token];
-    out[at] = byte;
-    if 127 < byte {
-        return at + 1;
+    bytes[n] = alphabet[2 * token];
+    bytes[n + 1] = alphabet[2 * token + 1];
+    Term {
+        bytes: bytes,
+        n: n + size(bytes[n]),
     }
-    out[at + 1] = alphabet[2 * token + 1];
-    at + 2
 }
 
-// Writes a kind, and behind it so many tokens: those that a number's digits stand for, the lowest first. Says
-// where they end, or 0 where the number has more digits.
-fn spell(alphabet: &[u8], kind: u8, tokens: usize, number: usize, out: &mut [u8; 16]) -> usize {
+// How many bytes the token that begins with a byte has.
+fn size(byte: u8) -> usize
+    ensures { λ r. ⌜ r ≤ 2 ⌝ }
+{
+    if 127 < byte { 1 } else { 2 }
+}
+
+// A kind, and behind it the tokens that the digits of a number stand for, the lowest first: digit 1 is for the
+// first token of the alphabet, and there is no digit 0, so each row of tokens has one number.
+fn spelled(alphabet: &[u8], kind: u8, number: usize) -> Term {
     let base = alphabet.len() / 2;
-    if base == 0 {
-        return 0;
-    }
-    out[0] = kind;
-    let mut at: usize = 1;
+    let mut term = Term {
+        bytes: [kind; 16],
+        n: 1,
+    };
     let mut rest = number;
-    let mut i = 0;
-    while i < tokens {
-        at = put(alphabet, rest % base, out, at);
-        rest = rest / base;
-        i += 1;
+    while 0 < rest {
+        if base == 0 {
+            return term;
+        }
+        term = longer(term, alphabet, (rest - 1) % base);
+        rest = (rest - 1) / base;
     }
-    if rest == 0 { at } else { 0 }
+    term
 }
 
-// The bytes from an offset up to an end.
-fn between(bytes: &[u8], from: usize, to: usize) -> &[u8] {
-    if bytes.len() < to {
-        return &bytes[0..0];
-    }
-    if to < from {
-        return &bytes[0..0];
-    }
-    &bytes[from..to]
-}
-
-// Whether the first so many bytes are an accepted term.
-fn accepted(vocabulary: &[u8], bytes: &[u8; 16], n: usize) -> bool {
-    match reader::check_term(vocabulary, between(bytes, 0, n)) {
+// Whether a term is accepted.
+fn accepted(vocabulary: &[u8], term: Term) -> bool {
+    let bytes = term.bytes;
+    match reader::check_term(vocabulary, addresses::between(&bytes, 0, term.n)) {
         TermAnswer::Accepted(_, _) => true,
         TermAnswer::Vocabulary(_) => false,
         TermAnswer::Term(_) => false,
     }
 }
 
-fn small(n: usize) -> u8 {
-    if n < 16 { n as u8 } else { 0 }
-}
-
-fn wide(b: u8) -> usize
-    ensures { λ r. ⌜ r ≤ 15 ⌝ }
-{
-    if b < 16 {
-        return b as usize;
-    }
-    0
-}
-
-// Keeps a term behind so many others, 16 bytes each: its length and its bytes. Says how many there are then.
-fn keep(store: &mut [u8; 32768], kept: usize, term: &[u8; 16], n: usize) -> usize {
-    if 2047 < kept {
-        return kept;
-    }
-    store[16 * kept] = small(n);
-    let mut i = 0;
-    while i < 15 {
-        store[16 * kept + 1 + i] = term[i];
-        i += 1;
-    }
-    kept + 1
-}
-
-// The term that was kept behind so many others.
-fn kept_term(store: &[u8; 32768], k: usize) -> &[u8] {
-    if 2047 < k {
-        return between(store, 0, 0);
-    }
-    between(store, 16 * k + 1, 16 * k + 1 + wide(store[16 * k]))
-}
-
-// Keeps every accepted term of a kind that has so many tokens.
-fn keep_size(
-    vocabulary: &[u8],
-    alphabet: &[u8],
-    kind: u8,
-    tokens: usize,
-    store: &mut [u8; 32768],
-    before: usize,
-) -> usize {
-    let mut kept = before;
+// How many of the terms of the first so many numbers are accepted.
+fn count(vocabulary: &[u8], kind: u8, alphabet: &[u8], most: usize) -> usize {
+    let mut n = 0;
     let mut number = 0;
-    while number < 1000000 {
-        let mut term = [0u8; 16];
-        let n = spell(alphabet, kind, tokens, number, &mut term);
-        if n == 0 {
-            return kept;
-        }
-        if accepted(vocabulary, &term, n) {
-            kept = keep(store, kept, &term, n);
-        }
+    while number < most {
         number += 1;
-    }
-    kept
-}
-
-// Keeps every accepted term of a kind that has at most so many tokens.
-fn keep_all(
-    vocabulary: &[u8],
-    alphabet: &[u8],
-    kind: u8,
-    most: usize,
-    store: &mut [u8; 32768],
-) -> usize {
-    let mut kept = 0;
-    let mut tokens = 0;
-    while tokens < most {
-        tokens += 1;
-        kept = keep_size(vocabulary, alphabet, kind, tokens, store, kept);
-    }
-    kept
-}
-
-fn same_table(one: &[u16; 128], other: &[u16; 128]) -> bool {
-    let mut i = 0;
-    while i < 128 {
-        if one[i] != other[i] {
-            return false;
+        if accepted(vocabulary, spelled(alphabet, kind, number)) {
+            n = plus(n, 1);
         }
-        i += 1;
     }
-    true
+    n
 }
 
 fn plus(a: usize, b: usize) -> usize {
@@ -170,6 +98,26 @@ fn plus(a: usize, b: usize) -> usize {
         return a;
     }
     a + b
+}
+
+fn add(one: Tally, other: Tally) -> Tally {
+    Tally {
+        yes: plus(one.yes, other.yes),
+        no: plus(one.no, other.no),
+        differences: plus(one.differences, other.differences),
+        offsets: plus(one.offsets, other.offsets),
+        lengths: plus(one.lengths, other.lengths),
+    }
+}
+
+fn nothing() -> Tally {
+    Tally {
+        yes: 0,
+        no: 0,
+        differences: 0,
+        offsets: 0,
+        lengths: 0,
+    }
 }
 
 fn number(n: u16) -> usize {
@@ -187,119 +135,152 @@ fn sum(table: &[u16; 128], from: usize) -> usize {
     total
 }
 
-fn different(tally: Tally) -> Tally {
-    Tally {
-        cases: plus(tally.cases, 1),
-        yes: tally.yes,
-        no: tally.no,
-        differences: plus(tally.differences, 1),
-        offsets: tally.offsets,
-        lengths: tally.lengths,
-    }
-}
-
-fn said_yes(tally: Tally, table: &[u16; 128]) -> Tally {
-    Tally {
-        cases: plus(tally.cases, 1),
-        yes: plus(tally.yes, 1),
-        no: tally.no,
-        differences: tally.differences,
-        offsets: plus(tally.offsets, sum(table, 0)),
-        lengths: plus(tally.lengths, sum(table, 1)),
-    }
-}
-
-fn said_no(tally: Tally) -> Tally {
-    Tally {
-        cases: plus(tally.cases, 1),
-        yes: tally.yes,
-        no: plus(tally.no, 1),
-        differences: tally.differences,
-        offsets: tally.offsets,
-        lengths: tally.lengths,
-    }
-}
-
-// Asks both matchers, each with a table of its own that holds 60,000 everywhere. They differ where one says
-// yes and the other does not, or an entry of their tables differs.
-fn compare(vocabulary: &[u8], pattern: &[u8], situation: &[u8], tally: Tally) -> Tally {
-    let mut first = [60000u16; 128];
-    let mut second = [60000u16; 128];
-    let answer = matcher::match_pattern(vocabulary, pattern, situation, &mut first);
-    let fits = addresses::fits(pattern, situation, &mut second);
-    if !same_table(&first, &second) {
-        return different(tally);
-    }
+fn same_answer(answer: MatchAnswer, fits: bool) -> bool {
     match answer {
-        MatchAnswer::Yes => if fits {
-            said_yes(tally, &first)
-        } else {
-            different(tally)
-        },
-        MatchAnswer::No => if fits {
-            different(tally)
-        } else {
-            said_no(tally)
-        },
-        MatchAnswer::Inputs(_) => different(tally),
-        MatchAnswer::TableLength => different(tally),
+        MatchAnswer::Yes => fits,
+        MatchAnswer::No => !fits,
+        MatchAnswer::Inputs(_) => false,
+        MatchAnswer::TableLength => false,
     }
 }
 
-// Compares on a pattern with each of so many situations.
-fn compare_each(
-    vocabulary: &[u8],
-    pattern: &[u8],
-    situations: &[u8; 32768],
-    count: usize,
-    before: Tally,
-) -> Tally {
-    let mut tally = before;
-    let mut k = 0;
-    while k < count {
-        tally = compare(vocabulary, pattern, kept_term(situations, k), tally);
-        k += 1;
+fn different() -> Tally {
+    Tally {
+        yes: 0,
+        no: 0,
+        differences: 1,
+        offsets: 0,
+        lengths: 0,
+    }
+}
+
+// What the second matcher has at an index of the table: a no leaves what was lent.
+fn expected(p: &[u8], s: &[u8], fits: bool, i: usize) -> usize {
+    if fits {
+        addresses::entry(p, s, i)
+    } else {
+        60000
+    }
+}
+
+fn same_table(p: &[u8], s: &[u8], fits: bool, table: &[u16; 128]) -> bool {
+    let mut i = 0;
+    while i < 128 {
+        if number(table[i]) != expected(p, s, fits, i) {
+            return false;
+        }
+        i += 1;
+    }
+    true
+}
+
+fn counted(same_answer: bool, same_table: bool, fits: bool, table: &[u16; 128]) -> Tally {
+    if !same_answer {
+        return different();
+    }
+    if !same_table {
+        return different();
+    }
+    if !fits {
+        return Tally {
+            yes: 0,
+            no: 1,
+            differences: 0,
+            offsets: 0,
+            lengths: 0,
+        };
+    }
+    Tally {
+        yes: 1,
+        no: 0,
+        differences: 0,
+        offsets: sum(table, 0),
+        lengths: sum(table, 1),
+    }
+}
+
+// Asks both matchers, with a table that holds 60,000 everywhere. They differ where one says yes and the other
+// does not, or an entry of the table differs.
+fn compare(vocabulary: &[u8], p: &[u8], s: &[u8]) -> Tally {
+    let mut table = [60000u16; 128];
+    let answer = matcher::match_pattern(vocabulary, p, s, &mut table);
+    let fits = addresses::fits(p, s);
+    counted(
+        same_answer(answer, fits),
+        same_table(p, s, fits, &table),
+        fits,
+        &table,
+    )
+}
+
+// Compares on a pattern with a term, if it is accepted.
+fn compare_one(vocabulary: &[u8], pattern: Term, situation: Term) -> Tally {
+    if !accepted(vocabulary, situation) {
+        return nothing();
+    }
+    let one = pattern.bytes;
+    let other = situation.bytes;
+    compare(
+        vocabulary,
+        addresses::between(&one, 0, pattern.n),
+        addresses::between(&other, 0, situation.n),
+    )
+}
+
+// Compares on a pattern, if it is accepted, with each situation of the first so many numbers.
+fn compare_each(vocabulary: &[u8], kind: u8, pattern: Term, words: &[u8], most: usize) -> Tally {
+    let mut tally = nothing();
+    if !accepted(vocabulary, pattern) {
+        return tally;
+    }
+    let mut number = 0;
+    while number < most {
+        number += 1;
+        tally = add(
+            tally,
+            compare_one(vocabulary, pattern, spelled(words, kind, number)),
+        );
     }
     tally
 }
 
-// Compares on each of so many patterns with each of so many situations.
+// Compares on each pattern of the first p numbers with each situation of the first s.
 fn compare_all(
     vocabulary: &[u8],
-    patterns: &[u8; 32768],
+    kind: u8,
+    tokens: &[u8],
     p: usize,
-    situations: &[u8; 32768],
+    words: &[u8],
     s: usize,
 ) -> Tally {
-    let mut tally = Tally {
-        cases: 0,
-        yes: 0,
-        no: 0,
-        differences: 0,
-        offsets: 0,
-        lengths: 0,
-    };
-    let mut k = 0;
-    while k < p {
-        tally = compare_each(vocabulary, kept_term(patterns, k), situations, s, tally);
-        k += 1;
+    let mut tally = nothing();
+    let mut number = 0;
+    while number < p {
+        number += 1;
+        tally = add(
+            tally,
+            compare_each(vocabulary, kind, spelled(tokens, kind, number), words, s),
+        );
     }
     tally
 }
 
 fn say_tally(tally: Tally) {
-    say::count(tally.cases, b" cases, ");
-    say::count(tally.yes, b" yes, ");
-    say::count(tally.no, b" no, ");
-    say::count(tally.differences, b" differences, offsets ");
-    say::count(tally.offsets, b", lengths ");
-    say::count(tally.lengths, b"\n");
+    say::count(
+        plus(plus(tally.yes, tally.no), tally.differences),
+        say::CASES,
+    );
+    say::count(tally.yes, say::YES);
+    say::count(tally.no, say::NO);
+    say::count(tally.differences, say::DIFFERENCES);
+    say::count(tally.offsets, say::LENGTHS);
+    say::count(tally.lengths, say::END);
 }
 
-// Runs a family and prints its line. Patterns have up to so many tokens of the first alphabet, situations up to
-// so many of the second, whose maps are the words' place maps.
+// Runs a family and prints its line. Patterns are those of the first p numbers in the first alphabet, situations
+// those of the first s in the second, whose maps are the words' place maps.
 pub(crate) fn family(
-    label: &[u8],
+    label: usize,
     vocabulary: &[u8],
     kind: u8,
     tokens: &[u8],
@@ -307,14 +288,8 @@ pub(crate) fn family(
     words: &[u8],
     s: usize,
 ) {
-    let mut patterns = [0u8; 32768];
-    let mut situations = [0u8; 32768];
-    let np = keep_all(vocabulary, tokens, kind, p, &mut patterns);
-    let ns = keep_all(vocabulary, words, kind, s, &mut situations);
-    say::text(b"family, ");
     say::text(label);
-    say::text(b": ");
-    say::count(np, b" patterns, ");
-    say::count(ns, b" situations, ");
-    say_tally(compare_all(vocabulary, &patterns, np, &situations, ns));
+    say::count(count(vocabulary, kind, tokens, p), say::PATTERNS);
+    say::count(count(vocabulary, kind, words, s), say::SITUATIONS);
+    say_tally(compare_all(vocabulary, kind, tokens, p, words, s));
 }

@@ -1,8 +1,7 @@
 -- The laws behind the proofs of report. Bytes put into a text, and numbers as text.
 pub mod Putting
 pub mod Digits
--- The parts of the input, and where an entry of the listing ends.
-pub mod Parts
+-- Where an entry of the listing ends.
 pub mod Counting
 -- The lines, and the whole text: it is the one that is printed, and it has room.
 pub mod Lines

@@ -17,7 +17,7 @@ use Rattle.wire.proofs.Text.{decimal-short}
 use Rattle.wire.proofs.EntryCut.{entry-within, length-cut}
 use Rattle.report.specs.Putting.{Put, cutText}
 use Rattle.report.proofs.Putting.{first-room, rest-room, put-both, second-of-three, third-of-three, put-three, Printing, printing-none, printing-length, printing-next, printing-turn, printing-all}
-use Rattle.report.proofs.Parts.{to-end}
+use Rattle.pieces.proofs.Parts.{to-end}
 
 pub line-is : (i : ℕ) (e : List ℕ) → entryLine i e ≡ (decimal i ++ ascii " ") ++ (hexadecimal e ++ newline)
 line-is i e = sym (append-assoc (decimal i) (ascii " ") (hexadecimal e ++ newline))

@@ -5,13 +5,12 @@
 --   Shown r out text           the text for the reply r, with out in the lent slice, is the given one and has room
 --   listing-shown, pattern-shown, vocabulary-shown, shown    it is for each reply that list computes
 --   answer-put, answer-room    what is put for list's answer is what is printed, and has room
---   taken-put                  the vocabulary and the pattern are the two parts of the input
 --   prints                     what is put keeps the promise of print
 --
 use mathlib.Core.Path.{_≡_, refl, sym, ap, subst, subst₂, _∙_}
 use mathlib.Core.Bool.{Bool, true, false, cond}
 use mathlib.Core.List.{List, [], _∷_, _++_, map}
-use Prim.Native.Nat.{ℕ, suc, _+_, _*_, _-_, _<_, _≤_, min}
+use Prim.Native.Nat.{ℕ, suc, _+_, _*_, _-_, _<_, _≤_}
 use native.Mathlib.Omega.{arith}
 use lib.Dec.{leb}
 use lib.ListN.{length, getD, take, drop, replicate, length-append, length-map, length-replicate}
@@ -42,7 +41,6 @@ use Rattle.wire.proofs.Printing.{print-keeps}
 use Rattle.wire.proofs.VocabulariesInverse.{vocabularies-inverse}
 use Rattle.report.specs.Prints.{Prints}
 use Rattle.report.specs.Putting.{Put, cutText, answerText, TextFits}
-use Rattle.report.proofs.Parts.{vocabulary-is, pattern-is, input-taken}
 
 -- ---- how long the lines are
 
@@ -160,23 +158,14 @@ module _ (v p : List ℕ) (vocabularyBytes : (i : ℕ) → getD v i 0 < 256) (pa
       go (accepted []) k = tt
       go (accepted (n ∷ values)) k = omega arith
 
--- ---- the parts of the input
-
-pub taken-put : (b : List ℕ) (from to n k : ℕ) → from ≡ min 2 (length b) → to ≡ from + n → k ≡ vocabularyLength b → n ≡ min k (length b - from) →
-    {text last : List ℕ} {next : ℕ} → Put (printedFrom (take (to - from) (drop from b)) (take (length b - to) (drop to b))) text 0 next last →
-    Put (printedFrom (vocabularyPart b) (patternPart b)) text 0 next last
-taken-put b from to n k begins ends given size {text} {last} {next} h =
-    let s : n ≡ min (vocabularyLength b) (length b - from) = size ∙ ap (λ (j : ℕ). min j (length b - from)) given in
-    subst₂ (λ (v p : List ℕ). Put (printedFrom v p) text 0 next last)
-    (vocabulary-is b from to n begins ends s) (pattern-is b from to n begins ends s) h
+-- ---- the whole input
 
 abbrev taken : List ℕ → List ℕ
 taken b = take mostInput b
 
-pub prints : (b : List ℕ) (n : ℕ) → ((i : ℕ) → getD b i 0 < 256) → n ≡ min (length b) mostInput → {text last : List ℕ} {next : ℕ} →
-    Put (printedFrom (vocabularyPart (take (n - 0) b)) (patternPart (take (n - 0) b))) text 0 next last →
-    Prints b text next last × (take next last ≡ printed b)
-prints b n small e {text} {last} {next} h = (
+pub prints : (b : List ℕ) → ((i : ℕ) → getD b i 0 < 256) → {v p : List ℕ} → v ≡ vocabularyPart (taken b) → p ≡ patternPart (taken b) →
+    {text last : List ℕ} {next : ℕ} → Put (printedFrom v p) text 0 next last → Prints b text next last × (take next last ≡ printed b)
+prints b small first second {text} {last} {next} h = (
   record {
     promise = subst (PrintPromise (vocabularyPart (taken b)) (patternPart (taken b))) (sym shown) (print-keeps (vocabularyPart (taken b)) (patternPart (taken b)) part-bytes rest-bytes);
     behind = ap (drop next) (put .same) ∙ drop-at (printed b) (drop next text) next (sym count);
@@ -197,9 +186,7 @@ prints b n small e {text} {last} {next} h = (
     rest-bytes = all-drop (λ b. b < 256) (vocabularyLength (taken b)) (drop 2 (taken b)) bytes
 
     put : Put (printed b) text 0 next last
-    put =
-        subst (λ (t : List ℕ). Put (printedFrom (vocabularyPart t) (patternPart t)) text 0 next last)
-        (ap (λ (k : ℕ). take k b) (let z : n - 0 ≡ n = omega arith in z) ∙ input-taken b n e) h
+    put = subst₂ (λ (v p : List ℕ). Put (printedFrom v p) text 0 next last) first second h
 
     count : next ≡ length (printed b)
     count = omega (arith, put .behind)

@@ -1,28 +1,16 @@
 // The text that document 01's program `leftovers` prints for its standard input.
 ghost use mathlib.Core.Path.{_≡_};
-ghost use mathlib.Core.List.{_++_};
-ghost use Prim.Native.Nat.{_+_, _≤_, _<_, min};
+ghost use mathlib.Core.List.{[], _∷_, _++_};
+ghost use Prim.Native.Nat.{_+_, _≤_};
 ghost use lib.ListN.{length, take};
-ghost use Rattle.wire.specs.Text.{decimal, hexadecimal, digit as Text·digit};
-ghost use Rattle.wire.specs.Printing.{vocabularyLength, vocabularyPart, patternPart, entryLines, refusalText, entryLine};
+ghost use Rattle.wire.specs.Text.{decimal, hexadecimal};
+ghost use Rattle.wire.specs.Printing.{entryLines, refusalText, entryLine};
 ghost use Rattle.wire.specs.PrintComputed.{printedFrom, printed};
 ghost use Rattle.wire.specs.EntryCut.{entrySize, cutEntries};
 ghost use Rattle.complement.specs.Answers.{listNumbers};
 ghost use Rattle.report.specs.Prints.{Prints};
 ghost use Rattle.report.specs.Putting.{Put, cutText, answerText, TextFits};
 use complement::ListAnswer;
-
-fn wide(b: u8) -> usize
-    ensures { λ r. ⌜ r ≡ b ⌝ }
-{
-    b as usize
-}
-
-fn least(a: usize, b: usize) -> usize
-    ensures { λ r. ⌜ r ≡ min a b ⌝ }
-{
-    if a < b { a } else { b }
-}
 
 // Puts bytes at an offset, and gives the offset behind them.
 fn put(bytes: &[u8], text: &mut [u8], at: usize) -> usize
@@ -39,23 +27,15 @@ fn put(bytes: &[u8], text: &mut [u8], at: usize) -> usize
     next
 }
 
-// Puts a number in decimal, and bytes behind it.
-fn put_number(n: u64, behind: &[u8], text: &mut [u8], at: usize) -> usize
-    requires { ⌜ at + length (decimal n ++ now behind) ≤ length (now text) ⌝ }
-    ensures { λ r. ⌜ Put (decimal n ++ now (behind .entry)) (now (text .entry)) at r (now (text .exit)) ⌝ }
+// Puts a number in decimal, and a byte behind it.
+fn put_number(n: u64, behind: u8, text: &mut [u8], at: usize) -> usize
+    requires { ⌜ at + length (decimal n ++ (behind ∷ [])) ≤ length (now text) ⌝ }
+    ensures { λ r. ⌜ Put (decimal n ++ (behind ∷ [])) (now (text .entry)) at r (now (text .exit)) ⌝ }
 {
     let mut digits = [0u8; 20];
     let k = io::decimal(n, &mut digits);
     let next = put(&digits[0..k], text, at);
-    put(behind, text, next)
-}
-
-// A hexadecimal digit, in lower case.
-fn digit(d: u8) -> u8
-    requires { ⌜ d < 16 ⌝ }
-    ensures { λ r. ⌜ r ≡ Text·digit d ⌝ }
-{
-    if d < 10 { 48 + d } else { 87 + d }
+    put(&[behind], text, next)
 }
 
 // Puts bytes in hexadecimal.
@@ -67,8 +47,8 @@ fn put_hexadecimal(bytes: &[u8], text: &mut [u8], at: usize) -> usize
     let mut next = at;
     while i < bytes.len() {
         let b = bytes[i];
-        text[next] = digit(b / 16);
-        text[next + 1] = digit(b % 16);
+        text[next] = pieces::high(b);
+        text[next + 1] = pieces::low(b);
         i += 1;
         next += 2;
     }
@@ -80,7 +60,7 @@ fn put_line(number: u64, entry: &[u8], text: &mut [u8], at: usize) -> usize
     requires { ⌜ at + length (entryLine number (now entry)) ≤ length (now text) ⌝ }
     ensures { λ r. ⌜ Put (entryLine number (now (entry .entry))) (now (text .entry)) at r (now (text .exit)) ⌝ }
 {
-    let numbered = put_number(number, b" ", text, at);
+    let numbered = put_number(number, b' ', text, at);
     let written = put_hexadecimal(entry, text, numbered);
     put(b"\n", text, written)
 }
@@ -139,7 +119,7 @@ fn put_listing(listing: &[u8], n: u64, text: &mut [u8]) -> usize
     ensures { λ r. ⌜ Put (cutText n (now (listing .entry))) (now (text .entry)) 0 r (now (text .exit)) ⌝ }
 {
     let named = put(b"leftovers ", text, 0);
-    let counted = put_number(n, b"\n", text, named);
+    let counted = put_number(n, b'\n', text, named);
     put_lines(listing, n, text, counted)
 }
 
@@ -149,9 +129,9 @@ fn put_refusal(line: u64, input: u64, place: u64, text: &mut [u8]) -> usize
     ensures { λ r. ⌜ Put (refusalText line input place) (now (text .entry)) 0 r (now (text .exit)) ⌝ }
 {
     let a = put(b"refused ", text, 0);
-    let b = put_number(line, b" ", text, a);
-    let c = put_number(input, b" ", text, b);
-    put_number(place, b"\n", text, c)
+    let b = put_number(line, b' ', text, a);
+    let c = put_number(input, b' ', text, b);
+    put_number(place, b'\n', text, c)
 }
 
 // Puts the text for an answer of list, with the entries in the lent slice.
@@ -178,32 +158,11 @@ fn print_from(vocabulary: &[u8], pattern: &[u8], text: &mut [u8]) -> usize
     put_answer(answer, &space, text)
 }
 
-// The length that the first two bytes give, the high byte first.
-fn vocabulary_length(input: &[u8]) -> usize
-    ensures { λ r. ⌜ r ≡ vocabularyLength (now (input .entry)) ⌝ }
-{
-    if input.len() < 2 {
-        return 0;
-    }
-    256 * wide(input[0]) + wide(input[1])
-}
-
-// Puts the text for the bytes that are taken.
-fn print_taken(input: &[u8], text: &mut [u8]) -> usize
-    requires { ⌜ 524288 ≤ length (now text) ⌝ }
-    ensures { λ r. ⌜ Put (printedFrom (vocabularyPart (now (input .entry))) (patternPart (now (input .entry)))) (now (text .entry)) 0 r (now (text .exit)) ⌝ }
-{
-    let from = least(2, input.len());
-    let to = from + least(vocabulary_length(input), input.len() - from);
-    print_from(&input[from..to], &input[to..], text)
-}
-
 // Puts what the program `leftovers` prints for its standard input at the front of the lent bytes, and says how many
 // bytes it is. Bytes behind the text stay as they were.
 pub fn print(input: &[u8], text: &mut [u8; 524288]) -> usize
     ensures { λ r. ⌜ Prints (now (input .entry)) (now (text .entry)) r (now (text .exit)) ⌝ }
     ensures { λ r. ⌜ take r (now (text .exit)) ≡ printed (now (input .entry)) ⌝ }
 {
-    let taken = least(input.len(), 65536);
-    print_taken(&input[0..taken], text)
+    print_from(pieces::vocabulary(input), pieces::pattern(input), text)
 }

@@ -12,12 +12,6 @@ slice-aggregate-read-full c = sym (length-replicate {A = ℕ} 131072 0)
 read-full-requires : tie.Need-read-full-requires
 read-full-requires c κs = search needs
 
-array-share-prefix-input : tie.Need-array-share-prefix-input
-array-share-prefix-input c = search needs
-
-slice-aggregate-all : tie.Need-slice-aggregate-all
-slice-aggregate-all c = search needs
-
 all-requires : tie.Need-all-requires
 all-requires c κs = search needs
 
@@ -30,7 +24,5 @@ main-spec =
     (tie.spec
     slice-aggregate-read-full
     read-full-requires
-    array-share-prefix-input
-    slice-aggregate-all
     all-requires
     returns)

@@ -1,4 +1,7 @@
 -- `report::print_from` meets its contract.
+use mathlib.Core.Path.{sym}
+use Prim.Native.Nat.{ℕ}
+use lib.ListN.{length-replicate}
 use denote.Ref.{now}
 use Rattle.report.proofs.Reported.{answer-put, answer-room}
 use borrow.Author.Needs.{needs}
@@ -6,7 +9,7 @@ use Rattle.report.proofs.print_from.Statement.{statement}
 use Rattle.report.proofs.print_from.Tie as tie
 
 slice-aggregate-list : tie.Need-slice-aggregate-list
-slice-aggregate-list c = search needs
+slice-aggregate-list c = sym (length-replicate {A = ℕ} 65536 0)
 
 list-requires : tie.Need-list-requires
 list-requires c κs = search needs

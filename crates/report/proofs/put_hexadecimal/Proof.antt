@@ -22,8 +22,8 @@ loop-holds c = (omega arith, printing-none _ _ _)
 shared-slice-read-b : tie.Need-shared-slice-read-b Inv-loop μ-loop
 shared-slice-read-b c = search needs
 
-digit-requires : tie.Need-digit-requires Inv-loop μ-loop
-digit-requires c κs = let b = c .shared-slice-known2 .given (c .before .before .loop .i) in omega arith
+high-requires : tie.Need-high-requires Inv-loop μ-loop
+high-requires c κs = search needs
 
 slice-write-text : tie.Need-slice-write-text Inv-loop μ-loop
 slice-write-text c =
@@ -31,8 +31,8 @@ slice-write-text c =
     let start = at-loop .before .before .before in
     let r = digits-room (now (start .args .bytes)) (at-loop .loop .i) (at-loop .loop .inv .1) (start .pre) (c .before .before .loop-test .taken) in omega arith
 
-digit-requires-2 : tie.Need-digit-requires-2 Inv-loop μ-loop
-digit-requires-2 c κs = search needs
+low-requires : tie.Need-low-requires Inv-loop μ-loop
+low-requires c κs = search needs
 
 add-text : tie.Need-add-text Inv-loop μ-loop
 add-text c =
@@ -66,7 +66,7 @@ loop-again c =
     let at-loop-test = c .before .before .before in
     let at-loop = at-loop-test .before in
     let start = at-loop .before .before .before in
-    (search needs, digits-turn (now (start .args .bytes)) (at-loop .loop .i) (at-loop .loop .inv .1) (start .pre) (at-loop-test .loop-test .taken) (c .before .digit .ensures) (c .digit2 .ensures))
+    (search needs, digits-turn (now (start .args .bytes)) (at-loop .loop .i) (at-loop .loop .inv .1) (start .pre) (at-loop-test .loop-test .taken) (c .before .high .ensures) (c .low .ensures))
 
 same-length : tie.Need-same-length Inv-loop μ-loop
 same-length c = printing-length (c .before .loop .inv .1) (c .before .before .before .before .pre)
@@ -84,9 +84,9 @@ put-hexadecimal-spec =
     μ-loop
     loop-holds
     shared-slice-read-b
-    digit-requires
+    high-requires
     slice-write-text
-    digit-requires-2
+    low-requires
     add-text
     slice-write-text-2
     add-i

@@ -3,7 +3,7 @@ use borrow.Author.Needs.{needs}
 use Prim.Native.Nat.{_-_}
 use native.Mathlib.Omega.{arith}
 use denote.Ref.{now}
-use Rattle.report.proofs.Parts.{part-length}
+use Rattle.pieces.proofs.Parts.{part-length}
 use Rattle.report.proofs.Lines.{Lines, lines-none, lines-length, lines-all, entry-inside, line-room, lines-turn}
 use Rattle.report.proofs.put_lines.Statement.{statement}
 use Rattle.report.proofs.put_lines.Tie as tie

@@ -17,19 +17,16 @@ slice-aggregate-put c = search needs
 put-requires : tie.Need-put-requires
 put-requires c κs = search needs
 
-slice-aggregate-put-number : tie.Need-slice-aggregate-put-number
-slice-aggregate-put-number c = search needs
-
 put-number-requires : tie.Need-put-number-requires
 put-number-requires c κs =
-    let at-put = c .before .before .before .before in
+    let at-put = c .before .before .before in
     let start = at-put .before .before .before .before .before in
     second-of-three (ascii "leftovers ") (decimal (start .args .n) ++ newline) (entryLines 1 (cutEntries (start .args .n) (now (start .args .listing)))) (listing-is (start .args .n) (now (start .args .listing))) (now (start .args .text)) 0 (omega (arith, start .pre .1)) (at-put .put .ensures)
 
 put-lines-requires : tie.Need-put-lines-requires
 put-lines-requires c κs =
     let at-put-number = c .before .before .before in
-    let at-put = at-put-number .before .before .before .before .before in
+    let at-put = at-put-number .before .before .before .before in
     let start = at-put .before .before .before .before .before in
     (start .pre .0, third-of-three (ascii "leftovers ") (decimal (start .args .n) ++ newline) (entryLines 1 (cutEntries (start .args .n) (now (start .args .listing)))) (listing-is (start .args .n) (now (start .args .listing))) (now (start .args .text)) 0 (omega (arith, start .pre .1)) (at-put .put .ensures) (at-put-number .put-number .ensures))
 
@@ -39,7 +36,7 @@ same-length c = search needs
 returns : tie.Need-returns
 returns c =
     let at-put-number = c .before .before .before .before .before .before in
-    let at-put = at-put-number .before .before .before .before .before in
+    let at-put = at-put-number .before .before .before .before in
     let start = at-put .before .before .before .before .before in
     put-three (ascii "leftovers ") (decimal (start .args .n) ++ newline) (entryLines 1 (cutEntries (start .args .n) (now (start .args .listing)))) (listing-is (start .args .n) (now (start .args .listing))) (now (start .args .text)) 0 (omega (arith, start .pre .1)) (at-put .put .ensures) (at-put-number .put-number .ensures) (c .before .before .put-lines .ensures)
 
@@ -49,7 +46,6 @@ put-listing-spec =
     (tie.spec
     slice-aggregate-put
     put-requires
-    slice-aggregate-put-number
     put-number-requires
     put-lines-requires
     same-length

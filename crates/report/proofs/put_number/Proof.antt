@@ -1,5 +1,5 @@
 -- `report::put_number` meets its contract.
-use denote.Ref.{now}
+use mathlib.Core.List.{[], _∷_}
 use Rattle.report.proofs.Putting.{rest-room, put-both}
 use Rattle.report.proofs.Digits.{number-room, number-put}
 use borrow.Author.Needs.{needs}
@@ -21,25 +21,28 @@ part-put-end c = search needs
 put-requires : tie.Need-put-requires
 put-requires c κs =
     let at-decimal = c .before .before .before in
-    let start = at-decimal .before .before .before .before in
-    number-room (start .args .n) _ _ (at-decimal .decimal .ensures .1 .0) (at-decimal .decimal .ensures .1 .1) (now (start .args .behind)) _ _ (start .pre)
+    let start = at-decimal .before .before .before in
+    number-room (start .args .n) _ _ (at-decimal .decimal .ensures .1 .0) (at-decimal .decimal .ensures .1 .1) (start .args .behind ∷ []) _ _ (start .pre)
+
+slice-aggregate-put : tie.Need-slice-aggregate-put
+slice-aggregate-put c = search needs
 
 put-requires-2 : tie.Need-put-requires-2
 put-requires-2 c κs =
-    let at-put = c .before .before .before in
+    let at-put = c .before .before .before .before in
     let at-decimal = at-put .before .before .before .before in
-    let start = at-decimal .before .before .before .before in
-    rest-room (now (start .args .behind)) (start .pre) (number-put (start .args .n) (at-decimal .decimal .result) (at-decimal .decimal .last .1 .0) (at-decimal .decimal .ensures .1 .0) (at-decimal .decimal .ensures .1 .1) (at-put .put .ensures))
+    let start = at-decimal .before .before .before in
+    rest-room (start .args .behind ∷ []) (start .pre) (number-put (start .args .n) (at-decimal .decimal .result) (at-decimal .decimal .last .1 .0) (at-decimal .decimal .ensures .1 .0) (at-decimal .decimal .ensures .1 .1) (at-put .put .ensures))
 
 same-length : tie.Need-same-length
 same-length c = search needs
 
 returns : tie.Need-returns
 returns c =
-    let at-put = c .before .before .before .before .before .before in
+    let at-put = c .before .before .before .before .before .before .before in
     let at-decimal = at-put .before .before .before .before in
-    let start = at-decimal .before .before .before .before in
-    put-both (now (start .args .behind)) (start .pre) (number-put (start .args .n) (at-decimal .decimal .result) (at-decimal .decimal .last .1 .0) (at-decimal .decimal .ensures .1 .0) (at-decimal .decimal .ensures .1 .1) (at-put .put .ensures)) (c .before .before .put2 .ensures)
+    let start = at-decimal .before .before .before in
+    put-both (start .args .behind ∷ []) (start .pre) (number-put (start .args .n) (at-decimal .decimal .result) (at-decimal .decimal .last .1 .0) (at-decimal .decimal .ensures .1 .0) (at-decimal .decimal .ensures .1 .1) (at-put .put .ensures)) (c .before .before .put2 .ensures)
 
 pub put-number-spec : {M : Type 1} → statement M
 put-number-spec =
@@ -50,6 +53,7 @@ put-number-spec =
     part-put-start
     part-put-end
     put-requires
+    slice-aggregate-put
     put-requires-2
     same-length
     returns)

@@ -11,33 +11,24 @@ slice-aggregate-put c = search needs
 put-requires : tie.Need-put-requires
 put-requires c κs = search needs
 
-slice-aggregate-put-number : tie.Need-slice-aggregate-put-number
-slice-aggregate-put-number c = search needs
-
 put-number-requires : tie.Need-put-number-requires
 put-number-requires c κs =
-    let at-put = c .before .before .before .before in
+    let at-put = c .before .before .before in
     let start = at-put .before .before .before .before in
     refusal-number-room (start .args .line) (start .args .input) (start .args .place) (now (start .args .text)) (search needs, search needs, search needs) (start .pre) (at-put .put .ensures)
 
-slice-aggregate-put-number-2 : tie.Need-slice-aggregate-put-number-2
-slice-aggregate-put-number-2 c = search needs
-
 put-number-requires-2 : tie.Need-put-number-requires-2
 put-number-requires-2 c κs =
-    let at-put-number = c .before .before .before .before in
-    let at-put = at-put-number .before .before .before .before .before in
+    let at-put-number = c .before .before .before in
+    let at-put = at-put-number .before .before .before .before in
     let start = at-put .before .before .before .before in
     refusal-input-room (start .args .line) (start .args .input) (start .args .place) (now (start .args .text)) (search needs, search needs, search needs) (start .pre) (at-put .put .ensures) (at-put-number .put-number .ensures)
 
-slice-aggregate-put-number-3 : tie.Need-slice-aggregate-put-number-3
-slice-aggregate-put-number-3 c = search needs
-
 put-number-requires-3 : tie.Need-put-number-requires-3
 put-number-requires-3 c κs =
-    let at-put-number2 = c .before .before .before .before in
-    let at-put-number = at-put-number2 .before .before .before .before .before in
-    let at-put = at-put-number .before .before .before .before .before in
+    let at-put-number2 = c .before .before .before in
+    let at-put-number = at-put-number2 .before .before .before .before in
+    let at-put = at-put-number .before .before .before .before in
     let start = at-put .before .before .before .before in
     refusal-place-room (start .args .line) (start .args .input) (start .args .place) (now (start .args .text)) (search needs, search needs, search needs) (start .pre) (at-put .put .ensures) (at-put-number .put-number .ensures) (at-put-number2 .put-number2 .ensures)
 
@@ -46,9 +37,9 @@ same-length c = search needs
 
 returns : tie.Need-returns
 returns c =
-    let at-put-number2 = c .before .before .before .before .before .before .before in
-    let at-put-number = at-put-number2 .before .before .before .before .before in
-    let at-put = at-put-number .before .before .before .before .before in
+    let at-put-number2 = c .before .before .before .before .before .before in
+    let at-put-number = at-put-number2 .before .before .before .before in
+    let at-put = at-put-number .before .before .before .before in
     let start = at-put .before .before .before .before in
     refusal-put (start .args .line) (start .args .input) (start .args .place) (now (start .args .text)) (search needs, search needs, search needs) (start .pre) (at-put .put .ensures) (at-put-number .put-number .ensures) (at-put-number2 .put-number2 .ensures) (c .before .before .put-number3 .ensures)
 
@@ -58,11 +49,8 @@ put-refusal-spec =
     (tie.spec
     slice-aggregate-put
     put-requires
-    slice-aggregate-put-number
     put-number-requires
-    slice-aggregate-put-number-2
     put-number-requires-2
-    slice-aggregate-put-number-3
     put-number-requires-3
     same-length
     returns)

@@ -1,6 +1,6 @@
 -- `list_line::place` is safe and ends. The number is at most the offset. The measure is what is left of the entries.
 use borrow.Author.Needs.{needs}
-use Prim.Native.Nat.{_≤_, _-_}
+use Prim.Native.Nat.{_-_, _≤_}
 use lib.ListN.{length}
 use Rattle.examples.proofs.list_line.place.Statement.{statement}
 use Rattle.examples.proofs.list_line.place.Tie as tie
@@ -23,8 +23,8 @@ add-number c = search needs
 between-requires : tie.Need-between-requires Inv-loop μ-loop
 between-requires c κs = search needs
 
-same-requires : tie.Need-same-requires Inv-loop μ-loop
-same-requires c κs = search needs
+equal-requires : tie.Need-equal-requires Inv-loop μ-loop
+equal-requires c κs = search needs
 
 returns : tie.Need-returns Inv-loop μ-loop
 returns c = search needs
@@ -48,7 +48,7 @@ place-spec =
     entry-end-requires
     add-number
     between-requires
-    same-requires
+    equal-requires
     returns
     loop-less
     loop-again

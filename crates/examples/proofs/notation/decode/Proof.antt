@@ -1,8 +1,8 @@
 -- `notation::decode` is safe and ends. The measure is what is left of the text.
 use borrow.Author.Needs.{needs}
-use mathlib.Core.Path.{_≡_}
 use Prim.Native.Nat.{_-_}
 use lib.ListN.{length}
+use mathlib.Core.Path.{_≡_}
 use Rattle.examples.proofs.notation.decode.Statement.{statement}
 use Rattle.examples.proofs.notation.decode.Tie as tie
 
@@ -15,8 +15,20 @@ abbrev μ-loop : tie.MeasureT-loop
 loop-holds : tie.Need-loop-holds Inv-loop μ-loop
 loop-holds c = search needs
 
+sub-find : tie.Need-sub-find Inv-loop μ-loop
+sub-find c = search needs
+
+part-find-start : tie.Need-part-find-start Inv-loop μ-loop
+part-find-start c = search needs
+
+part-find-end : tie.Need-part-find-end Inv-loop μ-loop
+part-find-end c = search needs
+
 find-requires : tie.Need-find-requires Inv-loop μ-loop
 find-requires c κs = search needs
+
+add-token : tie.Need-add-token Inv-loop μ-loop
+add-token c = search needs
 
 sub-token : tie.Need-sub-token Inv-loop μ-loop
 sub-token c = search needs
@@ -32,6 +44,9 @@ token-requires c κs = search needs
 
 add-at : tie.Need-add-at Inv-loop μ-loop
 add-at c = search needs
+
+add-at-2 : tie.Need-add-at-2 Inv-loop μ-loop
+add-at-2 c = search needs
 
 loop-less : tie.Need-loop-less Inv-loop μ-loop
 loop-less c = search needs
@@ -52,12 +67,17 @@ decode-spec =
     Inv-loop
     μ-loop
     loop-holds
+    sub-find
+    part-find-start
+    part-find-end
     find-requires
+    add-token
     sub-token
     part-token-start
     part-token-end
     token-requires
     add-at
+    add-at-2
     loop-less
     loop-again
     same-length

@@ -1,15 +1,15 @@
--- `notation::find` meets its contract: the offset stays between the start and the text's length. The measure is what is left of the text.
+-- `notation::find` is safe and ends. The measure is what is left of the text.
 use borrow.Author.Needs.{needs}
-use Prim.Native.Nat.{_≤_, _-_}
+use Prim.Native.Nat.{_-_, _≤_}
 use lib.ListN.{length}
 use Rattle.examples.proofs.notation.find.Statement.{statement}
 use Rattle.examples.proofs.notation.find.Tie as tie
 
 abbrev Inv-loop : tie.InvT-loop
-Inv-loop text from byte at₀ at = (from ≤ at) × (at ≤ length text)
+Inv-loop text byte at₀ at = at ≤ length text
 
 abbrev μ-loop : tie.MeasureT-loop
-μ-loop text from byte at₀ at = length text - at
+μ-loop text byte at₀ at = length text - at
 
 loop-holds : tie.Need-loop-holds Inv-loop μ-loop
 loop-holds c = search needs

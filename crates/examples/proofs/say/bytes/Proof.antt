@@ -1,4 +1,4 @@
--- `say::bytes` is safe and ends. The measure is what is left of the bytes.
+-- `say::bytes` is safe and ends. The measure is how many bytes are left.
 use borrow.Author.Needs.{needs}
 use Prim.Native.Nat.{_-_}
 use lib.ListN.{length}
@@ -6,16 +6,13 @@ use Rattle.examples.proofs.say.bytes.Statement.{statement}
 use Rattle.examples.proofs.say.bytes.Tie as tie
 
 abbrev Inv-loop : tie.InvT-loop
-Inv-loop found i₀ t4 i = Unit {0}
+Inv-loop found i₀ i = Unit {0}
 
 abbrev μ-loop : tie.MeasureT-loop
-μ-loop found i₀ t4 i = length found - i
+μ-loop found i₀ i = length found - i
 
-slice-aggregate-text : tie.Need-slice-aggregate-text Inv-loop μ-loop
-slice-aggregate-text c = search needs
-
-text-requires : tie.Need-text-requires Inv-loop μ-loop
-text-requires c κs = search needs
+fixed-requires : tie.Need-fixed-requires Inv-loop μ-loop
+fixed-requires c κs = search needs
 
 loop-holds : tie.Need-loop-holds Inv-loop μ-loop
 loop-holds c = search needs
@@ -38,11 +35,8 @@ loop-less c = search needs
 loop-again : tie.Need-loop-again Inv-loop μ-loop
 loop-again c = search needs
 
-slice-aggregate-text-2 : tie.Need-slice-aggregate-text-2 Inv-loop μ-loop
-slice-aggregate-text-2 c = search needs
-
-text-requires-2 : tie.Need-text-requires-2 Inv-loop μ-loop
-text-requires-2 c κs = search needs
+fixed-requires-2 : tie.Need-fixed-requires-2 Inv-loop μ-loop
+fixed-requires-2 c κs = search needs
 
 returns : tie.Need-returns Inv-loop μ-loop
 returns c = search needs
@@ -53,8 +47,7 @@ bytes-spec =
     (tie.spec
     Inv-loop
     μ-loop
-    slice-aggregate-text
-    text-requires
+    fixed-requires
     loop-holds
     shared-slice-read-wide
     wide-requires
@@ -62,6 +55,5 @@ bytes-spec =
     add-i
     loop-less
     loop-again
-    slice-aggregate-text-2
-    text-requires-2
+    fixed-requires-2
     returns)

@@ -1,35 +1,30 @@
--- `addresses::fits` is safe and ends. The measure is the number of names that are left.
+-- `addresses::fits` is safe and ends. The measure is what is left of the pattern.
 use borrow.Author.Needs.{needs}
 use Prim.Native.Nat.{_-_}
+use lib.ListN.{length}
 use Rattle.families.proofs.addresses.fits.Statement.{statement}
 use Rattle.families.proofs.addresses.fits.Tie as tie
 
 abbrev Inv-loop : tie.InvT-loop
-Inv-loop p s table₀ name₀ table name = Unit {0}
+Inv-loop p s here₀ here = Unit {0}
 
 abbrev μ-loop : tie.MeasureT-loop
-μ-loop p s table₀ name₀ table name = 64 - name
+μ-loop p s here₀ here = length p - here .at
 
-words-stand-requires : tie.Need-words-stand-requires Inv-loop μ-loop
-words-stand-requires c κs = search needs
-
-returns : tie.Need-returns Inv-loop μ-loop
-returns c = search needs
-
-names-agree-requires : tie.Need-names-agree-requires Inv-loop μ-loop
-names-agree-requires c κs = search needs
-
-returns-2 : tie.Need-returns-2 Inv-loop μ-loop
-returns-2 c = search needs
+root-requires : tie.Need-root-requires Inv-loop μ-loop
+root-requires c κs = search needs
 
 loop-holds : tie.Need-loop-holds Inv-loop μ-loop
 loop-holds c = search needs
 
-enter-requires : tie.Need-enter-requires Inv-loop μ-loop
-enter-requires c κs = search needs
+agrees-requires : tie.Need-agrees-requires Inv-loop μ-loop
+agrees-requires c κs = search needs
 
-add-name : tie.Need-add-name Inv-loop μ-loop
-add-name c = search needs
+returns : tie.Need-returns Inv-loop μ-loop
+returns c = search needs
+
+next-requires : tie.Need-next-requires Inv-loop μ-loop
+next-requires c κs = search needs
 
 loop-less : tie.Need-loop-less Inv-loop μ-loop
 loop-less c = search needs
@@ -37,8 +32,8 @@ loop-less c = search needs
 loop-again : tie.Need-loop-again Inv-loop μ-loop
 loop-again c = search needs
 
-returns-3 : tie.Need-returns-3 Inv-loop μ-loop
-returns-3 c = search needs
+returns-2 : tie.Need-returns-2 Inv-loop μ-loop
+returns-2 c = search needs
 
 pub fits-spec : {M : Type 1} → statement M
 fits-spec =
@@ -46,13 +41,11 @@ fits-spec =
     (tie.spec
     Inv-loop
     μ-loop
-    words-stand-requires
-    returns
-    names-agree-requires
-    returns-2
+    root-requires
     loop-holds
-    enter-requires
-    add-name
+    agrees-requires
+    returns
+    next-requires
     loop-less
     loop-again
-    returns-3)
+    returns-2)

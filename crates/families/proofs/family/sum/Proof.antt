@@ -1,4 +1,4 @@
--- `family::sum` is safe and ends. The measure is what is left of the table.
+-- `family::sum` is safe and ends. The measure is how many entries are left.
 use borrow.Author.Needs.{needs}
 use Prim.Native.Nat.{_-_}
 use Rattle.families.proofs.family.sum.Statement.{statement}

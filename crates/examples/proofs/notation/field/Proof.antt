@@ -1,0 +1,79 @@
+-- `notation::field` is safe and ends. The measure is what is left of the row.
+use borrow.Author.Needs.{needs}
+use Prim.Native.Nat.{_-_}
+use lib.ListN.{length}
+use Rattle.examples.proofs.notation.field.Statement.{statement}
+use Rattle.examples.proofs.notation.field.Tie as tie
+
+abbrev Inv-loop : tie.InvT-loop
+Inv-loop row number left₀ at₀ left at = Unit {0}
+
+abbrev μ-loop : tie.MeasureT-loop
+μ-loop row number left₀ at₀ left at = length row - at
+
+loop-holds : tie.Need-loop-holds Inv-loop μ-loop
+loop-holds c = search needs
+
+sub-before : tie.Need-sub-before Inv-loop μ-loop
+sub-before c = search needs
+
+part-before-start : tie.Need-part-before-start Inv-loop μ-loop
+part-before-start c = search needs
+
+part-before-end : tie.Need-part-before-end Inv-loop μ-loop
+part-before-end c = search needs
+
+before-requires : tie.Need-before-requires Inv-loop μ-loop
+before-requires c κs = search needs
+
+returns : tie.Need-returns Inv-loop μ-loop
+returns c = search needs
+
+shared-slice-read-if2 : tie.Need-shared-slice-read-if2 Inv-loop μ-loop
+shared-slice-read-if2 c = search needs
+
+sub-left : tie.Need-sub-left Inv-loop μ-loop
+sub-left c = search needs
+
+add-at : tie.Need-add-at Inv-loop μ-loop
+add-at c = search needs
+
+loop-less : tie.Need-loop-less Inv-loop μ-loop
+loop-less c = search needs
+
+loop-again : tie.Need-loop-again Inv-loop μ-loop
+loop-again c = search needs
+
+sub-result : tie.Need-sub-result Inv-loop μ-loop
+sub-result c = search needs
+
+part-result-start : tie.Need-part-result-start Inv-loop μ-loop
+part-result-start c = search needs
+
+part-result-end : tie.Need-part-result-end Inv-loop μ-loop
+part-result-end c = search needs
+
+returns-2 : tie.Need-returns-2 Inv-loop μ-loop
+returns-2 c = search needs
+
+pub field-spec : {M : Type 1} → statement M
+field-spec =
+    tie.close
+    (tie.spec
+    Inv-loop
+    μ-loop
+    loop-holds
+    sub-before
+    part-before-start
+    part-before-end
+    before-requires
+    returns
+    shared-slice-read-if2
+    sub-left
+    add-at
+    loop-less
+    loop-again
+    sub-result
+    part-result-start
+    part-result-end
+    returns-2)

@@ -1,0 +1,2 @@
+-- The laws behind the proofs of pieces.
+pub mod Parts

@@ -1,0 +1,40 @@
+-- `pieces::rest` meets its contract.
+use mathlib.Core.Path.{refl}
+use denote.Ref.{now}
+use Rattle.pieces.proofs.Parts.{pattern-is}
+use borrow.Author.Needs.{needs}
+use Rattle.pieces.proofs.rest.Statement.{statement}
+use Rattle.pieces.proofs.rest.Tie as tie
+
+least-requires : tie.Need-least-requires
+least-requires c κs = search needs
+
+size-requires : tie.Need-size-requires
+size-requires c κs = search needs
+
+add-to : tie.Need-add-to
+add-to c = search needs
+
+sub-result : tie.Need-sub-result
+sub-result c = search needs
+
+part-result-start : tie.Need-part-result-start
+part-result-start c = search needs
+
+part-result-end : tie.Need-part-result-end
+part-result-end c = search needs
+
+returns : tie.Need-returns
+returns c = pattern-is (now (c .before .before .before .before .args .input)) (c .before .before .least .result) _ (c .before .size .result) (c .before .before .least .ensures) refl (c .before .size .ensures)
+
+pub rest-spec : {M : Type 1} → statement M
+rest-spec =
+    tie.close
+    (tie.spec
+    least-requires
+    size-requires
+    add-to
+    sub-result
+    part-result-start
+    part-result-end
+    returns)
