@@ -1,4 +1,9 @@
--- `signature::read_words` meets its contract. The loop's invariant: the records passed stand in the tables, which are as before behind them. The measure is the number of records left.
+-- `signature::read_words` meets its contract. The loop's invariant: the records passed stand in the tables, which are as before
+-- behind them. The measure is the number of records left.
+--
+--   cast-offsets to loop-again    a record in order goes into the three tables, and the next one is due
+--   the returns                   a record that ends too soon or names no kind, bytes behind the last one, and no more records
+--
 use Prim.Native.Nat.{_-_}
 use native.Mathlib.Omega.{arith}
 use borrow.Author.Needs.{needs}

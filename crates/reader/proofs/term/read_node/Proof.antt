@@ -1,4 +1,9 @@
 -- `reader::term::read_node` meets its contract.
+--
+--   stood-at                  what stands there, under the vocabulary of the tables
+--   name-known, word-known, word-shallow    what the table of names and the tables of words have room for
+--   returns to returns-5      a clash, a word without written places, a fault, a name, a word with written places
+--
 use mathlib.Core.Path.{_≡_, sym, ap, _∙_}
 use mathlib.Core.List.{List}
 use Prim.Native.Nat.{ℕ, _<_}

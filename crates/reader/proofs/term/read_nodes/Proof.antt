@@ -1,4 +1,5 @@
--- `reader::term::read_nodes` meets its contract: each turn keeps what the reading gives.
+-- `reader::term::read_nodes` meets its contract. The loop's invariant: reading the node that is due at the cursor, and all that
+-- is due behind it, gives what it gave from the first node on. The measure is the number of bytes left.
 use Prim.Native.Nat.{_-_}
 use native.Mathlib.Omega.{arith}
 use denote.Ref.{now}
@@ -13,7 +14,8 @@ use Rattle.reader.proofs.term.read_nodes.Statement.{statement}
 use Rattle.reader.proofs.term.read_nodes.Tie as tie
 
 abbrev Inv-loop : tie.InvT-loop
-Inv-loop v t names₀ first words offsets results maps frames₀ c₀ kind₀ names frames c kind = AtNode v t names₀ (λ seen. nodeRun (vocabularyIn v) v t (replicate 32 0) seen false kind₀ c₀) names frames c kind
+Inv-loop v t names₀ first words offsets results maps frames₀ c₀ kind₀ names frames c kind =
+    AtNode v t names₀ (λ seen. nodeRun (vocabularyIn v) v t (replicate 32 0) seen false kind₀ c₀) names frames c kind
 
 abbrev μ-loop : tie.MeasureT-loop
 μ-loop v t names₀ first words offsets results maps frames₀ c₀ kind₀ names frames c kind = length t - c .at
@@ -34,7 +36,8 @@ read-node-requires : tie.Need-read-node-requires Inv-loop μ-loop
 read-node-requires c κs =
     let inv = c .before .before .loop .inv in
     let start = c .before .before .before .before .before in
-    (few-words (start .pre .0) (λ i. c .before .before .before .before .shared-slice-known .given i .fits), ((inv .entries, inv .going .entries), (inv .going .inside, inv .going .fewer)))
+    let few = few-words (start .pre .0) (λ i. c .before .before .before .before .shared-slice-known .given i .fits) in
+    (few, ((inv .entries, inv .going .entries), (inv .going .inside, inv .going .fewer)))
 
 enum-known-why : tie.Need-enum-known-why Inv-loop μ-loop
 enum-known-why c = c .match .keys1
@@ -44,7 +47,8 @@ returns c =
     let read = c .before .before .before in
     let at-loop = read .before .before .before in
     node-refused (at-loop .loop .inv)
-    (read .read-node .ensures (now (at-loop .before .before .before .args .v)) (under read) (at-loop .loop .inv .small) .fault _ (c .before .why .given .1))
+    (read .read-node .ensures (now (at-loop .before .before .before .args .v)) (under read) (at-loop .loop .inv .small)
+    .fault _ (c .before .why .given .1))
 
 enum-known-x : tie.Need-enum-known-x Inv-loop μ-loop
 enum-known-x c = c .match .keys2
@@ -53,24 +57,32 @@ full-words-requires : tie.Need-full-words-requires Inv-loop μ-loop
 full-words-requires c κs =
     let read = c .before .before .before .before in
     let at-loop = read .before .before .before in
-    let followed = read .read-node .ensures (now (at-loop .before .before .before .args .v)) (under read) (at-loop .loop .inv .small) .went _ (c .before .before .x .given .1) in
-    (at-loop .before .before .before .pre .0, followed .going)
+    let start = at-loop .before .before .before in
+    let answers = read .read-node .ensures (now (start .args .v)) (under read) (at-loop .loop .inv .small) in
+    let followed = answers .went _ (c .before .before .x .given .1) in
+    (start .pre .0, followed .going)
 
 returns-2 : tie.Need-returns-2 Inv-loop μ-loop
 returns-2 c =
     let read = c .before .before .before .before .before .before .before in
     let at-loop = read .before .before .before in
-    let followed = read .read-node .ensures (now (at-loop .before .before .before .args .v)) (under read) (at-loop .loop .inv .small) .went _ (c .before .before .before .before .before .x .given .1) in
+    let start = at-loop .before .before .before in
+    let answers = read .read-node .ensures (now (start .args .v)) (under read) (at-loop .loop .inv .small) in
+    let followed = answers .went _ (c .before .before .before .before .before .x .given .1) in
     onward-ends (onward-passed (node-follows (at-loop .loop .inv) followed) (c .before .before .full-words .ensures)) (c .if1 .taken)
 
 kinds-requires : tie.Need-kinds-requires Inv-loop μ-loop
 kinds-requires c κs = tt
 
 shared-slice-read-kind : tie.Need-shared-slice-read-kind Inv-loop μ-loop
-shared-slice-read-kind c = let p = c .before .before .before .before .full-words .ensures in kind-inside (p .going .due) (p .due (positive _ (c .before .before .if1 .left))) (c .before .kinds .ensures)
+shared-slice-read-kind c =
+    let p = c .before .before .before .before .full-words .ensures in
+    kind-inside (p .going .due) (p .due (positive _ (c .before .before .if1 .left))) (c .before .kinds .ensures)
 
 passed-requires : tie.Need-passed-requires Inv-loop μ-loop
-passed-requires c κs = let p = c .before .before .before .before .full-words .ensures in pass-asks (p .going .due) (p .due (positive _ (c .before .before .if1 .left)))
+passed-requires c κs =
+    let p = c .before .before .before .before .full-words .ensures in
+    pass-asks (p .going .due) (p .due (positive _ (c .before .before .if1 .left)))
 
 onto-requires : tie.Need-onto-requires Inv-loop μ-loop
 onto-requires c κs = tt
@@ -79,18 +91,23 @@ loop-less : tie.Need-loop-less Inv-loop μ-loop
 loop-less c =
     let read = c .before .before .before .before .before .before .before .before .before .before .before in
     let at-loop = read .before .before .before in
-    let followed = read .read-node .ensures (now (at-loop .before .before .before .args .v)) (under read) (at-loop .loop .inv .small) .went _ (c .before .before .before .before .before .before .before .before .before .x .given .1) in
-    node-less (now (at-loop .before .before .before .args .t)) (c .before .passed .result) (c .onto .result) followed (c .before .before .before .before .before .before .full-words .ensures) (c .onto .ensures)
+    let start = at-loop .before .before .before in
+    let answers = read .read-node .ensures (now (start .args .v)) (under read) (at-loop .loop .inv .small) in
+    let followed = answers .went _ (c .before .before .before .before .before .before .before .before .before .x .given .1) in
+    let full = c .before .before .before .before .before .before in
+    node-less (now (start .args .t)) (c .before .passed .result) (c .onto .result) followed (full .full-words .ensures) (c .onto .ensures)
 
 loop-again : tie.Need-loop-again Inv-loop μ-loop
 loop-again c =
     let read = c .before .before .before .before .before .before .before .before .before .before .before in
     let at-loop = read .before .before .before in
-    let followed = read .read-node .ensures (now (at-loop .before .before .before .args .v)) (under read) (at-loop .loop .inv .small) .went _ (c .before .before .before .before .before .before .before .before .before .x .given .1) in
+    let start = at-loop .before .before .before in
+    let answers = read .read-node .ensures (now (start .args .v)) (under read) (at-loop .loop .inv .small) in
+    let followed = answers .went _ (c .before .before .before .before .before .before .before .before .before .x .given .1) in
     let p = c .before .before .before .before .before .before .full-words .ensures in
     let low = positive _ (c .before .before .before .before .if1 .left) in
-    onward-node (onward-passed (node-follows (at-loop .loop .inv) followed) p) low (p .due low) (c .before .passed .ensures) (c .onto .ensures) (c .before .before .before .kinds .ensures)
-    (at-loop .before .before .shared-slice-known .given (c .before .before .before .kinds .result) .fits)
+    onward-node (onward-passed (node-follows (at-loop .loop .inv) followed) p) low (p .due low) (c .before .passed .ensures) (c .onto .ensures)
+    (c .before .before .before .kinds .ensures) (at-loop .before .before .shared-slice-known .given (c .before .before .before .kinds .result) .fits)
 
 pub read-nodes-spec : {M : Type 1} → statement M
 read-nodes-spec =
