@@ -3,7 +3,7 @@
 --   root-open                   the byte 255 at the root is an open place
 --   side-begins, root-shut      another root is due, and is shut
 --   side-ends                   nothing is due: there is a filling, and the spans are those of the table
---   going-begins, going-ends    both of shut terms
+--   going-begins, going-ends    the walk from the root, and at the pattern's last byte
 --   walked-none                 there is no filling
 --
 use mathlib.Core.Path.{_≡_, refl, sym, ap, ap₂, _∙_, subst}
@@ -13,11 +13,11 @@ use mathlib.Core.Option.{Option, some, none}
 use Prim.Native.Nat.{ℕ, zero, suc, _+_, _*_, _/_, _%_, _<_, _≤_}
 use native.Mathlib.Omega.{arith}
 use lib.Dec.{eqb}
-use lib.ListN.{length, getD, drop, replicate, getD-replicate, length-drop}
+use lib.ListN.{length, getD, drop, replicate, getD-replicate}
 use lib.Seq.{ext-getD}
 use borrow.Author.Tests.{eqb-true}
 use Rattle.terms.specs.Lists.{All, orElse}
-use Rattle.terms.specs.Term.{Term, any, var, app, Terms, nil, cons, Ground, Grounds, gnil, gcons, Sorted, SortedAll, SortedGs, names}
+use Rattle.terms.specs.Term.{Term, any, var, app, nil, cons, Ground, Grounds, gnil, gcons, Sorted, SortedAll, SortedGs, names}
 use Rattle.terms.specs.Filling.{Filling}
 use Rattle.terms.specs.Matcher.{matchAll, matcher, noFilling}
 use Rattle.wire.specs.Map.{isOpen}
@@ -33,6 +33,7 @@ use Rattle.spans.specs.Spans.{spanAt, Told}
 use Rattle.spans.specs.Walking.{InputsRead, found, Walked, WalkedOver, Side, Shut, Going}
 use Rattle.spans.proofs.Joined.{onward, match-first}
 use Rattle.spans.proofs.Noted.{span-new}
+use Rattle.spans.proofs.Side.{open-all}
 
 -- ---- the beginning
 
@@ -115,7 +116,7 @@ going-begins p s spans e low a =
       terms = cons (a .inputs .pattern) nil;
       grounds = gcons (a .inputs .situation) gnil;
       side = rw e (side-begins a other);
-      shut = root-shut a other;
+      shut = λ l. root-shut a other;
     }
 
 -- ---- the end
@@ -156,13 +157,9 @@ side-ends {gs = gnil} c = record { answer = ap found (c .outcome); table = λ q.
 side-ends {x} {gs = gcons g gs} c = absurd (no-term (x .vocabulary) g gs (c .sorts) (c .sorted) (c .sortedGrounds))
 
 pub going-ends : {p s spans : List ℕ} {i j : ℕ} → Going p s spans i j → length p ≤ i → Walked p s spans true
-going-ends {p} {s} {spans} {i} {j} c over a = go (c a .terms) (c a .side) (c a .shut)
-  where
-    go : (ts : Terms) {gs : Grounds} → Side (a .inputs) p s spans ts gs i j → Shut ts → WalkedOver (a .inputs) spans true
-    go nil c k = side-ends c
-    go (cons any ts) c k = absurd (false≢true (sym (k .written)))
-    go (cons (var n) ts) c k = absurd (omega (arith, length-drop i p, ap length (c .pattern)))
-    go (cons (app f us) ts) c k = absurd (omega (arith, length-drop i p, ap length (c .pattern)))
+going-ends c over a =
+    let inside = c a .side .insidePattern in
+    side-ends (open-all (c a .terms) (c a .side) (omega arith))
 
 pub walked-none : {x : Inputs} {spans : List ℕ} → matcher (x .pattern) (x .situation) ≡ none → WalkedOver x spans false
 walked-none e = record { answer = sym (ap found e); table = λ q. absurd (false≢true q) }

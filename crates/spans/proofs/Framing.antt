@@ -5,30 +5,32 @@
 --   framing-rest                                 the pattern ends
 --   Turn, Written                                a turn that takes the lowest place off the frame; one at a written place
 --   turn-leave, turn-gap, turn-opened            the frame is done; there is no place; it is open
---   turn-leaf, turn-pushed, turn-differs         a word without places, one with places, another word
---   turn-named, turn-unnamed                     a name
+--   place-stands, turn-stopped                   the place can be passed; it does not fit
+--   turn-leaf, turn-pushed                       a word without places, one with places
+--   turn-named                                   a name
+--   word-room, word-later, part-later            a frame more has room; how far the walk has come in the situation
 --
 use mathlib.Core.Path.{_≡_, refl, sym, ap, ap₂, _∙_, subst, subst₂}
 use mathlib.Core.Bool.{Bool, true, false}
 use mathlib.Core.List.{List, [], _∷_, _++_}
-use Prim.Native.Nat.{ℕ, zero, suc, _+_, _-_, _*_, _%_, _<_, _≤_}
+use Prim.Native.Nat.{ℕ, zero, suc, _+_, _-_, _%_, _<_, _≤_}
 use native.Mathlib.Numerals.{add-one}
 use native.Mathlib.Omega.{arith}
-use lib.Dec.{eqb}
+use lib.Dec.{eqb, ltb}
 use lib.ListN.{length, getD, set, replicate, length-set}
-use borrow.Author.Tests.{eq-eqb, ne-eqb}
-use Rattle.terms.specs.Term.{Terms, nil, Grounds, gnil}
+use borrow.Author.Tests.{eq-eqb, ne-eqb, ltb-true, ltb-false}
+use Rattle.terms.specs.Term.{Terms, Grounds}
 use Rattle.wire.specs.Map.{mapBytes}
 use Rattle.wire.specs.Matching.{Inputs}
 use Rattle.wire.proofs.GroundBytes.{joined}
 use Rattle.spans.specs.Frames.{mapAt, writtenIn, placesIn, TwoMaps}
-use Rattle.spans.specs.Spans.{Standing, ends, Covered}
-use Rattle.spans.specs.Walking.{InputsRead, Walked, Side, AtSharedWord, WordWalked}
+use Rattle.spans.specs.Spans.{Standing, ends}
+use Rattle.spans.specs.Walking.{InputsRead, Walked, WalkedOver, Side, AtSharedWord, WordWalked, AtPlace, PlacePassed}
 use Rattle.spans.proofs.Joined.{chained}
 use Rattle.spans.proofs.Marks.{Mark, marks, marksOf, marksDue, marks-none, Shifted, marks-place, marks-gap, marks-kept, marks-again, Marked}
-use Rattle.spans.proofs.Side.{Facing, facing, facing-inside, stands, turn-open, open-all}
+use Rattle.spans.proofs.Side.{Facing, facing, facing-inside, stands, turn-open}
 use Rattle.spans.proofs.Words.{AtWord, at-word, word-pattern, word-situation, word-differs, word-goes, word-marked}
-use Rattle.spans.proofs.Names.{AtName, at-name, name-inside, name-known, name-spans, name-goes, name-later, name-none}
+use Rattle.spans.proofs.Names.{AtName, at-name, name-known, name-spans, name-goes, name-later, name-none}
 use Rattle.spans.proofs.Begin.{walked-none}
 use Rattle.spans.proofs.Going.{inOrder, shared-word}
 
@@ -45,8 +47,8 @@ pub record Framing (p s frames spans : List ℕ) (from due depth i j : ℕ) : Ty
   pub further : from < i
 
 -- There is no filling.
-pub framing-fails : {p s after : List ℕ} {from : ℕ} → Walked p s after false → WordWalked p s after from 0 0
-framing-fails h = record { no = λ e. h; further = λ d. absurd (d refl); on = λ d. absurd (d refl) }
+pub framing-fails : {p s after : List ℕ} {from r k : ℕ} → Walked p s after false → r ≡ 0 → WordWalked p s after from r k
+framing-fails h stopped = record { no = λ e. h; further = λ d. absurd (d stopped); on = λ d. absurd (d stopped) }
 
 pub framing-begins : {p s spans : List ℕ} {from at z : ℕ} → AtSharedWord p s spans from at → TwoMaps z (mapAt p from) (mapAt s at) →
     Framing p s (replicate 32 0) spans from z 1 (from + (1 + mapBytes)) (at + (1 + mapBytes))
@@ -77,18 +79,18 @@ module _ {p s frames spans : List ℕ} {from due depth i j : ℕ} (c : Framing p
           terms = over .terms;
           grounds = over .grounds;
           side = over .side;
-          shut = subst (λ x. Marked (over .terms) (marksDue due frames x)) zero (over .marked);
+          shut = λ l. subst (λ x. Marked (over .terms) (marksDue due frames x)) zero (over .marked);
         };
   }
 
   -- Nothing but open places is due.
-  pub framing-rest : i ≡ length p → WordWalked p s spans from i (length s)
-  framing-rest e = record {
+  pub framing-rest : length p ≤ i → WordWalked p s spans from i j
+  framing-rest ends = record {
     no = λ e. absurd (let further = c .further in omega arith);
     further = λ d. c .further;
     on = λ d a.
         let over = c .over a in
-        record { terms = nil; grounds = gnil; side = open-all (over .terms) (over .side) e; shut = record { written = refl; shallow = omega arith } };
+        record { terms = over .terms; grounds = over .grounds; side = over .side; shut = λ l. absurd (omega arith) };
   }
 
   -- The same terms are due by other frames.
@@ -186,51 +188,70 @@ module _ {p s frames spans : List ℕ} {from due depth i j y : ℕ} (c : Written
   at-written : (a : InputsRead p s) → Facing (a .inputs) p s spans (record { written = true; level = depth }) (marksDue y frames depth) i j
   at-written = let bit = c .bit in at-place (c .turn) (c .place) true (eq-eqb (writtenIn due % 2) 1 (omega arith))
 
-  pub pattern-inside : InputsRead p s → i < length p
-  pattern-inside a = facing-inside (at-written a)
+  turn-word : getD p i 0 < 128 → (a : InputsRead p s) → AtWord (a .inputs) p s spans depth (marksDue y frames depth) i j
+  turn-word low a = at-word (at-written a) low
 
-  module _ (low : getD p i 0 < 128) where
-    pub turn-word : (a : InputsRead p s) → AtWord (a .inputs) p s spans depth (marksDue y frames depth) i j
-    turn-word a = at-word (at-written a) low
+  turn-name : 128 ≤ getD p i 0 → (a : InputsRead p s) → AtName (a .inputs) p s spans (marksDue y frames depth) i j
+  turn-name high a = at-name (inOrder a) (at-written a) high
 
-    pub word-node : InputsRead p s → i + (1 + mapBytes) ≤ length p
-    word-node a = word-pattern (inOrder a) (turn-word a)
+  -- What passing the place asks for.
+  pub place-stands : InputsRead p s → AtPlace p s spans i j
+  place-stands a = record {
+    inside = facing-inside (at-written a);
+    most = (a .held .pattern .limits .most, a .held .situation .limits .most);
+    nodes = λ low. (word-pattern (inOrder a) (turn-word low a), word-situation (inOrder a) (turn-word low a));
+    part = λ high. stands (turn-name high a .side) (inOrder a);
+    known = λ high. name-known (turn-name high a);
+    spansInside = λ high. name-spans (turn-name high a);
+  }
 
-    pub part-node : InputsRead p s → j + (1 + mapBytes) ≤ length s
-    part-node a = word-situation (inOrder a) (turn-word a)
+  pub word-room : getD p i 0 < 128 → InputsRead p s → depth < 32
+  word-room low a = let deep = turn-word low a .deep in omega arith
 
-    pub word-room : InputsRead p s → depth < 32
-    word-room a = let deep = turn-word a .deep in omega arith
+  module _ {after : List ℕ} {r k : ℕ} (passed : PlacePassed p s spans after i j r k) where
+    pub turn-stopped : r ≡ 0 → Walked p s after false
+    turn-stopped stopped a = go (ltb (getD p i 0) 128) refl
+      where
+        go : (b : Bool) → ltb (getD p i 0) 128 ≡ b → WalkedOver (a .inputs) after false
+        go true e =
+            let low = ltb-true (getD p i 0) 128 e in
+            walked-none (word-differs (inOrder a) (turn-word low a) (passed .word low .no stopped))
+        go false e =
+            let high = ltb-false (getD p i 0) 128 e in
+            walked-none (name-none (turn-name high a) (inOrder a) (passed .name high .covered) (passed .name high .no stopped))
 
-    pub turn-differs : (getD p i 0 ≡ getD s j 0 → ⊥) → Walked p s spans false
-    turn-differs d a = walked-none (word-differs (inOrder a) (turn-word a) d)
+    -- ---- a word
 
-    module _ (shared : getD p i 0 ≡ getD s j 0) where
-      argued : (a : InputsRead p s) →
-          FramingOver (a .inputs) p s spans (marks (suc depth) (mapAt s j) (mapAt p i) ++ marksDue y frames depth) (i + (1 + mapBytes)) (j + (1 + mapBytes))
-      argued a =
-          let at = turn-word a in
-          record {
+    module _ (low : getD p i 0 < 128) (goes : r ≡ 0 → ⊥) where
+      argued : {ns : List Mark} → marks (suc depth) (mapAt s j) (mapAt p i) ++ marksDue y frames depth ≡ ns → (a : InputsRead p s) →
+          FramingOver (a .inputs) p s after ns r k
+      argued {ns} e a =
+          let word = passed .word low in
+          let at = turn-word low a in
+          subst (λ l. FramingOver (a .inputs) p s l ns r k) (sym (word .kept))
+          (subst₂ (FramingOver (a .inputs) p s spans ns) (sym (word .behind goes .0)) (sym (word .behind goes .1))
+          (record {
             terms = chained (at .arguments) (at .terms);
             grounds = joined (at .parts) (at .grounds);
-            side = word-goes (inOrder a) at shared;
-            marked = word-marked (inOrder a) at shared;
-          }
+            side = word-goes (inOrder a) at (word .shared goes);
+            marked = subst (Marked (chained (at .arguments) (at .terms))) e (word-marked (inOrder a) at (word .shared goes));
+          }))
 
-      remarked : {ns : List Mark} → marks (suc depth) (mapAt s j) (mapAt p i) ++ marksDue y frames depth ≡ ns → (a : InputsRead p s) →
-          FramingOver (a .inputs) p s spans ns (i + (1 + mapBytes)) (j + (1 + mapBytes))
-      remarked e a = subst (λ ns. FramingOver (a .inputs) p s spans ns (i + (1 + mapBytes)) (j + (1 + mapBytes))) e (argued a)
+      pub word-later : k ≡ j + (1 + mapBytes)
+      word-later = passed .word low .behind goes .1
 
-      pub turn-leaf : mapAt s j ≡ 0 → Framing p s frames spans from y depth (i + (1 + mapBytes)) (j + (1 + mapBytes))
-      turn-leaf none = turned (c .turn) (remarked (ap (λ l. l ++ marksDue y frames depth) (marks-none (suc depth) (mapAt s j) (mapAt p i) none))) (omega arith)
+      pub turn-leaf : mapAt s j ≡ 0 → Framing p s frames after from y depth r k
+      turn-leaf none =
+          turned (c .turn) (argued (ap (λ l. l ++ marksDue y frames depth) (marks-none (suc depth) (mapAt s j) (mapAt p i) none)))
+          (let behind = passed .word low .behind goes .0 in omega arith)
 
-      pub turn-pushed : InputsRead p s → (z : ℕ) → TwoMaps z (mapAt p i) (mapAt s j) →
-          Framing p s (set frames depth y) spans from z (depth + 1) (i + (1 + mapBytes)) (j + (1 + mapBytes))
+      pub turn-pushed : InputsRead p s → (z : ℕ) → TwoMaps z (mapAt p i) (mapAt s j) → Framing p s (set frames depth y) after from z (depth + 1) r k
       turn-pushed a z maps =
-          let room = word-room a in
+          let room = word-room low a in
           let further = c .turn .inv .further in
+          let behind = passed .word low .behind goes .0 in
           record {
-            over = remarked
+            over = argued
                 (ap₂ (λ q w. marks (suc depth) q w ++ marksDue y frames depth) (sym (maps .places)) (sym (maps .written))
                 ∙ ap (λ l. marks (suc depth) (placesIn z) (writtenIn z) ++ l) kept
                 ∙ ap (marksDue z (set frames depth y)) (sym (add-one depth)));
@@ -242,36 +263,24 @@ module _ {p s frames spans : List ℕ} {from due depth i j y : ℕ} (c : Written
           kept : marksDue y frames depth ≡ marksOf (set frames depth y) depth
           kept =
               ap (marksDue y frames) (same-depth (c .turn))
-              ∙ sym (marks-kept frames (depth - 1) y (omega (arith, word-room a, c .turn .inv .entries, (same-depth (c .turn)))))
+              ∙ sym (marks-kept frames (depth - 1) y (omega (arith, word-room low a, c .turn .inv .entries, (same-depth (c .turn)))))
               ∙ ap (λ d. marksOf (set frames d y) d) (sym (same-depth (c .turn)))
 
-  module _ (high : 128 ≤ getD p i 0) where
-    pub turn-name : (a : InputsRead p s) → AtName (a .inputs) p s spans (marksDue y frames depth) i j
-    turn-name a = at-name (inOrder a) (at-written a) high
+    -- ---- a name
 
-    pub name-behind : InputsRead p s → i + 1 ≤ length p
-    name-behind a = name-inside (turn-name a)
+    module _ (high : 128 ≤ getD p i 0) (goes : r ≡ 0 → ⊥) where
+      pub turn-named : Framing p s frames after from y depth r k
+      turn-named =
+          let name = passed .name high in
+          let behind = name .behind goes .0 in
+          turned (c .turn) (λ a.
+          let at = turn-name high a in
+          record {
+            terms = at .terms;
+            grounds = at .grounds;
+            side = subst (λ i. Side (a .inputs) p s after (at .terms) (at .grounds) i k) (sym behind) (name-goes at (inOrder a) (name .covered) (name .behind goes .1));
+            marked = at .rest;
+          }) (omega arith)
 
-    module _ {b : ℕ} (byte : b ≡ getD p i 0) where
-      -- What covering the part asks for.
-      pub name-covers : InputsRead p s →
-          Standing s j × (((b - 128 < 64) × (length s ≤ 4096)) × (getD spans (2 * (b - 128)) 0 + getD spans (2 * (b - 128) + 1) 0 ≤ length s))
-      name-covers a =
-          let at = turn-name a in
-          (stands (at .side) (inOrder a), ((rw byte (name-known at), a .held .situation .limits .most), rw byte (name-spans at)))
-
-      module _ {after : List ℕ} {r : ℕ} (covered : Covered s spans after (b - 128) j r) where
-        here : Covered s spans after (getD p i 0 - 128) j r
-        here = rw byte at covered
-
-        pub turn-named : (r ≡ 0 → ⊥) → Framing p s frames after from y depth (i + 1) r
-        turn-named goes =
-            turned (c .turn) (λ a.
-            let at = turn-name a in
-            record { terms = at .terms; grounds = at .grounds; side = name-goes at (inOrder a) here goes; marked = at .rest }) (omega arith)
-
-        pub part-later : InputsRead p s → (r ≡ 0 → ⊥) → j ≤ r
-        part-later a goes = name-later (turn-name a) (inOrder a) here goes
-
-        pub turn-unnamed : r ≡ 0 → Walked p s after false
-        turn-unnamed none a = walked-none (name-none (turn-name a) (inOrder a) here none)
+      pub part-later : InputsRead p s → j ≤ k
+      part-later a = name-later (turn-name high a) (inOrder a) (passed .name high .covered) (passed .name high .behind goes .1)

@@ -33,7 +33,7 @@ inOrder a = a .held .vocabulary .good .inOrder
 
 module _ {p s spans : List ℕ} {i j : ℕ} (c : Going p s spans i j) (some : i < length p) where
   pub going-faces : (a : InputsRead p s) → Facing (a .inputs) p s spans (record { written = true; level = 0 }) [] i j
-  going-faces a = facing-shut (c a .side) (c a .shut) some
+  going-faces a = facing-shut (c a .side) (c a .shut some) some
 
   -- ---- a word
 
@@ -57,7 +57,7 @@ module _ {p s spans : List ℕ} {i j : ℕ} (c : Going p s spans i j) (some : i 
           terms = chained (at .arguments) (at .terms);
           grounds = joined (at .parts) (at .grounds);
           side = word-goes (inOrder a) at e;
-          shut = word-shut (inOrder a) at e (at .rest) full;
+          shut = λ l. word-shut (inOrder a) at e (at .rest) full;
         }
 
   -- ---- a name
@@ -84,7 +84,7 @@ module _ {p s spans : List ℕ} {i j : ℕ} (c : Going p s spans i j) (some : i 
         pub going-named : (r ≡ 0 → ⊥) → Going p s after (i + 1) r
         going-named goes a =
             let at = going-name a in
-            record { terms = at .terms; grounds = at .grounds; side = name-goes at (inOrder a) here goes; shut = at .rest }
+            record { terms = at .terms; grounds = at .grounds; side = name-goes at (inOrder a) here goes; shut = λ l. at .rest }
 
         pub going-unnamed : r ≡ 0 → Walked p s after false
         going-unnamed none a = walked-none (name-none (going-name a) (inOrder a) here none)

@@ -55,9 +55,9 @@ module _ {p s frames spans : List ℕ} {from due depth i j y : ℕ} (c : Turn p 
   pub left-on : (end : ℕ) → j ≤ end → leftOf s y frames depth end < leftOf s due frames depth j
   left-on end l = omega (arith, fewer)
 
-  pub left-word : (z : ℕ) → depth < 32 → j + (1 + mapBytes) ≤ length s →
-      leftOf s z (set frames depth y) (depth + 1) (j + (1 + mapBytes)) < leftOf s due frames depth j
-  left-word z room long =
+  pub left-word : (z end : ℕ) → depth < 32 → j + (1 + mapBytes) ≤ length s → end ≡ j + (1 + mapBytes) →
+      leftOf s z (set frames depth y) (depth + 1) end < leftOf s due frames depth j
+  left-word z end room long behind =
       let some = c .some in
       let same : depth ≡ suc (depth - 1) = omega arith in
       let kept : turnsOf (set frames depth y) depth ≡ turnsDue y frames depth =

@@ -7,26 +7,31 @@
 --   Walked p s after r            the same of whatever inputs p and s write
 --   Side x p s spans ts gs i j    the terms ts of the pattern and gs of the situation are still due, at i and j
 --   Shut ts                       none of the terms ts is an open place, or too deep
---   Going p s spans i j           such terms are due
+--   GoingOver x p s spans i j     such terms are due; behind the pattern's last byte open places may be due too
+--   Going p s spans i j           the same of whatever inputs p and s write
 --   AtSharedWord p s spans i j    .. and the first two begin with the same word
 --   WordWalked                    what going through a word answers: the same state behind it, or 0 where there is no filling
+--   AtPlace p s spans i j         a word or a name stands in the pattern at i, over a part of the situation at j
+--   WordPassed, NamePassed        what passing it answers: how far the walk has come then, or 0 where it does not fit
+--   PlacePassed                   one of these, by the byte that stands there
 --
 use mathlib.Core.Path.{_≡_}
 use mathlib.Core.Bool.{Bool, true, false}
 use mathlib.Core.List.{List}
 use mathlib.Core.Option.{Option, some, none}
-use Prim.Native.Nat.{ℕ, _*_, _+_, _<_, _≤_}
+use Prim.Native.Nat.{ℕ, _*_, _+_, _-_, _<_, _≤_}
 use lib.ListN.{length, getD, drop}
 use Rattle.terms.specs.Lists.{All, orElse}
 use Rattle.terms.specs.Term.{Terms, Grounds, SortedAll, SortedGs, namesAll}
 use Rattle.terms.specs.Filling.{Filling}
 use Rattle.terms.specs.Matcher.{matchAll, matcher}
+use Rattle.wire.specs.Map.{mapBytes}
 use Rattle.wire.specs.Vocabulary.{signature}
 use Rattle.wire.specs.TermBytes.{nameCount, encodeAll, asTerms, levelsAll}
 use Rattle.wire.specs.SituationComputed.{someOpen}
 use Rattle.wire.specs.Matching.{Inputs, HoldsInputs, spanFrom, spanAll}
 use Rattle.wire.specs.MatchComputed.{spanTable}
-use Rattle.spans.specs.Spans.{spanAt, bound, Told}
+use Rattle.spans.specs.Spans.{spanAt, Standing, Covered, bound, Told}
 
 pub record InputsRead (p s : List ℕ) : Type 0 where
   pub bytes : List ℕ
@@ -70,7 +75,7 @@ pub record GoingOver (x : Inputs) (p s spans : List ℕ) (i j : ℕ) : Type 0 wh
   pub terms : Terms
   pub grounds : Grounds
   pub side : Side x p s spans terms grounds i j
-  pub shut : Shut terms
+  pub shut : i < length p → Shut terms
 
 abbrev pub Going : List ℕ → List ℕ → List ℕ → ℕ → ℕ → Type 0
 Going p s spans i j = (a : InputsRead p s) → GoingOver (a .inputs) p s spans i j
@@ -85,3 +90,26 @@ pub record WordWalked (p s after : List ℕ) (i pattern situation : ℕ) : Type 
   pub no : pattern ≡ 0 → Walked p s after false
   pub further : (pattern ≡ 0 → ⊥) → i < pattern
   pub on : (pattern ≡ 0 → ⊥) → Going p s after pattern situation
+
+pub record AtPlace (p s spans : List ℕ) (i j : ℕ) : Type 0 where
+  pub inside : i < length p
+  pub most : (length p ≤ 4096) × (length s ≤ 4096)
+  pub nodes : getD p i 0 < 128 → (i + (1 + mapBytes) ≤ length p) × (j + (1 + mapBytes) ≤ length s)
+  pub part : 128 ≤ getD p i 0 → Standing s j
+  pub known : 128 ≤ getD p i 0 → getD p i 0 - 128 < 64
+  pub spansInside : 128 ≤ getD p i 0 → getD spans (2 * (getD p i 0 - 128)) 0 + getD spans (2 * (getD p i 0 - 128) + 1) 0 ≤ length s
+
+pub record WordPassed (p s before after : List ℕ) (i j pattern situation : ℕ) : Type 0 where
+  pub kept : after ≡ before
+  pub no : pattern ≡ 0 → getD p i 0 ≡ getD s j 0 → ⊥
+  pub shared : (pattern ≡ 0 → ⊥) → getD p i 0 ≡ getD s j 0
+  pub behind : (pattern ≡ 0 → ⊥) → (pattern ≡ i + (1 + mapBytes)) × (situation ≡ j + (1 + mapBytes))
+
+pub record NamePassed (p s before after : List ℕ) (i j pattern situation : ℕ) : Type 0 where
+  pub covered : Covered s before after (getD p i 0 - 128) j situation
+  pub no : pattern ≡ 0 → situation ≡ 0
+  pub behind : (pattern ≡ 0 → ⊥) → (pattern ≡ i + 1) × (situation ≡ 0 → ⊥)
+
+pub record PlacePassed (p s before after : List ℕ) (i j pattern situation : ℕ) : Type 0 where
+  pub word : getD p i 0 < 128 → WordPassed p s before after i j pattern situation
+  pub name : 128 ≤ getD p i 0 → NamePassed p s before after i j pattern situation

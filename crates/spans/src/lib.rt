@@ -9,7 +9,7 @@ ghost use Rattle.wire.specs.MatchComputed.{matched};
 ghost use Rattle.spans.specs.Answers.{spansNumbers};
 ghost use Rattle.spans.specs.Frames.{mapAt, placesIn, writtenIn, TwoMaps};
 ghost use Rattle.spans.specs.Spans.{withSpan, Standing, ends, Covered};
-ghost use Rattle.spans.specs.Walking.{InputsRead, Walked, AtSharedWord, WordWalked};
+ghost use Rattle.spans.specs.Walking.{InputsRead, Walked, AtSharedWord, WordWalked, AtPlace, PlacePassed};
 use inputs::InputsAnswer;
 use inputs::InputsRefusal;
 
@@ -141,8 +141,40 @@ struct Reached {
     situation: usize,
 }
 
+// Passes a place that the pattern writes: a word must be the same word, and a name covers the part.
+fn pass_place(p: &[u8], s: &[u8], spans: &mut [u16; 128], i: usize, j: usize) -> Reached
+    requires { ⌜ AtPlace (now p) (now s) (now spans) i j ⌝ }
+    ensures { λ r. ⌜ PlacePassed (now (p .entry)) (now (s .entry)) (now (spans .entry)) (now (spans .exit)) i j (r .pattern) (r .situation) ⌝ }
+{
+    let b = p[i];
+    if b < 128 {
+        if b == s[j] {
+            return Reached {
+                pattern: i + maps::NODE,
+                situation: j + maps::NODE,
+            };
+        }
+        return Reached {
+            pattern: 0,
+            situation: 0,
+        };
+    }
+    let end = cover(s, spans, wide(b) - 128, j);
+    if end == 0 {
+        return Reached {
+            pattern: 0,
+            situation: 0,
+        };
+    }
+    Reached {
+        pattern: i + 1,
+        situation: end,
+    }
+}
+
 // Goes through a word that has open places side by side with the part of the situation that begins with the same word.
-// The places of the words around a place are kept in frames.
+// The places of the words around a place are kept in frames. It ends at the pattern's last byte too: behind it only
+// open places are due, which take the rest.
 fn walk_word(p: &[u8], s: &[u8], spans: &mut [u16; 128], from: usize, at: usize) -> Reached
     requires { ⌜ InputsRead (now p) (now s) ⌝ }
     requires { ⌜ AtSharedWord (now p) (now s) (now spans) from at ⌝ }
@@ -153,7 +185,7 @@ fn walk_word(p: &[u8], s: &[u8], spans: &mut [u16; 128], from: usize, at: usize)
     let mut depth: usize = 1;
     let mut i = from + maps::NODE;
     let mut j = at + maps::NODE;
-    while 0 < depth {
+    while 0 < depth && i < p.len() {
         let places = due / 256 % 256;
         if places == 0 {
             depth -= 1;
@@ -163,42 +195,22 @@ fn walk_word(p: &[u8], s: &[u8], spans: &mut [u16; 128], from: usize, at: usize)
             due = passed(due);
             if places % 2 == 1 {
                 if written == 0 {
-                    // Behind the pattern's last byte only open places are due, which take the rest.
-                    if i == p.len() {
-                        return Reached {
-                            pattern: i,
-                            situation: s.len(),
-                        };
-                    }
                     j = end_of(s, j);
                 } else {
-                    let b = p[i];
-                    if b < 128 {
-                        if b != s[j] {
-                            return Reached {
-                                pattern: 0,
-                                situation: 0,
-                            };
-                        }
+                    let next = pass_place(p, s, spans, i, j);
+                    if next.pattern == 0 {
+                        return next;
+                    }
+                    if p[i] < 128 {
                         let map = map_at(s, j);
-                        let inner = frame(map_at(p, i), map);
-                        i += maps::NODE;
-                        j += maps::NODE;
                         if map != 0 {
                             frames[depth] = due;
-                            due = inner;
+                            due = frame(map_at(p, i), map);
                             depth += 1;
                         }
-                    } else {
-                        j = cover(s, spans, wide(b) - 128, j);
-                        if j == 0 {
-                            return Reached {
-                                pattern: 0,
-                                situation: 0,
-                            };
-                        }
-                        i += 1;
                     }
+                    i = next.pattern;
+                    j = next.situation;
                 }
             }
         }

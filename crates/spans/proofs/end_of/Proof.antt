@@ -1,5 +1,11 @@
 -- `spans::end_of` meets its contract. The loop's invariant: so many terms are due at the end reached. The measure is the
 -- number of the situation's bytes that are left.
+--
+--   Inv-loop, μ-loop              the invariant and the measure
+--   loop-holds, returns           before the first turn, and behind the last
+--   sub-due to loop-again         a turn that passes one word
+--   add-second to loop-again-2    a turn that passes four
+--
 use Prim.Native.Nat.{_-_}
 use native.Mathlib.Omega.{arith}
 use lib.ListN.{length}
