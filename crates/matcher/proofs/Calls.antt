@@ -23,11 +23,11 @@ use lib.ListN.{length, getD, take, drop, replicate, length-drop, length-append, 
 use lib.Seq.{length-take-le}
 use borrow.Author.Tests.{ne-eqb, eq-eqb}
 use Rattle.terms.specs.Lists.{occurs}
-use Rattle.terms.specs.Term.{Ground, names}
+use Rattle.terms.specs.Term.{Ground, names, asTerm}
 use Rattle.terms.specs.Filling.{Filling}
 use Rattle.terms.specs.Matcher.{matcher}
 use Rattle.wire.specs.Reply.{Reply, accepted, refused}
-use Rattle.wire.specs.TermBytes.{nameCount, encodeAt, asTerm}
+use Rattle.wire.specs.TermBytes.{nameCount, encodeAt}
 use Rattle.wire.specs.Matching.{Inputs, HoldsInputs, tableLength, Span, noSpan, orNoSpan, span, spanFrom, spanIn, yes, no, cutOut, MatchPromise, PartPromise}
 use Rattle.wire.specs.Effect.{Effect, HasEffect}
 use Rattle.wire.specs.MatchComputed.{Judged, clear, refusal, judged, verdict, matchedWith, matched, spanFound, spanWith, partSpan}

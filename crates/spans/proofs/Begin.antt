@@ -17,12 +17,12 @@ use lib.ListN.{length, getD, drop, replicate, getD-replicate}
 use lib.Seq.{ext-getD}
 use borrow.Author.Tests.{eqb-true}
 use Rattle.terms.specs.Lists.{All, orElse}
-use Rattle.terms.specs.Term.{Term, any, var, app, nil, cons, Ground, Grounds, gnil, gcons, Sorted, SortedAll, SortedGs, names}
+use Rattle.terms.specs.Term.{Term, any, var, app, nil, cons, Ground, Grounds, gnil, gcons, Sorted, SortedAll, SortedGs, names, asTerm}
 use Rattle.terms.specs.Filling.{Filling}
 use Rattle.terms.specs.Matcher.{matchAll, matcher, noFilling}
 use Rattle.wire.specs.Map.{isOpen}
 use Rattle.wire.specs.Vocabulary.{Vocabulary, signature}
-use Rattle.wire.specs.TermBytes.{nameCount, encodeAt, encodeAll, encodeRoot, asTerm}
+use Rattle.wire.specs.TermBytes.{nameCount, encodeAt, encodeAll, encodeRoot}
 use Rattle.wire.specs.Matching.{Inputs, Span, orNoSpan, spanFrom, spanIn}
 use Rattle.wire.specs.MatchComputed.{spanTable}
 use Rattle.wire.proofs.Words.{length-symbols}

@@ -5,10 +5,10 @@ use Prim.Native.Nat.{ℕ, suc, _+_, _-_, _*_, _<_, _≤_}
 use native.Mathlib.Omega.{arith}
 use lib.Count
 use lib.ListN.{length, length-append, length-drop}
-use Rattle.terms.specs.Term.{Grounds, gnil, gcons, SortedGs}
+use Rattle.terms.specs.Term.{Grounds, gnil, gcons, SortedGs, asTerm, asTerms}
 use Rattle.wire.specs.Map.{mapBytes, flags, ones}
 use Rattle.wire.specs.Vocabulary.{Vocabulary, signature, mapOf}
-use Rattle.wire.specs.TermBytes.{encodeAt, encodeAll, asTerm, asTerms}
+use Rattle.wire.specs.TermBytes.{encodeAt, encodeAll}
 use Rattle.wire.proofs.Map.{ones-count}
 use Rattle.wire.proofs.Words.{word-in-order}
 use Rattle.wire.proofs.GroundBytes.{size-least}

@@ -12,11 +12,11 @@ use Prim.Native.Nat.{ℕ, _+_}
 use native.Mathlib.Omega.{arith}
 use lib.ListN.{length, length-append}
 use Rattle.terms.specs.Signature.{Signature}
-use Rattle.terms.specs.Term.{Term, Terms, nil, cons, Ground, Grounds, gnil, gcons, SortedAll, SortedGs, names, namesAll}
+use Rattle.terms.specs.Term.{Term, Terms, nil, cons, Ground, Grounds, gnil, gcons, SortedAll, SortedGs, names, namesAll, asTerm, asTerms}
 use Rattle.terms.specs.Filling.{Filling}
 use Rattle.terms.specs.Matcher.{matchFrom, matchAll}
 use Rattle.wire.specs.Vocabulary.{Vocabulary}
-use Rattle.wire.specs.TermBytes.{encodeAt, encodeAll, asTerm, asTerms}
+use Rattle.wire.specs.TermBytes.{encodeAt, encodeAll}
 use Rattle.wire.specs.Matching.{size, Span, spanFrom, spanAll}
 use Rattle.terms.specs.Lists.{orElse}
 use Rattle.wire.proofs.GroundBytes.{joined}

@@ -19,13 +19,13 @@ use lib.ListN.{length, getD, take, drop, set, length-set, take-append-drop}
 use lib.Seq.{take-at}
 use borrow.Author.Tests.{ne-eqb}
 use Rattle.terms.specs.Lists.{orElse}
-use Rattle.terms.specs.Term.{Term, any, var, app, Terms, cons, Ground, gapp, Grounds, gcons}
+use Rattle.terms.specs.Term.{Term, any, var, app, Terms, cons, Ground, gapp, Grounds, gcons, asTerm, asTerms}
 use Rattle.terms.specs.Filling.{Filling}
 use Rattle.terms.specs.Matcher.{same as sameGround, withName, matchName, matchAll, matcher}
 use Rattle.terms.proofs.Bools.{eqb-refl, false-of-not}
 use Rattle.terms.proofs.Term.{same-true, same-refl}
 use Rattle.wire.specs.Vocabulary.{Vocabulary, signature, InOrder}
-use Rattle.wire.specs.TermBytes.{nameCount, nameByte, encodeAt, encodeAll, asTerm, asTerms}
+use Rattle.wire.specs.TermBytes.{nameCount, nameByte, encodeAt, encodeAll}
 use Rattle.wire.specs.Matching.{Inputs, size, spanAll, spanFrom, spanIn}
 use Rattle.wire.proofs.Words.{length-symbols}
 use Rattle.wire.proofs.GroundBytes.{size-least, ground-front}

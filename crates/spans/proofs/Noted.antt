@@ -17,9 +17,9 @@ use lib.Dec.{eqb}
 use lib.ListN.{length, getD, set, length-set, length-drop, length-append}
 use lib.Seq.{getD-set-same, getD-set-other}
 use borrow.Author.Tests.{eqb-true, eq-eqb, ne-eqb}
-use Rattle.terms.specs.Term.{Ground}
+use Rattle.terms.specs.Term.{Ground, asTerm}
 use Rattle.wire.specs.Vocabulary.{Vocabulary}
-use Rattle.wire.specs.TermBytes.{encodeAt, asTerm}
+use Rattle.wire.specs.TermBytes.{encodeAt}
 use Rattle.wire.specs.Matching.{Span, spanIn}
 use Rattle.wire.proofs.GroundBytes.{size-least}
 use Rattle.spans.specs.Spans.{withSpan, noted, spanAt, Holding, Told}

@@ -16,12 +16,12 @@ use Prim.Native.Nat.{ℕ, _+_, _<_, _≤_}
 use native.Mathlib.Omega.{arith}
 use lib.ListN.{length, length-drop, length-append, drop}
 use lib.Seq.{drop-drop, drop-at}
-use Rattle.terms.specs.Term.{Term, any, var, app, Terms, nil, cons, Ground, Grounds, gnil, gcons, SortedAll, SortedGs}
+use Rattle.terms.specs.Term.{Term, any, var, app, Terms, nil, cons, Ground, Grounds, gnil, gcons, SortedAll, SortedGs, asTerm, asTerms}
 use Rattle.terms.specs.Matcher.{withOpen}
 use Rattle.terms.proofs.Bools.{or-parts}
 use Rattle.wire.specs.Vocabulary.{Vocabulary, signature, InOrder}
 use Rattle.wire.specs.Map.{isOpen}
-use Rattle.wire.specs.TermBytes.{encodeAt, encodeAll, asTerm, asTerms}
+use Rattle.wire.specs.TermBytes.{encodeAt, encodeAll}
 use Rattle.wire.specs.SituationComputed.{someOpen}
 use Rattle.wire.specs.Matching.{Inputs, size}
 use Rattle.spans.specs.Spans.{Standing}

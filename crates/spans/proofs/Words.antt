@@ -17,14 +17,14 @@ use lib.ListN.{length, getD}
 use borrow.Author.Tests.{ne-eqb}
 use Rattle.terms.specs.Lists.{All, orElse}
 use Rattle.terms.specs.Signature.{arguments}
-use Rattle.terms.specs.Term.{Term, any, var, app, Terms, cons, Ground, gapp, Grounds, gcons, SortedAll}
+use Rattle.terms.specs.Term.{Term, any, var, app, Terms, cons, Ground, gapp, Grounds, gcons, SortedAll, asTerms}
 use Rattle.terms.specs.Filling.{Filling}
 use Rattle.terms.specs.Matcher.{matchAll, matcher}
 use Rattle.terms.proofs.Bools.{eqb-refl}
 use Rattle.terms.proofs.Matcher.{match-app}
 use Rattle.wire.specs.Map.{mapBytes}
 use Rattle.wire.specs.Vocabulary.{Vocabulary, signature, mapOf, InOrder}
-use Rattle.wire.specs.TermBytes.{nameCount, writtenMap, encodeAll, asTerms, levels}
+use Rattle.wire.specs.TermBytes.{nameCount, writtenMap, encodeAll, levels}
 use Rattle.wire.specs.Matching.{Inputs, size, spanAll}
 use Rattle.wire.proofs.Words.{arguments-word}
 use Rattle.wire.proofs.FullMap.{full-map-means-no-open-place}

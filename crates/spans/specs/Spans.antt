@@ -17,10 +17,10 @@ use mathlib.Core.Option.{Option, some, none}
 use Prim.Native.Nat.{ℕ, _+_, _-_, _*_, _≤_}
 use lib.Dec.{eqb}
 use lib.ListN.{length, getD, take, drop, set}
-use Rattle.terms.specs.Term.{Ground, SortedG}
+use Rattle.terms.specs.Term.{Ground, SortedG, asTerm}
 use Rattle.terms.specs.Filling.{Binding}
 use Rattle.wire.specs.Vocabulary.{Vocabulary, signature, InOrder}
-use Rattle.wire.specs.TermBytes.{encodeAt, asTerm}
+use Rattle.wire.specs.TermBytes.{encodeAt}
 use Rattle.wire.specs.Matching.{size, Span, spanIn}
 
 abbrev pub withSpan : List ℕ → ℕ → ℕ → ℕ → List ℕ

@@ -22,12 +22,12 @@ use mathlib.Core.Option.{Option, some, none}
 use Prim.Native.Nat.{ℕ, _*_, _+_, _-_, _<_, _≤_}
 use lib.ListN.{length, getD, drop}
 use Rattle.terms.specs.Lists.{All, orElse}
-use Rattle.terms.specs.Term.{Terms, Grounds, SortedAll, SortedGs, namesAll}
+use Rattle.terms.specs.Term.{Terms, Grounds, SortedAll, SortedGs, namesAll, asTerms}
 use Rattle.terms.specs.Filling.{Filling}
 use Rattle.terms.specs.Matcher.{matchAll, matcher}
 use Rattle.wire.specs.Map.{mapBytes}
 use Rattle.wire.specs.Vocabulary.{signature}
-use Rattle.wire.specs.TermBytes.{nameCount, encodeAll, asTerms, levelsAll}
+use Rattle.wire.specs.TermBytes.{nameCount, encodeAll, levelsAll}
 use Rattle.wire.specs.SituationComputed.{someOpen}
 use Rattle.wire.specs.Matching.{Inputs, HoldsInputs, spanFrom, spanAll}
 use Rattle.wire.specs.MatchComputed.{spanTable}

@@ -7,6 +7,8 @@
 --   OneFilling                  no two fillings turn a pattern into the same ground term
 --   SortsAddNothing             between two terms of one sort, matching is being an instance
 --   MatchingIsFitting           for a ground term of the sort, matching is the same as having a filling
+--   ReplacingIsSubstitution     names are replaced as source 004 applies a substitution
+--   ReplacingIsFilling          .. and, where no place is open, as document 01 carries out a filling
 --   withEntries S p             the pattern at index 0, and its entries behind it
 --   Partition                   every ground term fits exactly one of the pattern and its entries, by one filling
 --   StrikeOut                   each entry has a ground term that fits it and nothing else
@@ -21,9 +23,10 @@ use Prim.Native.Nat.{ℕ, _<_}
 use lib.ListN.{length, getD}
 use Rattle.terms.specs.Lists.{All, occurs}
 use Rattle.terms.specs.Signature.{Signature, WellFormed}
-use Rattle.terms.specs.Term.{Term, Ground, SortedG, Sorted, WellSorted, occurrences, names, Linear, openSorts}
-use Rattle.terms.specs.Filling.{Filling, noGround, valueOf, fill, IsFilling, Fits}
-use Rattle.terms.specs.Substitution.{Tm, Matches, asTm, withVariables}
+use Rattle.terms.specs.Term.{Term, Ground, asTerm, SortedG, Sorted, WellSorted, occurrences, names, Linear, openSorts, openings}
+use Rattle.terms.specs.Filling.{Binding, Filling, noGround, valueOf, fill, IsFilling, Fits}
+use Rattle.terms.specs.Substitution.{Tm, Substitution, carry, Matches, asTm, withVariables}
+use Rattle.terms.specs.Replacing.{replace, Applies}
 use Rattle.terms.specs.Instance.{SortedT, Instance, Represents}
 use Rattle.terms.specs.Inhabited.{Inhabited}
 use Rattle.terms.specs.Listing.{listing, FitsExactlyOne, Needed}
@@ -66,6 +69,22 @@ abbrev pub MatchingIsFitting : Type 0
 MatchingIsFitting =
     (S : Signature) (p : Term) (s : ℕ) (g : Ground) → WellSorted S p s → SortedG S g s →
     Fits S p s g ↔ Matches (withVariables S p s) (asTm g)
+
+-- ---- replacing names
+
+-- The substitution that bindings stand for exists, and applied to the pattern it gives the pattern with its names replaced.
+abbrev pub ReplacingIsSubstitution : Type 0
+ReplacingIsSubstitution =
+    (S : Signature) (p : Term) (s : ℕ) (bs : List Binding) → WellSorted S p s →
+    All (λ o. SortedG S (valueOf bs (o .name)) (o .sort)) (occurrences S p s) →
+    ((σ : Substitution) × Applies S p s bs σ) ×
+    ((σ : Substitution) → Applies S p s bs σ → carry (σ .value) (withVariables S p s) ≡ withVariables S (replace bs p) s)
+
+abbrev pub ReplacingIsFilling : Type 0
+ReplacingIsFilling =
+    (p : Term) (bs : List Binding) (f : Filling) → openings p ≡ 0 →
+    ((n : ℕ) → occurs n (names p) ≡ true → valueOf (f .named) n ≡ valueOf bs n) →
+    replace bs p ≡ asTerm (fill p f)
 
 -- ---- listings
 

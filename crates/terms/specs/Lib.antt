@@ -5,6 +5,7 @@ pub mod Signature
 pub mod Term
 pub mod Filling
 pub mod Substitution
+pub mod Replacing
 pub mod Instance
 pub mod Inhabited
 pub mod Listing

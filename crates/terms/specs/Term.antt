@@ -2,6 +2,7 @@
 --
 --   Term, Terms                            a term, and the terms at a symbol's argument places, lowest place first
 --   Ground, Grounds                        ground terms, of any size and depth (document 01: complete situations)
+--   asTerm g, asTerms gs                   a ground term as a term, ground terms as terms
 --   Sorted S t s, SortedAll S ts ks        t is a term of sort s, ts are terms of the sorts ks
 --   SortedG S g s, SortedGs S gs ks        g is a ground term of sort s, gs are ground terms of the sorts ks
 --   Occurrence                             a variable and the sort due where it stands
@@ -40,6 +41,14 @@ mutual
   pub data Grounds : Type 0 where
     gnil : Grounds
     gcons : Ground → Grounds → Grounds
+
+abbrev mutual
+  pub asTerm : Ground → Term
+  asTerm (gapp f gs) = app f (asTerms gs)
+
+  pub asTerms : Grounds → Terms
+  asTerms gnil = nil
+  asTerms (gcons g gs) = cons (asTerm g) (asTerms gs)
 
 abbrev mutual
   pub Sorted : Signature → Term → ℕ → Type 0

@@ -6,11 +6,11 @@ use mathlib.Core.Option.{Option, some, none, Option·some-ne-none}
 use Prim.Native.Nat.{ℕ, _+_, _<_}
 use lib.ListN.{length}
 use Rattle.terms.specs.Signature.{Signature, arguments}
-use Rattle.terms.specs.Term.{Term, any, var, app, Terms, nil, cons, Ground, gapp, Grounds, gnil, gcons, Sorted, SortedAll, SortedG, SortedGs, occurrences, occurrencesAll, names, namesAll}
+use Rattle.terms.specs.Term.{Term, any, var, app, Terms, nil, cons, Ground, gapp, Grounds, gnil, gcons, Sorted, SortedAll, SortedG, SortedGs, occurrences, occurrencesAll, names, namesAll, asTerm, asTerms}
 use Rattle.terms.proofs.Bools.{and-parts, or-parts}
 use Rattle.wire.specs.Map.{mapBytes, isOpen}
 use Rattle.wire.specs.Vocabulary.{Vocabulary, signature}
-use Rattle.wire.specs.TermBytes.{GoodTerm, complete, completeAll, asTerm, asTerms, encodeAt}
+use Rattle.wire.specs.TermBytes.{GoodTerm, complete, completeAll, encodeAt}
 use Rattle.wire.specs.SituationComputed.{ground, grounds, someOpen, gapFrom, gapAll}
 use Rattle.terms.specs.Lists.{orElse}
 use Rattle.wire.specs.Laws.{CompleteIsGround, NoGapIsComplete}

@@ -6,12 +6,12 @@ use Prim.Native.Nat.{ℕ, zero, suc, _+_, _*_, _<_}
 use native.Mathlib.Omega.{arith}
 use lib.ListN.{length, take, drop, take-append-drop, getD}
 use lib.Seq.{ext-getD}
-use Rattle.terms.specs.Term.{Ground, gapp}
+use Rattle.terms.specs.Term.{Ground, gapp, asTerm}
 use Rattle.terms.specs.Filling.{valueOf}
 use Rattle.terms.specs.Listing.{listing}
 use Rattle.wire.specs.Reply.{Reply, accepted, refused, kinded}
 use Rattle.wire.specs.Vocabulary.{Vocabulary, signature}
-use Rattle.wire.specs.TermBytes.{nameCount, encodeAt, asTerm}
+use Rattle.wire.specs.TermBytes.{nameCount, encodeAt}
 use Rattle.wire.specs.Matching.{tableLength, Span, noSpan, spanIn, cutOut, yes, MatchPromise, PartPromise}
 use Rattle.wire.specs.Leftovers.{entriesBytes, listingBytes, ListPromise}
 use Rattle.wire.specs.Laws.{VocabularyFixed, TermFixed, MatchFixed, PartFixed, ListFixed, PrintFixed}

@@ -9,12 +9,12 @@ use native.Mathlib.Omega.{arith}
 use lib.Dec.{eqb}
 use lib.ListN.{length}
 use borrow.Author.Tests.{eqb-true}
-use Rattle.terms.specs.Term.{Ground}
+use Rattle.terms.specs.Term.{Ground, asTerm}
 use Rattle.terms.proofs.Bools.{eqb-refl}
 use Rattle.wire.specs.Parser.{Reading, accept, refuse, readVocabulary}
 use Rattle.wire.specs.Reply.{IsBytes, Kinded, kinded}
 use Rattle.wire.specs.Vocabulary.{Vocabulary, InOrder, HoldsVocabulary}
-use Rattle.wire.specs.TermBytes.{leastBytes, HoldsTerm, complete, asTerm}
+use Rattle.wire.specs.TermBytes.{leastBytes, HoldsTerm, complete}
 use Rattle.wire.specs.SituationComputed.{ground, firstGap, situationOf, situationIn, checkedSituation}
 use Rattle.wire.specs.CheckComputed.{checkedTerm}
 use Rattle.wire.specs.Matching.{Inputs, HoldsInputs}

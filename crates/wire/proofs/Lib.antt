@@ -71,5 +71,6 @@ pub mod Fixed
 -- All of it.
 pub mod Starred
 pub mod Theorems
+pub mod FillExample
 pub mod MatchExample
 pub mod ListExample

@@ -12,13 +12,13 @@ use mathlib.Core.Option.{Option·none-ne-some}
 use Prim.Native.Nat.{ℕ, _<_}
 use native.Mathlib.Omega.{arith}
 use lib.ListN.{take, drop}
-use Rattle.terms.specs.Term.{Term, var, app, nil, cons, Ground, gapp, gnil, gcons}
+use Rattle.terms.specs.Term.{Term, var, app, nil, cons, Ground, gapp, gnil, gcons, asTerm}
 use Rattle.terms.specs.Filling.{Filling, valueOf, Fits}
 use Rattle.terms.specs.Substitution.{Matches, asTm, withVariables}
 use Rattle.terms.proofs.Theorems.{matcher-is-exact}
 use Rattle.wire.specs.Reply.{Reply, IsBytes}
 use Rattle.wire.specs.Vocabulary.{Word, Vocabulary, signature}
-use Rattle.wire.specs.TermBytes.{encodeAt, asTerm}
+use Rattle.wire.specs.TermBytes.{encodeAt}
 use Rattle.wire.specs.Matching.{Inputs, HoldsInputs, TurnsInputs, yes, no, cutOut, MatchPromise}
 use Rattle.wire.specs.Starred.{C, lent}
 use Rattle.wire.proofs.Inputs.{clear-is-held}

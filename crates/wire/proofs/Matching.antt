@@ -14,7 +14,7 @@ use lib.Dec.{eqb, ltb}
 use lib.ListN.{length, drop}
 use borrow.Author.Tests.{eqb-true, eq-eqb, lt-ltb, ltb-true}
 use Rattle.terms.specs.Lists.{occurs}
-use Rattle.terms.specs.Term.{SortedG, names}
+use Rattle.terms.specs.Term.{SortedG, names, asTerm}
 use Rattle.terms.specs.Filling.{Filling, valueOf}
 use Rattle.terms.specs.Matcher.{matcher}
 use Rattle.terms.proofs.Bools.{and-parts, and-both}
@@ -22,7 +22,7 @@ use Rattle.terms.proofs.Occurs.{occurs-all}
 use Rattle.terms.proofs.Theorems.{matcher-is-exact, matching-is-fitting}
 use Rattle.wire.specs.Reply.{accepted, refused, IsBytes}
 use Rattle.wire.specs.Vocabulary.{signature}
-use Rattle.wire.specs.TermBytes.{nameCount, encodeAt, asTerm}
+use Rattle.wire.specs.TermBytes.{nameCount, encodeAt}
 use Rattle.wire.specs.Matching.{Inputs, tableLength, orNoSpan, span, yes, no, cutOut, noSpan, HoldsInputs, FitsInputs, TurnsInputs, SpansOf}
 use Rattle.wire.specs.Effect.{Effect}
 use Rattle.wire.specs.MatchComputed.{Judged, clear, refusal, judged, spanTable, verdict, matchedWith, matched, spanFound, spanWith, partSpan}

@@ -12,10 +12,10 @@ use native.Mathlib.Omega.{arith}
 use lib.ListN.{length, getD, drop, length-append, length-drop}
 use lib.Seq.{drop-drop, drop-at, getD-drop}
 use Rattle.terms.specs.Signature.{arguments}
-use Rattle.terms.specs.Term.{Ground, gapp, Grounds, gnil, gcons, SortedG, SortedGs}
+use Rattle.terms.specs.Term.{Ground, gapp, Grounds, gnil, gcons, SortedG, SortedGs, asTerm, asTerms}
 use Rattle.wire.specs.Map.{mapBytes, writeMap, flags, ones}
 use Rattle.wire.specs.Vocabulary.{Vocabulary, signature, mapOf, InOrder}
-use Rattle.wire.specs.TermBytes.{encodeAt, encodeAll, asTerm, asTerms}
+use Rattle.wire.specs.TermBytes.{encodeAt, encodeAll}
 use Rattle.wire.specs.Matching.{size}
 use Rattle.wire.proofs.GroundBytes.{joined, joined-sorted, known-word, count-arguments, first-node}
 

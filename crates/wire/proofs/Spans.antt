@@ -17,13 +17,13 @@ use lib.ListN.{length, take, drop}
 use lib.Seq.{take-at, drop-at, drop-drop}
 use borrow.Author.Tests.{eqb-true}
 use Rattle.terms.specs.Lists.{occurs}
-use Rattle.terms.specs.Term.{Term, any, var, app, Terms, nil, cons, Ground, gapp, Grounds, gnil, gcons, names, namesAll, openings}
+use Rattle.terms.specs.Term.{Term, any, var, app, Terms, nil, cons, Ground, gapp, Grounds, gnil, gcons, names, namesAll, openings, asTerm, asTerms}
 use Rattle.terms.specs.Filling.{Binding, valueOf, fillFrom, fillAll}
 use Rattle.terms.proofs.Bools.{or-parts}
 use Rattle.terms.proofs.Occurs.{occurs-append}
 use Rattle.wire.specs.Map.{mapBytes}
 use Rattle.wire.specs.Vocabulary.{Vocabulary}
-use Rattle.wire.specs.TermBytes.{encodeAt, encodeAll, asTerm, asTerms}
+use Rattle.wire.specs.TermBytes.{encodeAt, encodeAll}
 use Rattle.wire.specs.Matching.{size, Span, spanFrom, spanAll, cutOut}
 use Rattle.terms.specs.Lists.{orElse}
 use Rattle.wire.proofs.Cond.{cond-false}

@@ -10,13 +10,21 @@
 --   FullMapMeansNoOpenPlace   a written map equals its word's place map exactly where no place is open
 --   EntriesAreGood            each entry of a good linear pattern is one, and is never longer than the pattern
 --   EntriesInverse            so many whole patterns are read off bytes exactly where the bytes are their writings
+--   FillingsInverse           a filling file is accepted for a pattern exactly where it is the writing of a good filling
+--   FilledIsGood              the pattern with each name replaced is a good term
+--   CompleteWithoutOpenPlace  .. which is complete exactly where the pattern has no open place and is no 255
+--   FillInputsAreOne          the bytes of fill's inputs write one vocabulary, one pattern and one filling only
 --   PatternIsOne              the bytes of list's inputs write one vocabulary and one pattern only
 --   RefusesBy Line r          the reading r refuses with a number exactly where its line decides, and some line fits
 --                             exactly where it accepts nothing
---   VocabularyRefusals, TermRefusals, SituationRefusals, LinearRefusals    what is read is refused by these lines
+--   VocabularyRefusals, TermRefusals, SituationRefusals, LinearRefusals, FillingRefusals    what is read is refused by
+--                             these lines
 --   FirstGapIsExact           firstGap gives the first gap, where there is one
---   VocabularyFixed, TermFixed, MatchFixed, PartFixed, ListFixed, PrintFixed    a promise fixes the reply and what is lent
---   VocabularyKeeps, TermKeeps, MatchKeeps, PartKeeps, ListKeeps, PrintKeeps    what is computed keeps the promises
+--   VocabularyFixed, TermFixed, MatchFixed, PartFixed, ListFixed, FillFixed, PrintFixed    a promise fixes the reply and
+--                             what is lent
+--   VocabularyKeeps, TermKeeps, MatchKeeps, PartKeeps, ListKeeps, FillKeeps, PrintKeeps    what is computed keeps the
+--                             promises
+--   FilledMatches             what match computes for a complete result of fill: yes, and the parts that the file gave
 --   InputsPromise v p s r     what judging the inputs of match is to give
 --   JudgeKeeps                what is computed of judging them does
 --   PartIsTable               part's span is the one that match's table gives the name
@@ -34,21 +42,26 @@ use mathlib.Core.Option.{some, none}
 use Prim.Native.Nat.{ℕ, _+_, _*_, _-_, _<_, _≤_}
 use Prim.Native.Char.{code}
 use lib.ListN.{length, getD, replicate}
-use Rattle.terms.specs.Lists.{All}
+use Rattle.terms.specs.Lists.{All, occurs}
 use Rattle.terms.specs.Signature.{WellFormed}
-use Rattle.terms.specs.Term.{Term, Terms, Ground, SortedAll, SortedG, Linear}
+use Rattle.terms.specs.Term.{Term, Terms, Ground, SortedAll, SortedG, Linear, asTerm, names, openings}
+use Rattle.terms.specs.Filling.{Binding}
+use Rattle.terms.specs.Replacing.{replace}
 use Rattle.terms.specs.Listing.{listing}
 use Rattle.wire.specs.Reply.{Reply, accepted, refused, Kinded, kinded, IsBytes}
 use Rattle.wire.specs.Vocabulary.{Vocabulary, signature, word, mapOf, InOrder, HoldsVocabulary}
-use Rattle.wire.specs.TermBytes.{nameCount, writtenMap, encodeTerm, GoodTerm, deepest, mostBytes, mostLevels, complete, asTerm}
+use Rattle.wire.specs.TermBytes.{nameCount, writtenMap, encodeTerm, GoodTerm, deepest, mostBytes, mostLevels, Limits, complete}
 use Rattle.wire.specs.Refusals.{Decides}
 use Rattle.wire.specs.VocabularyLines.{VocabularyLine}
 use Rattle.wire.specs.TermLines.{TermLine}
 use Rattle.wire.specs.SituationLines.{FirstGap, SituationLine}
 use Rattle.wire.specs.PatternLines.{PatternLine}
 use Rattle.wire.specs.Checking.{VocabularyPromise, TermPromise}
-use Rattle.wire.specs.Matching.{Inputs, HoldsInputs, tableLength, Span, noSpan, spanIn, yes, MatchRefusal, MatchPromise, PartPromise}
+use Rattle.wire.specs.Matching.{Inputs, HoldsInputs, tableLength, Span, noSpan, spanIn, cutOut, yes, MatchRefusal, MatchPromise, PartPromise}
 use Rattle.wire.specs.Leftovers.{HoldsPattern, entriesBytes, ListPromise}
+use Rattle.wire.specs.FillingFile.{GoodFilling, HoldsFilling}
+use Rattle.wire.specs.FillingLines.{FillingLine}
+use Rattle.wire.specs.Filled.{FillInputs, HoldsFillInputs, filledTerm, filledBytes, valueSpan, FillPromise}
 use Rattle.wire.specs.Text.{decimal}
 use Rattle.wire.specs.Printing.{vocabularyPart, patternPart, PrintPromise}
 use Rattle.wire.specs.Parser.{Reading, accept, refuse, got, readVocabulary, readAny}
@@ -56,6 +69,7 @@ use Rattle.wire.specs.CheckComputed.{checkedTerm, vocabularyReply, termR
 use Rattle.wire.specs.SituationComputed.{someOpen, firstGap, checkedSituation}
 use Rattle.wire.specs.MatchComputed.{judged, clearReply, matched, partSpan, partOf}
 use Rattle.wire.specs.ListComputed.{checkedLinear, listed, readEntries}
+use Rattle.wire.specs.FillComputed.{readFilling, filled}
 use Rattle.wire.specs.PrintComputed.{printedFrom, printed}
 
 -- ---- writing and reading
@@ -107,6 +121,24 @@ EntriesInverse =
     (readEntries W n b ≡ got l []) ↔
     ((length l ≡ n) × All (λ k. GoodTerm W (k .kind) (k .term)) l × (b ≡ entriesBytes W l))
 
+-- ---- filling files
+
+abbrev pub FillingsInverse : Type 0
+FillingsInverse =
+    (W : Vocabulary) (s : ℕ) (t : Term) (b : List ℕ) (bs : List Binding) → InOrder W → GoodTerm W s t → IsBytes b →
+    (readFilling W s t b ≡ accept bs) ↔ HoldsFilling W s t b bs
+
+abbrev pub FilledIsGood : Type 0
+FilledIsGood =
+    (W : Vocabulary) (s : ℕ) (t : Term) (bs : List Binding) → GoodTerm W s t → GoodFilling W s t bs → GoodTerm W s (replace bs t)
+
+abbrev pub CompleteWithoutOpenPlace : Type 0
+CompleteWithoutOpenPlace = (t : Term) (bs : List Binding) → (complete (replace bs t) ≡ true) ↔ (openings t ≡ 0)
+
+abbrev pub FillInputsAreOne : Type 0
+FillInputsAreOne =
+    (v p b : List ℕ) (x y : FillInputs) → IsBytes v → IsBytes p → IsBytes b → HoldsFillInputs v p b x → HoldsFillInputs v p b y → x ≡ y
+
 abbrev pub PatternIsOne : Type 0
 PatternIsOne =
     (v p : List ℕ) (W W′ : Vocabulary) (s s′ : ℕ) (t t′ : Term) → IsBytes v → IsBytes p →
@@ -137,6 +169,10 @@ abbrev pub LinearRefusals : Type 0
 LinearRefusals =
     (W : Vocabulary) (b : List ℕ) → InOrder W → IsBytes b → RefusesBy (PatternLine W b) (checkedLinear W b)
 
+abbrev pub FillingRefusals : Type 0
+FillingRefusals =
+    (W : Vocabulary) (s : ℕ) (t : Term) (b : List ℕ) → InOrder W → RefusesBy (FillingLine W s t b) (readFilling W s t b)
+
 -- ---- promises
 
 abbrev pub VocabularyFixed : Type 0
@@ -158,6 +194,11 @@ PartFixed =
 abbrev pub ListFixed : Type 0
 ListFixed =
     (v p before after after′ : List ℕ) (r r′ : Reply) → ListPromise v p before after r → ListPromise v p before after′ r′ →
+    (r ≡ r′) × (after ≡ after′)
+
+abbrev pub FillFixed : Type 0
+FillFixed =
+    (v p b before after after′ : List ℕ) (r r′ : Reply) → FillPromise v p b before after r → FillPromise v p b before after′ r′ →
     (r ≡ r′) × (after ≡ after′)
 
 abbrev pub PrintFixed : Type 0
@@ -196,6 +237,20 @@ PartIsTable =
 abbrev pub ListKeeps : Type 0
 ListKeeps =
     (v p out : List ℕ) → IsBytes v → IsBytes p → ListPromise v p out (listed v p out .after) (listed v p out .reply)
+
+abbrev pub FillKeeps : Type 0
+FillKeeps =
+    (v p b out : List ℕ) → IsBytes v → IsBytes p → IsBytes b →
+    FillPromise v p b out (filled v p b out .after) (filled v p b out .reply)
+
+abbrev pub FilledMatches : Type 0
+FilledMatches =
+    (v p b : List ℕ) (x : FillInputs) → IsBytes v → IsBytes p → IsBytes b → HoldsFillInputs v p b x →
+    Limits (filledBytes x) (filledTerm x) → complete (filledTerm x) ≡ true →
+    (table : List ℕ) → length table ≡ tableLength →
+    (matched v p (filledBytes x) table .reply ≡ yes) ×
+    ((n : ℕ) → occurs n (names (x .pattern)) ≡ true →
+    cutOut (filledBytes x) (spanIn (matched v p (filledBytes x) table .after) n) ≡ cutOut b (valueSpan x n))
 
 -- ---- the program's text
 

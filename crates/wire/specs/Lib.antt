@@ -6,16 +6,19 @@ pub mod Map
 pub mod Row
 pub mod Vocabulary
 pub mod TermBytes
+pub mod FillingFile
 -- .. the refusal list ..
 pub mod Refusals
 pub mod VocabularyLines
 pub mod TermLines
 pub mod SituationLines
 pub mod PatternLines
+pub mod FillingLines
 -- .. and the promises.
 pub mod Checking
 pub mod Matching
 pub mod Leftovers
+pub mod Filled
 pub mod Text
 pub mod Printing
 -- Ways to compute the replies, which laws fix:
@@ -26,6 +29,7 @@ pub mod SituationComputed
 pub mod Scan
 pub mod MatchComputed
 pub mod ListComputed
+pub mod FillComputed
 pub mod EntryBytes
 pub mod EntryMaps
 pub mod EntrySizes

@@ -27,13 +27,13 @@ use Prim.Native.Nat.{ℕ, _+_, _*_, _<_, _≤_}
 use lib.Dec.{eqb}
 use lib.ListN.{length, getD, take, drop}
 use Rattle.terms.specs.Lists.{occurs, orElse}
-use Rattle.terms.specs.Term.{Term, any, var, app, Terms, nil, cons, Ground, gapp, Grounds, gnil, gcons, names}
+use Rattle.terms.specs.Term.{Term, any, var, app, Terms, nil, cons, Ground, gapp, Grounds, gnil, gcons, names, asTerm}
 use Rattle.terms.specs.Filling.{Filling, valueOf, TurnsInto, Fits}
 use Rattle.terms.specs.Substitution.{Matches, asTm, withVariables}
 use Rattle.wire.specs.Reply.{Reply, accepted, refused}
 use Rattle.wire.specs.Map.{mapBytes}
 use Rattle.wire.specs.Vocabulary.{Vocabulary, signature, HoldsVocabulary}
-use Rattle.wire.specs.TermBytes.{nameCount, encodeAt, HoldsTerm, asTerm}
+use Rattle.wire.specs.TermBytes.{nameCount, encodeAt, HoldsTerm}
 use Rattle.wire.specs.Refusals.{Decides}
 use Rattle.wire.specs.VocabularyLines.{VocabularyFirst}
 use Rattle.wire.specs.TermLines.{TermLine}

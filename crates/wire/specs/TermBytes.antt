@@ -16,7 +16,6 @@
 --   Limits b t                      the term t and its bytes b are within these limits
 --   HoldsTerm W b s t               the bytes b are accepted: they write the good term t of kind s, within the limits
 --   complete t, completeAll ts      there is no name and no open place (nor a 255)
---   asTerm g, asTerms gs            a ground term as a term, ground terms as terms
 --
 use mathlib.Core.Path.{_≡_}
 use mathlib.Core.Bool.{Bool, true, false, _&&_}
@@ -24,7 +23,7 @@ use mathlib.Core.List.{List, [], _∷_, _++_}
 use Prim.Native.Nat.{ℕ, suc, _+_, _<_, _≤_, max}
 use lib.ListN.{length}
 use Rattle.terms.specs.Lists.{All}
-use Rattle.terms.specs.Term.{Term, any, var, app, Terms, nil, cons, Ground, gapp, Grounds, gnil, gcons, WellSorted, names}
+use Rattle.terms.specs.Term.{Term, any, var, app, Terms, nil, cons, WellSorted, names}
 use Rattle.wire.specs.Map.{writeMap, flags, number, writtenFlags}
 use Rattle.wire.specs.Vocabulary.{Vocabulary, signature, mapOf}
 
@@ -126,11 +125,3 @@ abbrev mutual
   pub completeAll : Terms → Bool
   completeAll nil = true
   completeAll (cons t ts) = complete t && completeAll ts
-
-abbrev mutual
-  pub asTerm : Ground → Term
-  asTerm (gapp f gs) = app f (asTerms gs)
-
-  pub asTerms : Grounds → Terms
-  asTerms gnil = nil
-  asTerms (gcons g gs) = cons (asTerm g) (asTerms gs)
