@@ -14,3 +14,18 @@ cond-false false a b e = refl
 pub choice : {A : Type 0} (P : A → Type 0) (t : Bool) (a b : A) → (t ≡ true → P a) → (t ≡ false → P b) → P (cond t a b)
 choice P true a b f g = f refl
 choice P false a b f g = g refl
+
+-- ---- the two arms of a choice by elim
+
+pub first-arm : {A : Type 0} (b : Bool) (x y : A) → b ≡ true → _≡_ {A = A} (elim b [ true ↦ x | false ↦ y ]) x
+first-arm true x y e = refl
+first-arm false x y e = absurd (false≢true e)
+
+pub second-arm : {A : Type 0} (b : Bool) (x y : A) → b ≡ false → _≡_ {A = A} (elim b [ true ↦ x | false ↦ y ]) y
+second-arm true x y e = absurd (true≢false e)
+second-arm false x y e = refl
+
+pub either : {A : Type 0} (b : Bool) (x y z : A) → y ≡ z →
+    _≡_ {A = A} (elim b [ true ↦ x | false ↦ y ]) (elim b [ true ↦ x | false ↦ z ])
+either true x y z e = refl
+either false x y z e = e

@@ -71,6 +71,7 @@ pub mod Fixed
 -- All of it.
 pub mod Starred
 pub mod Theorems
+pub mod FullReading
 pub mod FillExample
 pub mod MatchExample
 pub mod ListExample

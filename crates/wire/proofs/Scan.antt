@@ -28,6 +28,7 @@ use Rattle.wire.specs.TermLines.{Due, dueAt}
 use Rattle.wire.specs.Parser.{Got, got, stop, andThen, Node, wordHere, nameHere, wholeHere, fault, node, atLimit, Read, ReadAll, withFirst, readSlots, fromNode, readTerm}
 use Rattle.wire.specs.SituationComputed.{someOpen, gapFrom, gapAll}
 use Rattle.wire.specs.Scan.{everyWritten, Tally, withWord, Scanned, scanNode, scan, run, rootDue, noTally, gapHere, leftFrom, tallied}
+use Rattle.wire.proofs.Cond.{first-arm, second-arm, either}
 use Rattle.wire.proofs.Node.{NodeStands, node-stands}
 use Rattle.wire.proofs.ScanGap.{left-else, else-assoc, gaps-shift, gap-here, word-gap}
 
@@ -56,20 +57,6 @@ node-agree n g h d ds seen y (wordHere f ks r) e p = e _ _ _ r p
 node-agree n g h d ds seen y (nameHere k r) e p = e _ _ _ r p
 node-agree n g h d ds seen y (wholeHere r) e p = e _ _ _ r p
 node-agree n g h d ds seen y (fault k r) e p = refl
-
--- The two arms of a choice.
-first-arm : {A : Type 0} (b : Bool) (x y : A) → b ≡ true → _≡_ {A = A} (elim b [ true ↦ x | false ↦ y ]) x
-first-arm true x y e = refl
-first-arm false x y e = absurd (false≢true e)
-
-second-arm : {A : Type 0} (b : Bool) (x y : A) → b ≡ false → _≡_ {A = A} (elim b [ true ↦ x | false ↦ y ]) y
-second-arm true x y e = absurd (true≢false e)
-second-arm false x y e = refl
-
-either : {A : Type 0} (b : Bool) (x y z : A) → y ≡ z →
-    _≡_ {A = A} (elim b [ true ↦ x | false ↦ y ]) (elim b [ true ↦ x | false ↦ z ])
-either true x y z e = refl
-either false x y z e = e
 
 pub scan-fuel : (W : Vocabulary) (n m : ℕ) (due : List Due) (seen : List Occurrence) (y : Tally) (l : List ℕ) →
     length l < n → length l < m → scan W n due seen y l ≡ scan W m due seen y l

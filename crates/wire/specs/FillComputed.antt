@@ -17,24 +17,28 @@
 --   FillJudged                 inputs in order, or a refusal's number, input and place
 --   judgedFilling, fillPattern, fillVocabulary, fillJudged v p b   the inputs of fill, in the order in which they are judged
 --   fillClear j                the reply that says whether the inputs are in order, with no values
+--   ValuesIn x starts depths   tables that tell where the value of each name begins and ends in the filling file, and how many
+--                              levels it has
 --   large x                    the result passes a limit
 --   filledInto, filledWith, filled v p b out   the reply of fill, and the lent slice after it
 --
+use mathlib.Core.Path.{_≡_}
 use mathlib.Core.Bool.{Bool, true, false, not, _&&_, _||_, cond}
 use mathlib.Core.List.{List, [], _∷_, _++_}
 use mathlib.Core.Option.{Option, some, none}
-use Prim.Native.Nat.{ℕ, zero, suc}
+use Prim.Native.Nat.{ℕ, zero, suc, _+_, _<_}
 use lib.Dec.{eqb, ltb}
-use lib.ListN.{length, drop}
+use lib.ListN.{length, getD, drop}
 use Rattle.terms.specs.Lists.{occurs, range, keep}
-use Rattle.terms.specs.Term.{Term, Ground, gapp, Grounds, gnil, gcons, names}
-use Rattle.terms.specs.Filling.{Binding}
+use Rattle.terms.specs.Term.{Term, Ground, gapp, Grounds, gnil, gcons, asTerm, names}
+use Rattle.terms.specs.Filling.{Binding, valueOf}
 use Rattle.terms.specs.Emptiness.{first}
 use Rattle.wire.specs.Reply.{Reply, accepted, refused, Kinded}
 use Rattle.wire.specs.Map.{MapRead, mapGot, mapMissing, readMap, flags, Slot, slots}
 use Rattle.wire.specs.Vocabulary.{Vocabulary, word, mapOf}
-use Rattle.wire.specs.TermBytes.{nameCount, deepest, mostBytes, mostLevels}
+use Rattle.wire.specs.TermBytes.{nameCount, levels, deepest, mostBytes, mostLevels}
 use Rattle.wire.specs.TermLines.{Due, dueAt}
+use Rattle.wire.specs.Matching.{size}
 use Rattle.wire.specs.FillingFile.{nameMapBytes, ascending}
 use Rattle.wire.specs.FillingLines.{nameStands, valuesDue}
 use Rattle.wire.specs.Filled.{FillInputs, filledTerm, filledBytes}
@@ -131,6 +135,17 @@ fillJudged v p b = fillVocabulary p b (readVocabulary v)
 abbrev pub fillClear : FillJudged → Reply
 fillClear (fillable x) = accepted []
 fillClear (refusal n i q) = refused n i q
+
+-- The value of name n begins at the n-th start and ends at the next. A name that does not stand in the pattern has none.
+pub record ValuesIn (x : FillInputs) (starts depths : List ℕ) : Type 0 where
+  pub manyStarts : length starts ≡ nameCount + 1
+  pub manyDepths : length depths ≡ nameCount
+  pub begins : getD starts 0 0 ≡ nameMapBytes
+  pub named : (n : ℕ) → n < nameCount → occurs n (names (x .pattern)) ≡ true →
+      (getD starts (n + 1) 0 ≡ getD starts n 0 + size (x .vocabulary) (valueOf (x .values) n))
+      × (getD depths n 0 ≡ levels (asTerm (valueOf (x .values) n)))
+  pub absent : (n : ℕ) → n < nameCount → occurs n (names (x .pattern)) ≡ false →
+      (getD starts (n + 1) 0 ≡ getD starts n 0) × (getD depths n 0 ≡ 0)
 
 abbrev pub large : FillInputs → Bool
 large x = ltb mostBytes (length (filledBytes x)) || ltb mostLevels (deepest (filledTerm x))
