@@ -14,7 +14,8 @@ use Rattle.wire.specs.Vocabulary.{Vocabulary, signature}
 use Rattle.wire.specs.TermBytes.{nameCount, encodeAt}
 use Rattle.wire.specs.Matching.{tableLength, Span, noSpan, spanIn, cutOut, yes, MatchPromise, PartPromise}
 use Rattle.wire.specs.Leftovers.{entriesBytes, listingBytes, ListPromise}
-use Rattle.wire.specs.Laws.{VocabularyFixed, TermFixed, MatchFixed, PartFixed, ListFixed, PrintFixed}
+use Rattle.wire.specs.Filled.{filledBytes, FillPromise}
+use Rattle.wire.specs.Laws.{VocabularyFixed, TermFixed, MatchFixed, PartFixed, ListFixed, FillFixed, PrintFixed}
 use Rattle.wire.proofs.Matching.{not-accepted, no-not-yes}
 
 -- ---- the checks
@@ -128,6 +129,29 @@ pub list-fixed : ListFixed
 list-fixed v p before after after′ r r′ m m′ =
     let same = list-reply v p before after after′ r r′ m m′ in
     (same, list-slice v p before after after′ r m (subst (ListPromise v p before after′) (sym same) m′))
+
+-- ---- fill
+
+module _ (v p b before after after′ : List ℕ) where
+  fill-reply : (r r′ : Reply) → FillPromise v p b before after r → FillPromise v p b before after′ r′ → r ≡ r′
+  fill-reply (accepted values) r′ m m′ = sym (m′ .answered values .1 (m .answered values .0 refl))
+  fill-reply (refused n i q) r′ m m′ = sym (m′ .refuses n i q .1 (m .refuses n i q .0 refl))
+
+  fill-slice : (r : Reply) → FillPromise v p b before after r → FillPromise v p b before after′ r → after ≡ after′
+  fill-slice (refused n i q) m m′ = m .kept n i q refl ∙ sym (m′ .kept n i q refl)
+  fill-slice (accepted values) m m′ =
+      let (x, h, l, room, e) = m .answered values .0 refl in
+      let k : ℕ = length (filledBytes x) in
+      let u = m .result k (ap accepted e) x h in
+      let u′ = m′ .result k (ap accepted e) x h in
+      let front : take k after ≡ take k after′ = u .written .written ∙ sym (u′ .written .written) in
+      let rest : drop k after ≡ drop k after′ = m .behind k (ap accepted e) ∙ sym (m′ .behind k (ap accepted e)) in
+      sym (take-append-drop k after) ∙ ap (λ x. x ++ drop k after) front ∙ ap (λ x. take k after′ ++ x) rest ∙ take-append-drop k after′
+
+pub fill-fixed : FillFixed
+fill-fixed v p b before after after′ r r′ m m′ =
+    let same = fill-reply v p b before after after′ r r′ m m′ in
+    (same, fill-slice v p b before after after′ r m (subst (FillPromise v p b before after′) (sym same) m′))
 
 -- ---- the program's text
 

@@ -72,6 +72,8 @@ pub mod Fixed
 pub mod Starred
 pub mod Theorems
 pub mod FullReading
+pub mod FillJudging
+pub mod FillKeeps
 pub mod FillExample
 pub mod MatchExample
 pub mod ListExample
