@@ -36,7 +36,7 @@ mutual
   grounds-back (gcons g gs) = ap₂ gcons (ground-back g) (grounds-back gs)
 
 -- No place of a ground term is open.
-ground-shut : (g : Ground) → isOpen (asTerm g) ≡ false
+pub ground-shut : (g : Ground) → isOpen (asTerm g) ≡ false
 ground-shut (gapp f gs) = refl
 
 pub grounds-shut : (gs : Grounds) → someOpen (asTerms gs) ≡ false

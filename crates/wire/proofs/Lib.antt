@@ -63,6 +63,8 @@ pub mod EntrySizes
 pub mod EntryMaps
 pub mod EntryWalk
 pub mod EntryCut
+-- On filling.
+pub mod FilledTerms
 -- On the text that the program prints.
 pub mod Text
 pub mod Printing
