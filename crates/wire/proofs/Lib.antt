@@ -65,6 +65,7 @@ pub mod EntryWalk
 pub mod EntryCut
 -- On filling.
 pub mod FilledTerms
+pub mod FillInputs
 -- On the text that the program prints.
 pub mod Text
 pub mod Printing
