@@ -21,15 +21,11 @@ use Rattle.terms.proofs.Binding.{keysOf, bind, given-values}
 use Rattle.wire.specs.Row.{writeRow}
 use Rattle.wire.specs.Vocabulary.{Vocabulary, signature, InOrder}
 use Rattle.wire.specs.TermBytes.{nameCount, GoodTerm, HoldsTerm}
-use Rattle.wire.specs.FillingFile.{nameMapBytes, ascending, writeValue, encodeFilling, GoodFilling, HoldsFilling}
+use Rattle.wire.specs.FillingFile.{nameMapBytes, ascending, writeValue, GoodFilling, HoldsFilling}
 use Rattle.wire.specs.Laws.{FillInputsAreOne}
 use Rattle.wire.proofs.VocabulariesInverse.{vocabulary-is-one}
 use Rattle.wire.proofs.Front.{term-is-one}
 use Rattle.wire.proofs.GroundBytes.{ground-front}
-
--- The values of the bindings are written behind the map.
-pub values-stand : (W : Vocabulary) (bs : List Binding) → drop nameMapBytes (encodeFilling W bs) ≡ writeRow (writeValue W) bs
-values-stand W bs = refl
 
 -- The value of the binding is a ground term of some kind.
 abbrev Valued : Vocabulary → Binding → Type 0

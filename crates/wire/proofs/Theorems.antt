@@ -30,13 +30,14 @@
 --   spots-by-bits            the words of a term, by the bits of its written map
 --   pattern-count, pattern-length   one pass over a good pattern counts its entries and their bytes
 --   list-keeps               what is computed of list's reply and lent slice keeps what list promises
+--   filled-matches           what match computes for a complete result of fill: yes, and the parts that the file gave
 --   decimal-is-exact         a number in decimal is of digits that stand for it, with no needless zero in front
 --   print-keeps              the program's text is the refusal or the listing that list's promise speaks of
 --   accepted-is-short        an accepted vocabulary has at most 962 bytes
 --   more-alters-nothing      the program's text for the bytes that it takes is the text for all bytes of the input
 --   starred-hold             every starred case has the reply that document 01 gives
 --
-use Rattle.wire.specs.Laws.{InOrderIsWellFormed, VocabulariesInverse, TermsInverse, LimitsAreATest, CompleteIsGround, NoGapIsComplete, FullMapMeansNoOpenPlace, EntriesAreGood, VocabularyRefusals, TermRefusals, FirstGapIsExact, SituationRefusals, VocabularyFixed, TermFixed, MatchFixed, PartFixed, ListFixed, PrintFixed, VocabularyKeeps, TermKeeps, MatchKeeps, PartKeeps, JudgeKeeps, PartIsTable, EntriesInverse, FilledIsGood, CompleteWithoutOpenPlace, FillInputsAreOne, PatternIsOne, LinearRefusals, ListKeeps, DecimalIsExact, PrintKeeps, AcceptedIsShort, MoreAltersNothing}
+use Rattle.wire.specs.Laws.{InOrderIsWellFormed, VocabulariesInverse, TermsInverse, LimitsAreATest, CompleteIsGround, NoGapIsComplete, FullMapMeansNoOpenPlace, EntriesAreGood, VocabularyRefusals, TermRefusals, FirstGapIsExact, SituationRefusals, VocabularyFixed, TermFixed, MatchFixed, PartFixed, ListFixed, PrintFixed, VocabularyKeeps, TermKeeps, MatchKeeps, PartKeeps, JudgeKeeps, PartIsTable, EntriesInverse, FilledIsGood, CompleteWithoutOpenPlace, FillInputsAreOne, PatternIsOne, LinearRefusals, ListKeeps, FilledMatches, DecimalIsExact, PrintKeeps, AcceptedIsShort, MoreAltersNothing}
 use Rattle.wire.specs.EntryBytes.{EntriesBySpots}
 use Rattle.wire.specs.EntryMaps.{SpotsByBits}
 use Rattle.wire.specs.EntrySizes.{PatternCount, PatternLength}
@@ -146,6 +147,9 @@ pattern-length = Rattle.wire.proofs.EntrySizes.pattern-length
 
 pub list-keeps : ListKeeps
 list-keeps = Rattle.wire.proofs.Leftovers.list-keeps
+
+pub filled-matches : FilledMatches
+filled-matches = Rattle.wire.proofs.FilledMatches.filled-matches
 
 pub decimal-is-exact : DecimalIsExact
 decimal-is-exact = Rattle.wire.proofs.Text.decimal-is-exact
