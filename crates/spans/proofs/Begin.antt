@@ -20,13 +20,13 @@ use Rattle.terms.specs.Lists.{All, orElse}
 use Rattle.terms.specs.Term.{Term, any, var, app, nil, cons, Ground, Grounds, gnil, gcons, Sorted, SortedAll, SortedGs, names, asTerm}
 use Rattle.terms.specs.Filling.{Filling}
 use Rattle.terms.specs.Matcher.{matchAll, matcher, noFilling}
+use Rattle.terms.proofs.Ground.{sorted-ground}
 use Rattle.wire.specs.Map.{isOpen}
 use Rattle.wire.specs.Vocabulary.{Vocabulary, signature}
 use Rattle.wire.specs.TermBytes.{nameCount, encodeAt, encodeAll, encodeRoot}
 use Rattle.wire.specs.Matching.{Inputs, Span, orNoSpan, spanFrom, spanIn}
 use Rattle.wire.specs.MatchComputed.{spanTable}
 use Rattle.wire.proofs.Words.{length-symbols}
-use Rattle.wire.proofs.Complete.{sorted-ground}
 use Rattle.wire.proofs.GroundBytes.{root-ground}
 use Rattle.wire.proofs.SpanTable.{length-table, table-span}
 use Rattle.spans.specs.Spans.{spanAt, Told}

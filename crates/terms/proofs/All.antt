@@ -66,6 +66,10 @@ pub all-map : {A B : Type 0} (P : B → Type 0) (f : A → B) (l : List A) → A
 all-map P f [] a = tt
 all-map P f (x ∷ l) a = (a .0, all-map P f l (a .1))
 
+pub all-unmap : {A B : Type 0} (P : B → Type 0) (f : A → B) (l : List A) → All P (map f l) → All (λ x. P (f x)) l
+all-unmap P f [] a = tt
+all-unmap P f (x ∷ l) a = (a .0, all-unmap P f l (a .1))
+
 pub all-range : (from n : ℕ) → All (λ k. k < from + n) (range from n)
 all-range from zero = tt
 all-range from (suc n) =

@@ -35,7 +35,7 @@ sorted-each-at S (g ∷ gs) (k ∷ ks) h (suc j) b = sorted-each-at S gs ks (h .
 abbrev pub Bound : Signature → List Binding → Term → ℕ → Type 0
 Bound S bs t s = All (λ o. SortedG S (valueOf bs (o .name)) (o .sort)) (occurrences S t s)
 
-abbrev BoundAll : Signature → List Binding → Terms → List ℕ → Type 0
+abbrev pub BoundAll : Signature → List Binding → Terms → List ℕ → Type 0
 BoundAll S bs ts ks = All (λ o. SortedG S (valueOf bs (o .name)) (o .sort)) (occurrencesAll S ts ks)
 
 -- Where the filled term is sorted, so is what the variables were given ..

@@ -11,6 +11,7 @@ pub mod Members
 -- On terms and fillings.
 pub mod Signature
 pub mod Term
+pub mod Ground
 pub mod Binding
 pub mod Fill
 pub mod Matcher
@@ -18,6 +19,7 @@ pub mod Filling
 -- On substitutions.
 pub mod Variables
 pub mod Substitution
+pub mod Replacing
 -- On listings.
 pub mod Entries
 pub mod Fit

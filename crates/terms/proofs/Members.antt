@@ -1,4 +1,4 @@
--- Members: the elements of a mapped list by their indices.
+-- Members: the elements of a mapped list, by their indices or as elements of the list.
 use mathlib.Core.Path.{_≡_, refl}
 use mathlib.Core.List.{List, [], _∷_, map, List·Memᴰ, List·Memᴰ·head, List·Memᴰ·tail, List·Memᴰ·not-nil, List·Memᴰ·cases-cons}
 use mathlib.Core.Logic.{_⊎_, inl, inr}
@@ -21,3 +21,12 @@ module _ {A B : Type 0} (f : A → B) where
           → (i : ℕ) × (i < length (x ∷ l)) × (b ≡ f (getD (x ∷ l) i d))
       go below (inl e) = (0, omega arith, e)
       go below (inr m′) = let r = below m′ in (suc (r .0), omega arith, r .2)
+
+  pub of-mem-map : (b : B) (l : List A) → List·Memᴰ b (map f l) → (a : A) × List·Memᴰ a l × (b ≡ f a)
+  of-mem-map b [] m = absurd (List·Memᴰ·not-nil m)
+  of-mem-map b (x ∷ l) m = go (of-mem-map b l) (List·Memᴰ·cases-cons m)
+    where
+      go : (List·Memᴰ b (map f l) → (a : A) × List·Memᴰ a l × (b ≡ f a)) → (b ≡ f x) ⊎ List·Memᴰ b (map f l)
+          → (a : A) × List·Memᴰ a (x ∷ l) × (b ≡ f a)
+      go below (inl e) = (x, List·Memᴰ·head refl, e)
+      go below (inr m′) = let r = below m′ in (r .0, List·Memᴰ·tail (r .1), r .2)

@@ -8,7 +8,7 @@ use mathlib.Core.List.{List, [], _∷_, _++_, map}
 use Prim.Native.Nat.{ℕ, zero, suc, _+_, _≤_, _<_}
 use native.Mathlib.Omega.{arith}
 use lib.Dec.{eqb}
-use borrow.Author.Tests.{eqb-true, eqb-false}
+use borrow.Author.Tests.{ne-eqb, eqb-true, eqb-false}
 use Rattle.terms.specs.Lists.{All, occurs, NoneTwice, range}
 use Rattle.terms.proofs.Bools.{eqb-refl, eqb-sym, or-parts, or-neither, or-left, or-right}
 use Rattle.terms.proofs.All.{all-implies}
@@ -48,6 +48,14 @@ occurs-range from (suc n) k lo hi = go (occurs-range (suc from) n k) (eqb k from
     go rest false t =
         let ne : (k ≡ from → ⊥) = eqb-false k from t in
         or-right (eqb k from) _ (rest (omega arith) (omega arith))
+
+outside-range : (from n k : ℕ) → k < from → occurs k (range from n) ≡ false
+outside-range from zero k h = refl
+outside-range from (suc n) k h = or-neither (eqb k from) (occurs k (range (suc from) n)) (ne-eqb k from (λ e. omega arith)) (outside-range (suc from) n k (omega arith))
+
+pub none-twice-range : (from n : ℕ) → NoneTwice (range from n)
+none-twice-range from zero = tt
+none-twice-range from (suc n) = (outside-range (suc from) n from (omega arith), none-twice-range (suc from) n)
 
 module _ {A : Type 0} (f : A → ℕ) where
   -- Each f x is among them.

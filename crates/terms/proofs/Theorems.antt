@@ -6,13 +6,15 @@
 --   matcher-is-exact              the matcher finds a filling exactly where there is one, and that one
 --   sorts-add-nothing             between two terms of one sort, matching is being an instance
 --   matching-is-fitting           for a ground term of the sort, matching by a substitution is the same as having a filling
+--   replacing-is-substitution     names are replaced as a substitution is applied
+--   replacing-is-filling          .. and, where no place is open, as a filling is carried out
 --   entries-are-linear-patterns   each entry of a listing is a linear pattern of the pattern's sort
 --   partition                     every ground term fits exactly one of a linear pattern and its entries, by exactly one filling
 --   strike-out                    over inhabited sorts each entry has a ground term that fits it and nothing else
 --   listing-represents            the entries represent the non-instances of a linear pattern
 --   first-empty-is-exact          the lowest sort without a ground term is found, and none where there is no such sort
 --
-use Rattle.terms.specs.Laws.{EachChoiceHasAFilling, EqualWhereTheyAgree, OneFilling, SortsAddNothing, MatchingIsFitting, Partition, StrikeOut, EntriesAreLinearPatterns, ListingRepresents}
+use Rattle.terms.specs.Laws.{EachChoiceHasAFilling, EqualWhereTheyAgree, OneFilling, SortsAddNothing, MatchingIsFitting, ReplacingIsSubstitution, ReplacingIsFilling, Partition, StrikeOut, EntriesAreLinearPatterns, ListingRepresents}
 use Rattle.terms.specs.Matcher.{MatcherIsExact}
 use Rattle.terms.specs.Emptiness.{FirstEmptyIsExact}
 
@@ -33,6 +35,12 @@ sorts-add-nothing = Rattle.terms.proofs.Substitution.sorts-add-nothing
 
 pub matching-is-fitting : MatchingIsFitting
 matching-is-fitting = Rattle.terms.proofs.Substitution.matching-is-fitting
+
+pub replacing-is-substitution : ReplacingIsSubstitution
+replacing-is-substitution = Rattle.terms.proofs.Replacing.replacing-is-substitution
+
+pub replacing-is-filling : ReplacingIsFilling
+replacing-is-filling = Rattle.terms.proofs.Replacing.replacing-is-filling
 
 pub entries-are-linear-patterns : EntriesAreLinearPatterns
 entries-are-linear-patterns = Rattle.terms.proofs.Entries.entries-are-linear-patterns

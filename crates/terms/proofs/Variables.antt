@@ -2,6 +2,7 @@
 --
 --   vars t             the variables of t, an entry an occurrence, from left to right
 --   only v l           the map v on the variables of l, and every other variable itself
+--   only-on, only-finite   what it does on the variables of l, and on others
 --   instance-by        what a map that keeps the sorts of a term's variables carries the term to is an instance of it
 --   carry-agree        two maps that agree on a term's variables carry it to the same term
 --   Places P i ks      P holds of the variables of open places of the sorts ks, numbered from i
@@ -68,7 +69,7 @@ same-var-self : (x : Var) → sameVar x x ≡ true
 same-var-self (name n s) = and-both (eqb n n) (eqb s s) (eqb-refl n) (eqb-refl s)
 same-var-self (place n s) = and-both (eqb n n) (eqb s s) (eqb-refl n) (eqb-refl s)
 
-abbrev only : (Var → Tm) → List Var → Var → Tm
+abbrev pub only : (Var → Tm) → List Var → Var → Tm
 only v [] x = tvar x
 only v (y ∷ l) x = cond (sameVar x y) (v x) (only v l x)
 
@@ -80,7 +81,7 @@ only-keeps S v (y ∷ l) h x = go (sameVar x y) refl (only-keeps S v l (h .1) x)
     go true e below = subst (λ z. SortedT S (v z) (sortOf z)) (sym (same-var x y e)) (h .0)
     go false e below = below
 
-only-finite : (v : Var → Tm) (l : List Var) (x : Var) → (List·Memᴰ x l → ⊥) → only v l x ≡ tvar x
+pub only-finite : (v : Var → Tm) (l : List Var) (x : Var) → (List·Memᴰ x l → ⊥) → only v l x ≡ tvar x
 only-finite v [] x h = refl
 only-finite v (y ∷ l) x h = go (sameVar x y) refl (only-finite v l x (λ m. h (List·Memᴰ·tail m)))
   where
@@ -88,7 +89,7 @@ only-finite v (y ∷ l) x h = go (sameVar x y) refl (only-finite v l x (λ m. h 
     go true e below = absurd (h (List·Memᴰ·head (same-var x y e)))
     go false e below = below
 
-only-on : (v : Var → Tm) (l : List Var) → All (λ x. only v l x ≡ v x) l
+pub only-on : (v : Var → Tm) (l : List Var) → All (λ x. only v l x ≡ v x) l
 only-on v [] = tt
 only-on v (y ∷ l) = (rw (same-var-self y) refl, all-implies (λ x. only v l x ≡ v x) (λ x. only v (y ∷ l) x ≡ v x) step l (only-on v l))
   where

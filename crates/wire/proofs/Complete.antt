@@ -1,13 +1,12 @@
 -- Complete: complete terms are the ground terms of the theory.
 use mathlib.Core.Path.{_≡_, refl, sym, ap, ap₂, _∙_, subst}
 use mathlib.Core.Bool.{Bool, true, false, cond, false≢true}
-use mathlib.Core.List.{List, [], _∷_}
 use mathlib.Core.Option.{Option, some, none, Option·some-ne-none}
 use Prim.Native.Nat.{ℕ, _+_, _<_}
 use lib.ListN.{length}
-use Rattle.terms.specs.Signature.{Signature, arguments}
-use Rattle.terms.specs.Term.{Term, any, var, app, Terms, nil, cons, Ground, gapp, Grounds, gnil, gcons, Sorted, SortedAll, SortedG, SortedGs, occurrences, occurrencesAll, names, namesAll, asTerm, asTerms}
+use Rattle.terms.specs.Term.{Term, any, var, app, Terms, nil, cons, Ground, gapp, Grounds, gnil, gcons, Sorted, SortedG, asTerm, asTerms}
 use Rattle.terms.proofs.Bools.{and-parts, or-parts}
+use Rattle.terms.proofs.Ground.{ground-sorted, sorted-ground, ground-names, ground-occurrences}
 use Rattle.wire.specs.Map.{mapBytes, isOpen}
 use Rattle.wire.specs.Vocabulary.{Vocabulary, signature}
 use Rattle.wire.specs.TermBytes.{GoodTerm, complete, completeAll, encodeAt}
@@ -35,45 +34,6 @@ mutual
   pub grounds-complete : (gs : Grounds) → completeAll (asTerms gs) ≡ true
   grounds-complete gnil = refl
   grounds-complete (gcons g gs) = rw (ground-complete g) (grounds-complete gs)
-
--- A ground term has the sort of its term.
-mutual
-  pub ground-sorted : (S : Signature) (g : Ground) (s : ℕ) → SortedG S g s → Sorted S (asTerm g) s
-  ground-sorted S (gapp f gs) s h = (h .0, h .1, grounds-sorted S gs (arguments S f) (h .2))
-
-  grounds-sorted : (S : Signature) (gs : Grounds) (ks : List ℕ) → SortedGs S gs ks → SortedAll S (asTerms gs) ks
-  grounds-sorted S gnil [] h = tt
-  grounds-sorted S gnil (k ∷ ks) h = h
-  grounds-sorted S (gcons g gs) [] h = h
-  grounds-sorted S (gcons g gs) (k ∷ ks) h = (ground-sorted S g k (h .0), grounds-sorted S gs ks (h .1))
-
-mutual
-  pub sorted-ground : (S : Signature) (g : Ground) (s : ℕ) → Sorted S (asTerm g) s → SortedG S g s
-  sorted-ground S (gapp f gs) s h = (h .0, h .1, sorted-grounds S gs (arguments S f) (h .2))
-
-  sorted-grounds : (S : Signature) (gs : Grounds) (ks : List ℕ) → SortedAll S (asTerms gs) ks → SortedGs S gs ks
-  sorted-grounds S gnil [] h = tt
-  sorted-grounds S gnil (k ∷ ks) h = h
-  sorted-grounds S (gcons g gs) [] h = h
-  sorted-grounds S (gcons g gs) (k ∷ ks) h = (sorted-ground S g k (h .0), sorted-grounds S gs ks (h .1))
-
--- A ground term has no variables.
-mutual
-  ground-names : (g : Ground) → names (asTerm g) ≡ []
-  ground-names (gapp f gs) = grounds-names gs
-
-  grounds-names : (gs : Grounds) → namesAll (asTerms gs) ≡ []
-  grounds-names gnil = refl
-  grounds-names (gcons g gs) = rw (ground-names g) (grounds-names gs)
-
-mutual
-  ground-occurrences : (S : Signature) (g : Ground) (s : ℕ) → occurrences S (asTerm g) s ≡ []
-  ground-occurrences S (gapp f gs) s = grounds-occurrences S gs (arguments S f)
-
-  grounds-occurrences : (S : Signature) (gs : Grounds) (ks : List ℕ) → occurrencesAll S (asTerms gs) ks ≡ []
-  grounds-occurrences S gnil ks = refl
-  grounds-occurrences S (gcons g gs) [] = refl
-  grounds-occurrences S (gcons g gs) (k ∷ ks) = rw (ground-occurrences S g k) (grounds-occurrences S gs ks)
 
 pub ground-good : (W : Vocabulary) (s : ℕ) (g : Ground) → s < W .kinds → SortedG (signature W) g s → GoodTerm W s (asTerm g)
 ground-good W s g h k =

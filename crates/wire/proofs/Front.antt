@@ -1,4 +1,4 @@
--- Front: the writing of a term tells the term, also with bytes behind it.
+-- Front: the writing of a term tells the term, also with bytes behind it; so bytes write one term only.
 use mathlib.Core.Path.{_≡_, sym, ap, _∙_}
 use mathlib.Core.Bool.{true}
 use mathlib.Core.List.{List, [], _++_}
@@ -6,7 +6,7 @@ use Prim.Native.Nat.{ℕ, max}
 use native.Mathlib.Omega.{arith}
 use Rattle.terms.specs.Term.{Term}
 use Rattle.wire.specs.Vocabulary.{Vocabulary, InOrder}
-use Rattle.wire.specs.TermBytes.{encodeRoot, encodeTerm, GoodTerm, deepest}
+use Rattle.wire.specs.TermBytes.{encodeRoot, encodeTerm, GoodTerm, deepest, HoldsTerm}
 use Rattle.wire.specs.Parser.{got, Read, readTerm}
 use Rattle.wire.proofs.WriteRead.{read-root}
 
@@ -29,3 +29,9 @@ term-front W inOrder s s′ t u r r′ good good′ e =
     let l : encodeRoot W t ++ r ≡ encodeRoot W u ++ r′ = cc in
     let f = root-front W inOrder s t u r r′ good (rw (← k) at good′) l in
     (k, f .0, f .1)
+
+-- The bytes of a term write no other, whatever kind it has.
+pub term-is-one : (W : Vocabulary) → InOrder W → (b : List ℕ) (s s′ : ℕ) (t u : Term) → HoldsTerm W b s t → HoldsTerm W b s′ u → (s ≡ s′) × (t ≡ u)
+term-is-one W inOrder b s s′ t u h h′ =
+    let f = term-front W inOrder s s′ t u [] [] (h .good) (h′ .good) (ap (λ z. z ++ []) (sym (h .written) ∙ h′ .written)) in
+    (f .0, f .1)

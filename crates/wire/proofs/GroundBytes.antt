@@ -15,12 +15,13 @@ use native.Mathlib.Omega.{arith}
 use lib.ListN.{length, length-append}
 use Rattle.terms.specs.Signature.{Signature, result, arguments}
 use Rattle.terms.specs.Term.{Ground, gapp, Grounds, gnil, gcons, SortedAll, SortedG, SortedGs, asTerm, asTerms}
+use Rattle.terms.proofs.Ground.{ground-sorted}
 use Rattle.wire.specs.Map.{mapBytes, writeMap, flags, ones, isOpen}
 use Rattle.wire.specs.Vocabulary.{Vocabulary, signature, mapOf, InOrder}
 use Rattle.wire.specs.TermBytes.{writtenMap, encodeAt, encodeAll, encodeRoot, wordCount, wordCountAll}
 use Rattle.wire.specs.SituationComputed.{ground, grounds, someOpen}
 use Rattle.wire.specs.Matching.{size}
-use Rattle.wire.proofs.Complete.{ground-sorted, ground-good}
+use Rattle.wire.proofs.Complete.{ground-good}
 use Rattle.wire.proofs.Front.{root-front}
 use Rattle.wire.proofs.FullMap.{full-map-means-no-open-place}
 use Rattle.wire.proofs.Words.{length-symbols, result-word, arguments-word, word-in-order}
@@ -35,7 +36,7 @@ mutual
   grounds-back (gcons g gs) = ap₂ gcons (ground-back g) (grounds-back gs)
 
 -- No place of a ground term is open.
-ground-shut : (g : Ground) → isOpen (asTerm g) ≡ false
+pub ground-shut : (g : Ground) → isOpen (asTerm g) ≡ false
 ground-shut (gapp f gs) = refl
 
 pub grounds-shut : (gs : Grounds) → someOpen (asTerms gs) ≡ false

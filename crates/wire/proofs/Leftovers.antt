@@ -34,7 +34,8 @@ use Rattle.wire.specs.Laws.{PatternIsOne, ListKeeps}
 use Rattle.wire.proofs.Cond.{cond-true, cond-false, choice}
 use Rattle.wire.proofs.Levels.{deepest-bytes}
 use Rattle.wire.proofs.Words.{in-order-well-formed}
-use Rattle.wire.proofs.VocabulariesInverse.{vocabularies-inverse}
+use Rattle.wire.proofs.VocabulariesInverse.{vocabularies-inverse, vocabulary-is-one}
+use Rattle.wire.proofs.Front.{term-is-one}
 use Rattle.wire.proofs.VocabularyRefusals.{vocabulary-refusals}
 use Rattle.wire.proofs.LinearRefusals.{linear-refusals}
 use Rattle.wire.proofs.Inputs.{checked-in, in-checked}
@@ -91,21 +92,11 @@ read-pattern v p W s t bv bp h = (
   in-linear W p (kinded s t) (h .vocabulary .good .inOrder) bp (record { term = h .pattern; linear = h .linear }),
 )
 
-accept-same : {A : Type 0} (x y : A) → accept x ≡ accept y → x ≡ y
-accept-same x y e = ap (acceptedOr x) e
-  where
-    acceptedOr : {A : Type 0} → A → Reading A → A
-    acceptedOr x (accept y) = y
-    acceptedOr x (refuse n q) = x
-
 pub pattern-is-one : PatternIsOne
 pattern-is-one v p W W′ s s′ t t′ bv bp h h′ =
-    let r = read-pattern v p W s t bv bp h in
-    let r′ = read-pattern v p W′ s′ t′ bv bp h′ in
-    let same : W ≡ W′ = accept-same W W′ (sym (r .0) ∙ r′ .0) in
-    let k : kinded s t ≡ kinded s′ t′ =
-    accept-same (kinded s t) (kinded s′ t′) (sym (r .1) ∙ ap (λ U. checkedLinear U p) same ∙ r′ .1) in
-    (same, ap (λ (x : Kinded). x .kind) k, ap (λ (x : Kinded). x .term) k)
+    let same : W ≡ W′ = vocabulary-is-one v W W′ bv (h .vocabulary) (h′ .vocabulary) in
+    let one = term-is-one W (h .vocabulary .good .inOrder) p s s′ t t′ (h .pattern) (subst (λ U. HoldsTerm U p s′ t′) (sym same) (h′ .pattern)) in
+    (same, one .0, one .1)
 
 -- The reply and the lent slice of a pattern that is accepted.
 pub pattern-listed : (v p out : List ℕ) (W : Vocabulary) (s : ℕ) (t : Term) → IsBytes v → IsBytes p → HoldsPattern v p W s t →

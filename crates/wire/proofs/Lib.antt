@@ -33,6 +33,7 @@ pub mod Complete
 pub mod FullMap
 pub mod Entries
 pub mod Front
+pub mod TermBytes
 pub mod Gaps
 -- On terms: refusing them.
 pub mod ScanGap
@@ -63,6 +64,10 @@ pub mod EntrySizes
 pub mod EntryMaps
 pub mod EntryWalk
 pub mod EntryCut
+-- On filling.
+pub mod FilledTerms
+pub mod FillInputs
+pub mod FilledMatches
 -- On the text that the program prints.
 pub mod Text
 pub mod Printing

@@ -90,6 +90,9 @@ map-missing (m ∷ l) r e = let z : _≡_ {A = ℕ} 0 1 = cc in absurd (omega ar
 pub read-map-lt : (m : ℕ) (r : List ℕ) → IsBytes (writeMap m ++ r) → m < 2 ^ mapBits
 read-map-lt m r h = h .0
 
+pub write-map-bytes : (m : ℕ) → m < 2 ^ mapBits → IsBytes (writeMap m)
+write-map-bytes m h = (h, tt)
+
 -- ---- the written bits of terms
 
 pub length-written : (ps : List Bool) (ts : Terms) → length (writtenFlags ps ts) ≡ length ps
@@ -111,6 +114,11 @@ within-written (true ∷ ps) (cons t ts) = rw (either-true (not (isOpen t))) (wi
 -- The bits of a written map are those of the terms.
 pub flags-written : (p : ℕ) (ts : Terms) → flags (number (writtenFlags (flags p) ts)) ≡ writtenFlags (flags p) ts
 flags-written p ts = flags-number mapBits (writtenFlags (flags p) ts) (length-written (flags p) ts ∙ length-flagsIn mapBits p)
+
+pub written-lt : (p : ℕ) (ts : Terms) → number (writtenFlags (flags p) ts) < 2 ^ mapBits
+written-lt p ts =
+    subst (λ (k : ℕ). number (writtenFlags (flags p) ts) < 2 ^ k) (length-written (flags p) ts ∙ length-flagsIn mapBits p)
+    (number-lt (writtenFlags (flags p) ts))
 
 -- ---- slots
 

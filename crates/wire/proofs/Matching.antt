@@ -19,6 +19,7 @@ use Rattle.terms.specs.Filling.{Filling, valueOf}
 use Rattle.terms.specs.Matcher.{matcher}
 use Rattle.terms.proofs.Bools.{and-parts, and-both}
 use Rattle.terms.proofs.Occurs.{occurs-all}
+use Rattle.terms.proofs.Ground.{sorted-ground}
 use Rattle.terms.proofs.Theorems.{matcher-is-exact, matching-is-fitting}
 use Rattle.wire.specs.Reply.{accepted, refused, IsBytes}
 use Rattle.wire.specs.Vocabulary.{signature}
@@ -30,7 +31,6 @@ use Rattle.wire.specs.Laws.{MatchKeeps, PartKeeps}
 use Rattle.wire.proofs.Cond.{cond-true, choice}
 use Rattle.wire.proofs.MatchRefusals.{match-refuses, match-refused}
 use Rattle.wire.proofs.Inputs.{clear-is-held}
-use Rattle.wire.proofs.Complete.{sorted-ground}
 use Rattle.wire.proofs.GroundBytes.{size-least, root-ground}
 use Rattle.wire.proofs.Spans.{covers-cut, span-value, span-absent}
 use Rattle.wire.proofs.SpanTable.{length-table, table-span}

@@ -22,18 +22,22 @@
 --   part-is-table            part's span is the one that match's table gives the name
 --   linear-refusals          a pattern to be listed is refused exactly by lines 7 to 15 and 18 of the refusal list
 --   entries-inverse          whole patterns are read off bytes exactly where the bytes are their writings
+--   filled-is-good           the pattern with each name replaced is a good term
+--   complete-without-open-place   .. which is complete exactly where the pattern has no open place and is no 255
+--   fill-inputs-are-one      the bytes of fill's inputs write one vocabulary, one pattern and one filling only
 --   pattern-is-one           the bytes of list's inputs write one vocabulary and one pattern only
 --   entries-by-spots         the entries of a pattern are those at its words, from left to right
 --   spots-by-bits            the words of a term, by the bits of its written map
 --   pattern-count, pattern-length   one pass over a good pattern counts its entries and their bytes
 --   list-keeps               what is computed of list's reply and lent slice keeps what list promises
+--   filled-matches           what match computes for a complete result of fill: yes, and the parts that the file gave
 --   decimal-is-exact         a number in decimal is of digits that stand for it, with no needless zero in front
 --   print-keeps              the program's text is the refusal or the listing that list's promise speaks of
 --   accepted-is-short        an accepted vocabulary has at most 962 bytes
 --   more-alters-nothing      the program's text for the bytes that it takes is the text for all bytes of the input
 --   starred-hold             every starred case has the reply that document 01 gives
 --
-use Rattle.wire.specs.Laws.{InOrderIsWellFormed, VocabulariesInverse, TermsInverse, LimitsAreATest, CompleteIsGround, NoGapIsComplete, FullMapMeansNoOpenPlace, EntriesAreGood, VocabularyRefusals, TermRefusals, FirstGapIsExact, SituationRefusals, VocabularyFixed, TermFixed, MatchFixed, PartFixed, ListFixed, PrintFixed, VocabularyKeeps, TermKeeps, MatchKeeps, PartKeeps, JudgeKeeps, PartIsTable, EntriesInverse, PatternIsOne, LinearRefusals, ListKeeps, DecimalIsExact, PrintKeeps, AcceptedIsShort, MoreAltersNothing}
+use Rattle.wire.specs.Laws.{InOrderIsWellFormed, VocabulariesInverse, TermsInverse, LimitsAreATest, CompleteIsGround, NoGapIsComplete, FullMapMeansNoOpenPlace, EntriesAreGood, VocabularyRefusals, TermRefusals, FirstGapIsExact, SituationRefusals, VocabularyFixed, TermFixed, MatchFixed, PartFixed, ListFixed, PrintFixed, VocabularyKeeps, TermKeeps, MatchKeeps, PartKeeps, JudgeKeeps, PartIsTable, EntriesInverse, FilledIsGood, CompleteWithoutOpenPlace, FillInputsAreOne, PatternIsOne, LinearRefusals, ListKeeps, FilledMatches, DecimalIsExact, PrintKeeps, AcceptedIsShort, MoreAltersNothing}
 use Rattle.wire.specs.EntryBytes.{EntriesBySpots}
 use Rattle.wire.specs.EntryMaps.{SpotsByBits}
 use Rattle.wire.specs.EntrySizes.{PatternCount, PatternLength}
@@ -117,6 +121,15 @@ linear-refusals = Rattle.wire.proofs.LinearRefusals.linear-refusals
 pub entries-inverse : EntriesInverse
 entries-inverse = Rattle.wire.proofs.EntriesRead.entries-inverse
 
+pub filled-is-good : FilledIsGood
+filled-is-good = Rattle.wire.proofs.FilledTerms.filled-is-good
+
+pub complete-without-open-place : CompleteWithoutOpenPlace
+complete-without-open-place = Rattle.wire.proofs.FilledTerms.complete-without-open-place
+
+pub fill-inputs-are-one : FillInputsAreOne
+fill-inputs-are-one = Rattle.wire.proofs.FillInputs.fill-inputs-are-one
+
 pub pattern-is-one : PatternIsOne
 pattern-is-one = Rattle.wire.proofs.Leftovers.pattern-is-one
 
@@ -134,6 +147,9 @@ pattern-length = Rattle.wire.proofs.EntrySizes.pattern-length
 
 pub list-keeps : ListKeeps
 list-keeps = Rattle.wire.proofs.Leftovers.list-keeps
+
+pub filled-matches : FilledMatches
+filled-matches = Rattle.wire.proofs.FilledMatches.filled-matches
 
 pub decimal-is-exact : DecimalIsExact
 decimal-is-exact = Rattle.wire.proofs.Text.decimal-is-exact

@@ -1,11 +1,12 @@
--- VocabulariesInverse: a vocabulary is accepted exactly where it is the writing of a good one.
-use mathlib.Core.Path.{_≡_, _∙_, ap}
+-- VocabulariesInverse: a vocabulary is accepted exactly where it is the writing of a good one, and bytes write one only.
+use mathlib.Core.Path.{_≡_, sym, _∙_, ap}
 use mathlib.Core.List.{List}
 use Prim.Native.Nat.{ℕ}
 use native.Mathlib.Omega.{arith}
 use Rattle.terms.proofs.Theorems.{first-empty-is-exact}
+use Rattle.wire.specs.Reply.{IsBytes}
 use Rattle.wire.specs.Parser.{Reading, accept, refuse, line6, readVocabulary}
-use Rattle.wire.specs.Vocabulary.{Vocabulary, signature, encodeVocabulary, GoodVocabulary}
+use Rattle.wire.specs.Vocabulary.{Vocabulary, signature, encodeVocabulary, GoodVocabulary, HoldsVocabulary}
 use Rattle.wire.specs.Laws.{VocabulariesInverse}
 use Rattle.wire.proofs.Words.{in-order-well-formed}
 use Rattle.wire.proofs.VocabularyWritten.{read-written}
@@ -26,3 +27,14 @@ vocabularies-inverse b W bytes = (
   (λ e. let read = accepted b W (readVocabulary b) (vocabulary-read b bytes) e in record { good = read .good; written = read .bytes }),
   (λ h. ap readVocabulary (h .written) ∙ read-good W (h .good)),
 )
+
+accept-same : {A : Type 0} (x y : A) → accept x ≡ accept y → x ≡ y
+accept-same x y e = ap (acceptedOr x) e
+  where
+    acceptedOr : {A : Type 0} → A → Reading A → A
+    acceptedOr x (accept y) = y
+    acceptedOr x (refuse n q) = x
+
+-- The bytes of a vocabulary write no other.
+pub vocabulary-is-one : (v : List ℕ) (W W′ : Vocabulary) → IsBytes v → HoldsVocabulary v W → HoldsVocabulary v W′ → W ≡ W′
+vocabulary-is-one v W W′ bv h h′ = accept-same W W′ (sym (vocabularies-inverse v W bv .1 h) ∙ vocabularies-inverse v W′ bv .1 h′)
