@@ -72,6 +72,7 @@ pub mod Fixed
 pub mod Starred
 pub mod Theorems
 pub mod FullReading
+pub mod FullTerms
 pub mod FillExample
 pub mod MatchExample
 pub mod ListExample
