@@ -73,6 +73,7 @@ pub mod Starred
 pub mod Theorems
 pub mod FullReading
 pub mod FullTerms
+pub mod NameMaps
 pub mod FillExample
 pub mod MatchExample
 pub mod ListExample
