@@ -38,7 +38,7 @@ mutual
 
 -- The variables of a sorted term, one of each occurrence.
 mutual
-  names-occurrences : (S : Signature) (t : Term) (s : ℕ) → Sorted S t s → map (λ o. o .name) (occurrences S t s) ≡ names t
+  pub names-occurrences : (S : Signature) (t : Term) (s : ℕ) → Sorted S t s → map (λ o. o .name) (occurrences S t s) ≡ names t
   names-occurrences S any s h = refl
   names-occurrences S (var n) s h = refl
   names-occurrences S (app f ts) s h = names-occurrences-all S ts (arguments S f) (h .2)

@@ -74,6 +74,8 @@ pub mod Theorems
 pub mod FullReading
 pub mod FullTerms
 pub mod NameMaps
+pub mod FillingValues
+pub mod FillingsInverse
 pub mod FillExample
 pub mod MatchExample
 pub mod ListExample

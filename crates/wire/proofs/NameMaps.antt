@@ -3,6 +3,7 @@
 --   names-stand             in the bit map of some names these names stand, and no others
 --   stand-names             bytes in whose map these names stand, and no others, begin with that bit map
 --   occurs-ascending        the names of a term, ascending, are its names below 64
+--   ascending-once          .. and none of them stands there twice
 --   unlike-same             no name is unlike exactly where each stands in the map as it does in the pattern
 --   unlike-none             no name is unlike exactly where map and pattern differ at none
 --   unlike-some             the first that is unlike is the lowest at which they differ
@@ -15,15 +16,17 @@ use mathlib.Core.Logic.{_↔_}
 use mathlib.Core.Option.{some, none}
 use Prim.Native.Nat.{ℕ, zero, suc, _+_, _*_, _/_, _%_, _<_, _≤_}
 use native.Mathlib.Omega.{arith}
+use lib.Dec.{eqb}
 use lib.ListN.{length, length-map, getD, take, drop, take-append-drop, List·getD-append}
 use lib.Seq.{ext-getD, getD-take, length-take-le}
-use Rattle.terms.specs.Lists.{occurs, range}
+use borrow.Author.Tests.{ne-eqb}
+use Rattle.terms.specs.Lists.{occurs, NoneTwice, range}
 use Rattle.terms.specs.Term.{Term, names}
 use Rattle.terms.specs.Emptiness.{first}
-use Rattle.terms.proofs.Bools.{and-always}
+use Rattle.terms.proofs.Bools.{and-always, or-neither}
 use Rattle.terms.proofs.Count.{length-range}
 use Rattle.terms.proofs.First.{Least, first-least, least-first, first-nowhere, nowhere-first}
-use Rattle.terms.proofs.Keep.{occurs-keep}
+use Rattle.terms.proofs.Keep.{occurs-keep, none-twice-keep}
 use Rattle.terms.proofs.Occurs.{occurs-range}
 use Rattle.wire.specs.Reply.{IsBytes}
 use Rattle.wire.specs.Map.{flagsIn, number}
@@ -97,6 +100,19 @@ pub occurs-ascending : (t : Term) (n : ℕ) → n < nameCount → occurs n (asce
 occurs-ascending t n h =
     occurs-keep (λ n. occurs n (names t)) n (range 0 nameCount)
     ∙ and-always (occurs n (names t)) (occurs n (range 0 nameCount)) (occurs-range 0 nameCount n (omega arith) (omega arith))
+
+below-range : (k from n : ℕ) → k < from → occurs k (range from n) ≡ false
+below-range k from zero h = refl
+below-range k from (suc n) h =
+    or-neither (eqb k from) (occurs k (range (suc from) n)) (ne-eqb k from (λ e. absurd (omega arith)))
+    (below-range k (suc from) n (omega arith))
+
+range-once : (from n : ℕ) → NoneTwice (range from n)
+range-once from zero = tt
+range-once from (suc n) = (below-range from (suc from) n (omega arith), range-once (suc from) n)
+
+pub ascending-once : (t : Term) → NoneTwice (ascending t)
+ascending-once t = none-twice-keep (λ n. occurs n (names t)) (range 0 nameCount) (range-once 0 nameCount)
 
 apart-same : (a b : Bool) → apart a b ≡ false → a ≡ b
 apart-same true true e = refl

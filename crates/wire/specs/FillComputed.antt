@@ -92,7 +92,6 @@ bindings [] gs = []
 bindings (n ∷ ns) gnil = []
 bindings (n ∷ ns) (gcons g gs) = record { name = n; value = g } ∷ bindings ns gs
 
--- Two truth values that differ.
 abbrev pub apart : Bool → Bool → Bool
 apart true b = not b
 apart false b = b
