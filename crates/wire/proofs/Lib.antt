@@ -79,6 +79,10 @@ pub mod Theorems
 pub mod FullReading
 pub mod FillJudging
 pub mod FillKeeps
+pub mod FullTerms
+pub mod NameMaps
+pub mod FillingValues
+pub mod FillingsInverse
 pub mod FillExample
 pub mod MatchExample
 pub mod ListExample

@@ -25,6 +25,7 @@
 --   filled-is-good           the pattern with each name replaced is a good term
 --   complete-without-open-place   .. which is complete exactly where the pattern has no open place and is no 255
 --   fill-inputs-are-one      the bytes of fill's inputs write one vocabulary, one pattern and one filling only
+--   fillings-inverse         a filling file is accepted for a pattern exactly where it is the writing of a good filling
 --   pattern-is-one           the bytes of list's inputs write one vocabulary and one pattern only
 --   entries-by-spots         the entries of a pattern are those at its words, from left to right
 --   spots-by-bits            the words of a term, by the bits of its written map
@@ -37,7 +38,7 @@
 --   more-alters-nothing      the program's text for the bytes that it takes is the text for all bytes of the input
 --   starred-hold             every starred case has the reply that document 01 gives
 --
-use Rattle.wire.specs.Laws.{InOrderIsWellFormed, VocabulariesInverse, TermsInverse, LimitsAreATest, CompleteIsGround, NoGapIsComplete, FullMapMeansNoOpenPlace, EntriesAreGood, VocabularyRefusals, TermRefusals, FirstGapIsExact, SituationRefusals, VocabularyFixed, TermFixed, MatchFixed, PartFixed, ListFixed, PrintFixed, VocabularyKeeps, TermKeeps, MatchKeeps, PartKeeps, JudgeKeeps, PartIsTable, EntriesInverse, FilledIsGood, CompleteWithoutOpenPlace, FillInputsAreOne, PatternIsOne, LinearRefusals, ListKeeps, FilledMatches, DecimalIsExact, PrintKeeps, AcceptedIsShort, MoreAltersNothing}
+use Rattle.wire.specs.Laws.{InOrderIsWellFormed, VocabulariesInverse, TermsInverse, LimitsAreATest, CompleteIsGround, NoGapIsComplete, FullMapMeansNoOpenPlace, EntriesAreGood, VocabularyRefusals, TermRefusals, FirstGapIsExact, SituationRefusals, VocabularyFixed, TermFixed, MatchFixed, PartFixed, ListFixed, PrintFixed, VocabularyKeeps, TermKeeps, MatchKeeps, PartKeeps, JudgeKeeps, PartIsTable, EntriesInverse, FilledIsGood, CompleteWithoutOpenPlace, FillInputsAreOne, PatternIsOne, LinearRefusals, ListKeeps, FilledMatches, DecimalIsExact, PrintKeeps, AcceptedIsShort, MoreAltersNothing, FillingsInverse}
 use Rattle.wire.specs.EntryBytes.{EntriesBySpots}
 use Rattle.wire.specs.EntryMaps.{SpotsByBits}
 use Rattle.wire.specs.EntrySizes.{PatternCount, PatternLength}
@@ -129,6 +130,9 @@ complete-without-open-place = Rattle.wire.proofs.FilledTerms.complete-w
 
 pub fill-inputs-are-one : FillInputsAreOne
 fill-inputs-are-one = Rattle.wire.proofs.FillInputs.fill-inputs-are-one
+
+pub fillings-inverse : FillingsInverse
+fillings-inverse = Rattle.wire.proofs.FillingsInverse.fillings-inverse
 
 pub pattern-is-one : PatternIsOne
 pattern-is-one = Rattle.wire.proofs.Leftovers.pattern-is-one
