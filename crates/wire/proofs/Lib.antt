@@ -72,6 +72,8 @@ pub mod Fixed
 pub mod Starred
 pub mod Theorems
 pub mod FullReading
+pub mod ValueFaults
+pub mod FillingPath
 pub mod FillExample
 pub mod MatchExample
 pub mod ListExample
