@@ -78,6 +78,19 @@ module _ (W : Vocabulary) (s : ℕ) (t : Term) (b : List ℕ) where
       let k = o .placed in
       record { ends = o .ends ∙ step-ends W q; placed = omega arith }
 
+  -- What the path's end at a fault, or with nothing due, says of the whole reading.
+  pub ends-stuck : (d : Due) (ds : List Due) (x : State) → FullTo W s t b x → x .due ≡ d ∷ ds → (k : Stuck W d ds (x .seen) (x .at) (x .rest)) →
+      (valuesEnding W s t b ≡ stop 22 (k .from)) × (k .place + length (k .from) ≡ nameMapBytes + length (drop nameMapBytes b))
+  ends-stuck d ds x p e k =
+      let o = leads-to-path p in
+      (o .ends ∙ ap (λ due. ending (readValues W due (x .rest))) e ∙ ap ending (k .stops), omega (arith, o .placed, k .placed))
+
+  pub ends-done : (x : State) → FullTo W s t b x → x .due ≡ [] →
+      (valuesEnding W s t b ≡ got tt (x .rest)) × (x .at + length (x .rest) ≡ nameMapBytes + length (drop nameMapBytes b))
+  ends-done x p e =
+      let o = leads-to-path p in
+      (o .ends ∙ ap (λ due. ending (readValues W due (x .rest))) e, o .placed)
+
   -- Reading stops, at a place no later than q.
   pub record ValuesStop (q : ℕ) : Type 0 where
     pub place : ℕ
@@ -85,27 +98,6 @@ module _ (W : Vocabulary) (s : ℕ) (t : Term) (b : List ℕ) where
     pub stops : valuesEnding W s t b ≡ stop 22 from
     pub placed : place + length from ≡ nameMapBytes + length (drop nameMapBytes b)
     pub sooner : place ≤ q
-
-  -- What the path's end at a fault, or with nothing due, says of the whole reading.
-  pub ends-stuck : (d : Due) (ds : List Due) (x : State) → FullTo W s t b x → x .due ≡ d ∷ ds → (k : Stuck W d ds (x .seen) (x .at) (x .rest)) →
-      (q : ℕ) → k .place ≤ q → ValuesStop q
-  ends-stuck d ds x p e k q h =
-      let o = leads-to-path p in
-      let i = o .placed in
-      let j = k .placed in
-      record {
-        place = k .place;
-        from = k .from;
-        stops = o .ends ∙ ap (λ due. ending (readValues W due (x .rest))) e ∙ ap ending (k .stops);
-        placed = omega arith;
-        sooner = h;
-      }
-
-  pub ends-done : (x : State) → FullTo W s t b x → x .due ≡ [] →
-      (valuesEnding W s t b ≡ got tt (x .rest)) × (x .at + length (x .rest) ≡ nameMapBytes + length (drop nameMapBytes b))
-  ends-done x p e =
-      let o = leads-to-path p in
-      (o .ends ∙ ap (λ due. ending (readValues W due (x .rest))) e, o .placed)
 
   -- Where a byte is at fault at a state to which the bytes lead, reading stops.
   pub fault-stops : (x : State) (d : Due) (ds : List Due) (q : ℕ) → FullTo W s t b x → x .due ≡ d ∷ ds → ValueFault W x d q → ValuesStop q
@@ -118,7 +110,9 @@ module _ (W : Vocabulary) (s : ℕ) (t : Term) (b : List ℕ) where
       fault = subst (λ x. ValueFault W x d q) same h
 
       at-fields : Stuck W d ds (x .seen) (x .at) (x .rest) ⊎ Moves W d ds (x .seen) (x .at) (x .rest) → ValuesStop q
-      at-fields (inl k) = ends-stuck d ds x p e k q (k .first q fault)
+      at-fields (inl k) =
+          let i = ends-stuck d ds x p e k in
+          record { place = k .place; from = k .from; stops = i .0; placed = i .1; sooner = k .first q fault }
       at-fields (inr k) = absurd (k .clear q fault)
 
   -- Where the path ends: at a fault, or with nothing due.

@@ -74,6 +74,8 @@ pub mod Theorems
 pub mod FullReading
 pub mod ValueFaults
 pub mod FillingPath
+pub mod NameDifference
+pub mod FillingRefusals
 pub mod FillExample
 pub mod MatchExample
 pub mod ListExample

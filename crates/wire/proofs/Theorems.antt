@@ -21,6 +21,7 @@
 --   judge-keeps              what is computed of judging the inputs of match is what match refuses by
 --   part-is-table            part's span is the one that match's table gives the name
 --   linear-refusals          a pattern to be listed is refused exactly by lines 7 to 15 and 18 of the refusal list
+--   filling-refusals         a filling file is refused exactly by lines 21 and 22 of the refusal list
 --   entries-inverse          whole patterns are read off bytes exactly where the bytes are their writings
 --   pattern-is-one           the bytes of list's inputs write one vocabulary and one pattern only
 --   entries-by-spots         the entries of a pattern are those at its words, from left to right
@@ -33,7 +34,7 @@
 --   more-alters-nothing      the program's text for the bytes that it takes is the text for all bytes of the input
 --   starred-hold             every starred case has the reply that document 01 gives
 --
-use Rattle.wire.specs.Laws.{InOrderIsWellFormed, VocabulariesInverse, TermsInverse, LimitsAreATest, CompleteIsGround, NoGapIsComplete, FullMapMeansNoOpenPlace, EntriesAreGood, VocabularyRefusals, TermRefusals, FirstGapIsExact, SituationRefusals, VocabularyFixed, TermFixed, MatchFixed, PartFixed, ListFixed, PrintFixed, VocabularyKeeps, TermKeeps, MatchKeeps, PartKeeps, JudgeKeeps, PartIsTable, EntriesInverse, PatternIsOne, LinearRefusals, ListKeeps, DecimalIsExact, PrintKeeps, AcceptedIsShort, MoreAltersNothing}
+use Rattle.wire.specs.Laws.{InOrderIsWellFormed, VocabulariesInverse, TermsInverse, LimitsAreATest, CompleteIsGround, NoGapIsComplete, FullMapMeansNoOpenPlace, EntriesAreGood, VocabularyRefusals, TermRefusals, FirstGapIsExact, SituationRefusals, VocabularyFixed, TermFixed, MatchFixed, PartFixed, ListFixed, PrintFixed, VocabularyKeeps, TermKeeps, MatchKeeps, PartKeeps, JudgeKeeps, PartIsTable, EntriesInverse, PatternIsOne, LinearRefusals, FillingRefusals, ListKeeps, DecimalIsExact, PrintKeeps, AcceptedIsShort, MoreAltersNothing}
 use Rattle.wire.specs.EntryBytes.{EntriesBySpots}
 use Rattle.wire.specs.EntryMaps.{SpotsByBits}
 use Rattle.wire.specs.EntrySizes.{PatternCount, PatternLength}
@@ -113,6 +114,9 @@ part-is-table = Rattle.wire.proofs.PartTable.part-is-table
 
 pub linear-refusals : LinearRefusals
 linear-refusals = Rattle.wire.proofs.LinearRefusals.linear-refusals
+
+pub filling-refusals : FillingRefusals
+filling-refusals = Rattle.wire.proofs.FillingRefusals.filling-refusals
 
 pub entries-inverse : EntriesInverse
 entries-inverse = Rattle.wire.proofs.EntriesRead.entries-inverse

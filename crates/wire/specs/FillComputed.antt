@@ -11,6 +11,7 @@
 --   readFull W fuel due l      complete terms for what is due, read off the bytes l
 --   readValues W due l         the same with a step for each byte, and one to end
 --   bindings ns gs             the names ns bound to the terms gs
+--   apart a b                  the two truth values differ
 --   unlike b t                 the names at which the map of b and the set of names in t differ
 --   line22 b ns g              line 22 behind the last value, once the values are read as g
 --   readFilling W s t b        a filling file for the pattern t of kind s
@@ -91,8 +92,7 @@ bindings [] gs = []
 bindings (n ∷ ns) gnil = []
 bindings (n ∷ ns) (gcons g gs) = record { name = n; value = g } ∷ bindings ns gs
 
--- Two truth values that differ.
-abbrev apart : Bool → Bool → Bool
+abbrev pub apart : Bool → Bool → Bool
 apart true b = not b
 apart false b = b
 
