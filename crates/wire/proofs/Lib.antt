@@ -76,6 +76,8 @@ pub mod ValueFaults
 pub mod FillingPath
 pub mod NameDifference
 pub mod FillingRefusals
+pub mod FillInputs
+pub mod FillRefusals
 pub mod FillExample
 pub mod MatchExample
 pub mod ListExample
