@@ -2,6 +2,9 @@
 --
 --   fill-refuses, fill-refused    a refusal is one that the list decides on, and the other way
 --   Fillable values, fill-answers, fill-answered   the same of an answer
+--   within-filled                 what is given for inputs in order whose result is within the limits
+--
+-- FillingsInverse is taken as an argument.
 --
 use mathlib.Core.Path.{_≡_, refl, sym, ap, _∙_, subst}
 use mathlib.Core.Bool.{Bool, true, false, _||_, cond}

@@ -2,10 +2,12 @@
 --
 --   ending x                  where a reading ends or stops, without what was read
 --   ending-stop, ending-got   what the reading is, where its ending is known
+--   endingAt W x              the ending of a reading from the state x on
 --   valuesEnding W s t b      the ending for the values of the file b
---   ends-stuck, ends-done     what it is, at a fault and where nothing is due any more
---   fault-stops               where a byte is at fault, reading stops, no later
---   path-ends                 the path ends at a fault, or with nothing due
+--   OnPath x                  they are the same, and the state's place is counted from the file's first byte
+--   ends-stuck, ends-done     what the ending is, at a fault and where nothing is due any more
+--   ValuesStop, fault-stops   where a byte is at fault, reading stops, no later
+--   EndsStuck, EndsDone, path-ends   the path ends at a fault, or with nothing due
 --
 use mathlib.Core.Path.{_≡_, refl, ap, _∙_, subst}
 use mathlib.Core.List.{List, [], _∷_}
@@ -46,7 +48,7 @@ ending-then (stop n r) f = refl
 
 -- ---- the path
 
-abbrev pub endingAt : Vocabulary → State → Got (Unit {0})
+abbrev endingAt : Vocabulary → State → Got (Unit {0})
 endingAt W x = ending (readValues W (x .due) (x .rest))
 
 abbrev pub valuesEnding : Vocabulary → ℕ → Term → List ℕ → Got (Unit {0})
@@ -66,7 +68,7 @@ step-places : (W : Vocabulary) {x y : State} → FullStep W x y →
 step-places W (FullStep.fullWord f l r o w e k) = let p = map-got l (mapOf W f) r k in (omega arith, omega arith)
 
 module _ (W : Vocabulary) (s : ℕ) (t : Term) (b : List ℕ) where
-  pub record OnPath (x : State) : Type 0 where
+  record OnPath (x : State) : Type 0 where
     pub ends : valuesEnding W s t b ≡ endingAt W x
     pub placed : x .at + length (x .rest) ≡ nameMapBytes + length (drop nameMapBytes b)
 

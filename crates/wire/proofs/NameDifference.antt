@@ -1,4 +1,9 @@
 -- NameDifference: the first of the unlike names is the lowest at which a file's map and the names of a pattern differ.
+--
+--   apart-differ, apart-same  what the test of two truth values says of them
+--   lowest-difference         a first unlike name is the lowest differing one
+--   no-difference             where there is none, no name differs
+--
 use mathlib.Core.Path.{_≡_, refl}
 use mathlib.Core.Bool.{Bool, true, false}
 use mathlib.Core.List.{List}
