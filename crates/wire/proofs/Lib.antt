@@ -65,9 +65,19 @@ pub mod EntryMaps
 pub mod EntryWalk
 pub mod EntryCut
 -- On filling.
+pub mod FullReading
+pub mod FullTerms
+pub mod NameMaps
+pub mod FillingValues
+pub mod FillingsInverse
+pub mod ValueFaults
+pub mod FillingPath
+pub mod FillingRefusals
+pub mod FillJudging
 pub mod FilledTerms
-pub mod FillInputs
 pub mod FilledMatches
+pub mod FillKeeps
+pub mod FillExample
 -- On the text that the program prints.
 pub mod Text
 pub mod Printing
@@ -76,13 +86,5 @@ pub mod Fixed
 -- All of it.
 pub mod Starred
 pub mod Theorems
-pub mod FullReading
-pub mod FillJudging
-pub mod FillKeeps
-pub mod FullTerms
-pub mod NameMaps
-pub mod FillingValues
-pub mod FillingsInverse
-pub mod FillExample
 pub mod MatchExample
 pub mod ListExample

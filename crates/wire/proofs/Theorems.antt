@@ -12,7 +12,7 @@
 --   term-refusals            a term is refused exactly by lines 7 to 15 of the refusal list
 --   first-gap-is-exact       firstGap gives the first gap of a good term, where there is one
 --   situation-refusals       a situation is refused exactly by lines 7 to 17 of the refusal list
---   vocabulary-fixed, term-fixed, match-fixed, part-fixed, list-fixed, print-fixed
+--   vocabulary-fixed, term-fixed, match-fixed, part-fixed, list-fixed, fill-fixed, print-fixed
 --                            a promise fixes the reply and what stands in the lent slices
 --   vocabulary-keeps         what is computed of the vocabulary check's reply keeps what the check promises
 --   term-keeps               what is computed of the term check's reply keeps what the check promises
@@ -21,6 +21,7 @@
 --   judge-keeps              what is computed of judging the inputs of match is what match refuses by
 --   part-is-table            part's span is the one that match's table gives the name
 --   linear-refusals          a pattern to be listed is refused exactly by lines 7 to 15 and 18 of the refusal list
+--   filling-refusals         a filling file is refused exactly by lines 21 and 22 of the refusal list
 --   entries-inverse          whole patterns are read off bytes exactly where the bytes are their writings
 --   filled-is-good           the pattern with each name replaced is a good term
 --   complete-without-open-place   .. which is complete exactly where the pattern has no open place and is no 255
@@ -38,7 +39,7 @@
 --   more-alters-nothing      the program's text for the bytes that it takes is the text for all bytes of the input
 --   starred-hold             every starred case has the reply that document 01 gives
 --
-use Rattle.wire.specs.Laws.{InOrderIsWellFormed, VocabulariesInverse, TermsInverse, LimitsAreATest, CompleteIsGround, NoGapIsComplete, FullMapMeansNoOpenPlace, EntriesAreGood, VocabularyRefusals, TermRefusals, FirstGapIsExact, SituationRefusals, VocabularyFixed, TermFixed, MatchFixed, PartFixed, ListFixed, PrintFixed, VocabularyKeeps, TermKeeps, MatchKeeps, PartKeeps, JudgeKeeps, PartIsTable, EntriesInverse, FilledIsGood, CompleteWithoutOpenPlace, FillInputsAreOne, PatternIsOne, LinearRefusals, ListKeeps, FilledMatches, DecimalIsExact, PrintKeeps, AcceptedIsShort, MoreAltersNothing, FillingsInverse}
+use Rattle.wire.specs.Laws.{InOrderIsWellFormed, VocabulariesInverse, TermsInverse, LimitsAreATest, CompleteIsGround, NoGapIsComplete, FullMapMeansNoOpenPlace, EntriesAreGood, VocabularyRefusals, TermRefusals, FirstGapIsExact, SituationRefusals, VocabularyFixed, TermFixed, MatchFixed, PartFixed, ListFixed, FillFixed, PrintFixed, VocabularyKeeps, TermKeeps, MatchKeeps, PartKeeps, JudgeKeeps, PartIsTable, EntriesInverse, FilledIsGood, CompleteWithoutOpenPlace, FillInputsAreOne, PatternIsOne, LinearRefusals, ListKeeps, FillKeeps, FilledMatches, DecimalIsExact, PrintKeeps, AcceptedIsShort, MoreAltersNothing, FillingsInverse, FillingRefusals}
 use Rattle.wire.specs.EntryBytes.{EntriesBySpots}
 use Rattle.wire.specs.EntryMaps.{SpotsByBits}
 use Rattle.wire.specs.EntrySizes.{PatternCount, PatternLength}
@@ -95,6 +96,9 @@ part-fixed = Rattle.wire.proofs.Fixed.part-fixed
 pub list-fixed : ListFixed
 list-fixed = Rattle.wire.proofs.Fixed.list-fixed
 
+pub fill-fixed : FillFixed
+fill-fixed = Rattle.wire.proofs.Fixed.fill-fixed
+
 pub print-fixed : PrintFixed
 print-fixed = Rattle.wire.proofs.Fixed.print-fixed
 
@@ -119,6 +123,9 @@ part-is-table = Rattle.wire.proofs.PartTable.part-is-table
 pub linear-refusals : LinearRefusals
 linear-refusals = Rattle.wire.proofs.LinearRefusals.linear-refusals
 
+pub filling-refusals : FillingRefusals
+filling-refusals = Rattle.wire.proofs.FillingRefusals.filling-refusals
+
 pub entries-inverse : EntriesInverse
 entries-inverse = Rattle.wire.proofs.EntriesRead.entries-inverse
 
@@ -129,7 +136,7 @@ pub complete-without-open-place : CompleteWithoutOpenPlace
 complete-without-open-place = Rattle.wire.proofs.FilledTerms.complete-without-open-place
 
 pub fill-inputs-are-one : FillInputsAreOne
-fill-inputs-are-one = Rattle.wire.proofs.FillInputs.fill-inputs-are-one
+fill-inputs-are-one = Rattle.wire.proofs.FillKeeps.fill-inputs-are-one
 
 pub fillings-inverse : FillingsInverse
 fillings-inverse = Rattle.wire.proofs.FillingsInverse.fillings-inverse
@@ -151,6 +158,9 @@ pattern-length = Rattle.wire.proofs.EntrySizes.pattern-length
 
 pub list-keeps : ListKeeps
 list-keeps = Rattle.wire.proofs.Leftovers.list-keeps
+
+pub fill-keeps : FillKeeps
+fill-keeps = Rattle.wire.proofs.FillKeeps.fill-keeps
 
 pub filled-matches : FilledMatches
 filled-matches = Rattle.wire.proofs.FilledMatches.filled-matches
