@@ -1,9 +1,9 @@
 /*
  * Pheasantry: which situations does a pattern of a waiting step leave over?
  *
- * Five functions over lent memory. They check a vocabulary, check a term, match a pattern with a
- * complete situation, say which part of a situation a name covers, and list the leftovers of a
- * pattern. docs/FORMAT.md of the repository has the formats and the rules.
+ * Six functions over lent memory. They check a vocabulary, check a term, match a pattern with a
+ * complete situation, say which part of a situation a name covers, list the leftovers of a pattern, and
+ * fill the names of a pattern. docs/FORMAT.md of the repository has the formats and the rules.
  *
  * Link
  *   `make install` installs this header, libpheasantry.a and a file for pkg-config: compile with
@@ -18,7 +18,8 @@
  *   where there is none.
  *   Refused: reply[0] is a number of enum pheasantry_refusal, reply[1] the input, a number of enum
  *   pheasantry_input, and reply[2] the place. A refusal leaves every lent output as it was.
- *   The vocabulary is checked first, then the pattern, then the situation, then the lent output.
+ *   The vocabulary is checked first, then the pattern, then the situation or the filling file, then the
+ *   lent output.
  *
  * Memory
  *   - A slice is passed as a pointer and the number of its elements: bytes, and for `table` the
@@ -44,9 +45,9 @@
 #include <stdint.h>
 
 /* The version of this header and of the archive that it is installed with. */
-#define PHEASANTRY_VERSION "0.1.0"
+#define PHEASANTRY_VERSION "0.2.0"
 #define PHEASANTRY_VERSION_MAJOR 0
-#define PHEASANTRY_VERSION_MINOR 1
+#define PHEASANTRY_VERSION_MINOR 2
 #define PHEASANTRY_VERSION_PATCH 0
 
 /* The length that `reply` must have. A later version may have more numbers. */
@@ -102,8 +103,16 @@ enum pheasantry_refusal {
     PHEASANTRY_REFUSED_REPEATED = 18,
     /* the table has not 128 numbers (place 0) */
     PHEASANTRY_REFUSED_TABLE_LENGTH = 19,
-    /* the listing is longer than the lent bytes (place: its length) */
-    PHEASANTRY_REFUSED_NO_ROOM = 20
+    /* the output is longer than the lent bytes (place: its length) */
+    PHEASANTRY_REFUSED_NO_ROOM = 20,
+
+    /* the bit map has fewer than 8 bytes or differs from the pattern's names
+     * (place: 0, or the lowest name that differs) */
+    PHEASANTRY_REFUSED_NAMES_DIFFER = 21,
+    /* a filling is no complete term of its name's kind within 32 levels, or bytes follow */
+    PHEASANTRY_REFUSED_FILLING = 22,
+    /* the result is longer than 4,096 bytes or deeper than 32 levels (place 0) */
+    PHEASANTRY_REFUSED_RESULT_SIZE = 23
 };
 
 /* Which input is refused: reply[1]. */
@@ -115,7 +124,9 @@ enum pheasantry_input {
     /* 7 to 17 */
     PHEASANTRY_INPUT_SITUATION = 2,
     /* the lent table or the lent bytes: 19 and 20 */
-    PHEASANTRY_INPUT_OUTPUT = 3
+    PHEASANTRY_INPUT_OUTPUT = 3,
+    /* the filling file: 21 to 23 */
+    PHEASANTRY_INPUT_FILLING = 4
 };
 
 #ifdef __cplusplus
@@ -183,6 +194,26 @@ void pheasantry_part(const uint8_t *vocabulary, size_t vocabulary_length,
  */
 void pheasantry_list(const uint8_t *vocabulary, size_t vocabulary_length,
                      const uint8_t *pattern, size_t pattern_length,
+                     uint8_t *out, size_t out_length,
+                     uint64_t reply[PHEASANTRY_REPLY_LENGTH]);
+
+/*
+ * Writes a pattern into out, with each of its names replaced by the term that a filling file has for it.
+ * Open places stay open.
+ *
+ * A filling file is eight bytes of bit map, of which byte 0 holds names 0 to 7, the lowest bit first, and
+ * then, for each standing bit in ascending order, one complete term without kind byte.
+ *
+ * Accepted: 0, the number of bytes written, 0. The result has its kind byte, and bytes of out behind it
+ *   stay as they were. If it is complete, pheasantry_match of the pattern with it says yes, and the table
+ *   has the parts that were filled in.
+ * Refused: 1 to 15 and 20 to 23, of which 20 is the last to be checked. A call with an out_length of 0
+ *   measures: where the inputs are in order it is refused with 20, and reply[2] is the length that out
+ *   has to have, at most 4,096.
+ */
+void pheasantry_fill(const uint8_t *vocabulary, size_t vocabulary_length,
+                     const uint8_t *pattern, size_t pattern_length,
+                     const uint8_t *filling, size_t filling_length,
                      uint8_t *out, size_t out_length,
                      uint64_t reply[PHEASANTRY_REPLY_LENGTH]);
 

@@ -1,5 +1,6 @@
 #!/usr/bin/env python3
-"""Makes what the programs `examples`, `families` and `leftovers` must write, by a second implementation of document 01.
+"""Makes what the programs `examples`, `families` and `leftovers` must write, by a second implementation of document 01
+and of the requests to it.
 
   python3 tools/expected.py examples > crates/examples/stdout
   python3 tools/expected.py families > crates/families/stdout
@@ -18,8 +19,9 @@ from pathlib import Path
 
 # ---------------------------------------------------------------- inputs and refusals
 
-VOCABULARY, PATTERN, SITUATION, LENT = 0, 1, 2, 3
+VOCABULARY, PATTERN, SITUATION, LENT, FILLING = 0, 1, 2, 3, 4
 DEEPEST_LEVEL = 32
+MOST_BYTES = 4096
 
 
 class Refused(Exception):
@@ -128,7 +130,7 @@ class Node(Written):
 
 def read_term(vocabulary, data, given=PATTERN):
     """The kind and the tree that the bytes write; Refused by lines 7 to 15."""
-    if not 2 <= len(data) <= 4096:
+    if not 2 <= len(data) <= MOST_BYTES:
         raise Refused(7, given, 0)
     if data[0] >= vocabulary.kinds:
         raise Refused(8, given, 0)
@@ -284,6 +286,61 @@ def names_in(tree):
             yield from names_in(tree.written[bit])
 
 
+# ---------------------------------------------------------------- filling files
+
+
+def kinds_of_names(vocabulary, kind, tree):
+    """The kind that is due where each name of a term stands."""
+    if isinstance(tree, Name):
+        return {tree.number: kind}
+    kinds = {}
+    if isinstance(tree, Node):
+        for bit, below in tree.written.items():
+            kinds |= kinds_of_names(vocabulary, vocabulary.words[tree.word].places[bit], below)
+    return kinds
+
+
+def read_complete(vocabulary, data, at, kind, level=1):
+    """The complete term of a kind that begins at an offset, and the offset behind it; Refused by line 22."""
+    if at >= len(data) or level > DEEPEST_LEVEL or data[at] >= len(vocabulary.words):
+        raise Refused(22, FILLING, at)
+    word = vocabulary.words[data[at]]
+    if word.result != kind:
+        raise Refused(22, FILLING, at)
+    if at + 1 >= len(data) or bits(data[at + 1]) != list(word.places):
+        raise Refused(22, FILLING, at + 1)
+    node, at = Node(data[at], start=at), at + 2
+    for bit, below in word.places.items():
+        node.written[bit], at = read_complete(vocabulary, data, at, below, level + 1)
+    node.end = at
+    return node, at
+
+
+def read_filling(vocabulary, kinds, data):
+    """The term that a filling file gives each name, of which the kinds are handed over; Refused by lines 21 and 22."""
+    if len(data) < 8:
+        raise Refused(21, FILLING, 0)
+    marked = {8 * byte + bit for byte in range(8) for bit in bits(data[byte])}
+    differing = marked ^ kinds.keys()
+    if differing:
+        raise Refused(21, FILLING, min(differing))
+    given, at = {}, 8
+    for name in sorted(marked):
+        given[name], at = read_complete(vocabulary, data, at, kinds[name])
+    if at < len(data):
+        raise Refused(22, FILLING, at)
+    return given
+
+
+def replaced(tree, given):
+    """The term with each of its names replaced; open places and 255 stay."""
+    if isinstance(tree, Name):
+        return given[tree.number]
+    if isinstance(tree, Anything):
+        return tree
+    return Node(tree.word, {bit: replaced(below, given) for bit, below in tree.written.items()})
+
+
 # ---------------------------------------------------------------- the calls
 
 
@@ -365,6 +422,21 @@ def list_leftovers(vocabulary, pattern, out):
         raise Refused(20, LENT, length)
     out[:length] = b"".join(bytes([kind]) + entry for entry in listing(vocabulary, tree))
     return entries, length
+
+
+def fill(vocabulary, pattern, filling, out):
+    """Fill's answer, the result's length; the result stands at the front of out then."""
+    vocabulary = read_vocabulary(vocabulary)
+    kind, tree = read_term(vocabulary, pattern, PATTERN)
+    given = read_filling(vocabulary, kinds_of_names(vocabulary, kind, tree), filling)
+    result = replaced(tree, given)
+    written = bytes([kind]) + writing(result)
+    if len(written) > MOST_BYTES or deepest_level(result) > DEEPEST_LEVEL:
+        raise Refused(23, FILLING, 0)
+    if len(written) > len(out):
+        raise Refused(20, LENT, len(written))
+    out[: len(written)] = written
+    return len(written)
 
 
 def printed(data):
@@ -466,6 +538,36 @@ def reply_to_find(vocabulary, length, pattern, sought):
     return f"{answer}, it is {place}"
 
 
+def filled(vocabulary, length, pattern, filling):
+    """Fill into so many bytes: the answer, its second value being 0, the bytes of the result, and the bytes behind them."""
+    out = bytearray([LENT_BYTE]) * length
+    written = 0
+    try:
+        written = fill(vocabulary, pattern, filling, out)
+        answer = f"accepted {written} 0"
+    except Refused as refusal:
+        answer = refusal.reply
+    assert len(out) == length
+    return answer, bytes(out[:written]), bytes(out[written:])
+
+
+def reply_to_write(vocabulary, length, pattern, filling):
+    answer, result, behind = filled(vocabulary, length, pattern, filling)
+    if result:
+        parts_come_back(vocabulary, pattern, filling, result)
+    return f"{answer}, {(result + behind).hex() or 'empty'}"
+
+
+def parts_come_back(vocabulary, pattern, filling, result):
+    """The result is an accepted pattern, and if it is complete, matching it with the pattern gives back the parts filled in."""
+    vocabulary_read = read_vocabulary(vocabulary)
+    kind, tree = read_term(vocabulary_read, result)
+    if first_gap(vocabulary_read, tree) is None:
+        _, pattern_tree = read_term(vocabulary_read, pattern)
+        given = read_filling(vocabulary_read, kinds_of_names(vocabulary_read, kind, pattern_tree), filling)
+        assert covered(vocabulary, pattern, result) == given
+
+
 def sum_of(data):
     """A sum of bytes: the last one's weight is 1, each other's 31 times that of the next, modulo 65,521."""
     total = 0
@@ -485,7 +587,7 @@ def reply_to_digest(vocabulary, data):
 
 # What tells the reply to a line, by its first word; the later ones take the number before the label.
 PLAIN = {"vocabulary": reply_to_vocabulary, "term": reply_to_term, "report": reply_to_report, "digest": reply_to_digest}
-NUMBERED = {"match": reply_to_match, "part": reply_to_part, "list": reply_to_list, "sum": reply_to_sum, "find": reply_to_find}
+NUMBERED = {"match": reply_to_match, "part": reply_to_part, "list": reply_to_list, "sum": reply_to_sum, "find": reply_to_find, "write": reply_to_write}
 
 
 def examples(text):
@@ -783,6 +885,55 @@ def listed_by_hand():
     assert decoded(FULL_TREE) == PAIRS_4095
 
 
+def filled_by_hand():
+    """The numbers that docs/DECISIONS.md gives for fill, and others counted on paper."""
+
+    def result(vocabulary, pattern, filling, length, behind=0):
+        """The answer and the bytes of fill into so many, behind which so many stay as they were."""
+        answer, written, rest = filled(vocabulary, length, decoded(pattern), decoded(filling))
+        assert rest == bytes([LENT_BYTE]) * behind
+        return answer, written.hex()
+
+    def refusal(vocabulary, pattern, filling, length=100):
+        answer, written, rest = filled(vocabulary, length, decoded(pattern), decoded(filling))
+        assert (written, rest) == (b"", bytes([LENT_BYTE]) * length)
+        return answer
+
+    none, n0, n0_n1 = "00 00 00 00 00 00 00 00", "01 00 00 00 00 00 00 00", "03 00 00 00 00 00 00 00"
+    # wait(n0, n1) with up and full: kind, wait and its map, up, full.
+    assert result(A, "00 00 03 80 81", f"{n0_n1} 01 00 04 00", 7) == ("accepted 7 0", "00" + "0003" + "0100" + "0400")
+    assert refusal(A, "00 00 03 80 81", f"{n0_n1} 01 00 04 00", 6) == "refused 20 3 7"
+    # "for each standing bit in ascending order": n0 is a and n1 is b, and n1 stands first.
+    assert result(C, "00 02 03 81 80", f"{n0_n1} 00 00 01 00", 9, 2) == ("accepted 7 0", "00" + "0203" + "0100" + "0000")
+    # 18 does not apply, and 255 with an empty map writes 255.
+    assert result(C, "00 02 03 80 80", f"{n0} 00 00", 7) == ("accepted 7 0", "00" + "0203" + "0000" + "0000")
+    assert result(C, "00 ff", none, 2) == ("accepted 2 0", "00ff")
+    # "open places stay open"
+    assert result(C, "00 02 02 80", f"{n0} 01 00", 5) == ("accepted 5 0", "00" + "0202" + "0100")
+    # "byte 0 holding names 0 to 7 lowest bit first": names 7, 8 and 63.
+    assert result(C, "00 87", "80 00 00 00 00 00 00 00 01 00", 3)[0] == "accepted 3 0"
+    assert result(C, "00 88", "00 01 00 00 00 00 00 00 01 00", 3)[0] == "accepted 3 0"
+    assert result(C, "00 bf", "00 00 00 00 00 00 00 80 01 00", 3)[0] == "accepted 3 0"
+    # The lowest differing name, or 0 if short.
+    assert refusal(C, "00 85", none) == "refused 21 4 5"
+    assert refusal(C, "00 80", "01 00 00 00 00 00 00 80 00 00") == "refused 21 4 63"
+    assert refusal(C, "00 85", "00 00 00 00 00 00 00") == "refused 21 4 0"
+    # "C, pattern `00 80`, filling `02 01 00 00` gets (22,4,9)."
+    assert refusal(C, "00 80", f"{n0} 02 01 00 00") == "refused 22 4 9"
+    # The missing byte, and the first that is too many.
+    assert refusal(C, "00 80", n0) == "refused 22 4 8"
+    assert refusal(C, "00 80", f"{n0} 00 00 00") == "refused 22 4 10"
+    assert refusal(C, "00 ff", f"{none} 00") == "refused 22 4 8"
+    # Level n of a filling under B begins at 8 + 2 (n - 1), so 33 at 72.
+    assert refusal(B, "00 80", f"{n0} 01 01 [8,62] 00 00") == "refused 22 4 72"
+    # n0 at level 16 with 17 levels of its own ends at level 32, and has 1 + 30 + 34 bytes; with 18 at level 33.
+    assert result(B, "00 01 01 [1,28] 80", f"{n0} 01 01 [8,30] 00 00", 65)[0] == "accepted 65 0"
+    assert refusal(B, "00 01 01 [1,28] 80", f"{n0} 01 01 [8,32] 00 00") == "refused 23 4 0"
+    # The tree of 11 levels is the longest result; with a byte behind it, byte 4,102 is the first that is too many.
+    assert result(C, "00 80", f"{n0} {FULL_FILLING}", 4095) == ("accepted 4095 0", PAIRS_4095.hex())
+    assert refusal(C, "00 80", f"{n0} {FULL_FILLING} 00") == "refused 22 4 4102"
+
+
 def printed_by_hand():
     """The text that document 01 gives whole, and DECISIONS' inputs."""
     assert printed(h("00 10") + A + h("00 00 03 01 00 03 00")) == "leftovers 3\n1 000500\n2 0000010200\n3 00000301000400\n"
@@ -797,6 +948,8 @@ def printed_by_hand():
 
 
 FULL_TREE = "00 02 03 [1,18] 00 00 [21,2] [19,6] [17,14] [15,30] [13,62] [11,126] [9,254] [7,510] [5,1022] [3,2046]"
+
+FULL_FILLING = "02 03 [8,18] 00 00 [28,2] [26,6] [24,14] [22,30] [20,62] [18,126] [16,254] [14,510] [12,1022] [10,2046]"
 
 
 def main():
@@ -813,6 +966,7 @@ def main():
     by_hand()
     matched_by_hand()
     listed_by_hand()
+    filled_by_hand()
     printed_by_hand()
     listings_divide()
     if wanted == "long-input":

@@ -23,6 +23,8 @@
  *   wait(n0, full) with wait(up, full): yes, name 0 at 3, length 2
  *   part of name 0: 0100
  *   wait(n0, full) with wait(up, free): no
+ *   wait(n0, full) with down for n0: 00000302000400
+ *   wait(n0, full) with a filling cut short: refused 22 4 9
  */
 #include <inttypes.h>
 #include <stdio.h>
@@ -35,6 +37,9 @@ static const uint8_t vocabulary[] = {3, 6, 0, 3, 1, 2, 1, 0, 1, 0, 2, 0, 2, 0, 0
 static const uint8_t wait_up_free[] = {0, 0, 3, 1, 0, 3, 0};
 static const uint8_t wait_up_full[] = {0, 0, 3, 1, 0, 4, 0};
 static const uint8_t wait_name_full[] = {0, 0, 3, 0x80, 4, 0};
+
+/* A filling file: eight bytes of bit map, in which name 0 stands, and down for it. */
+static const uint8_t name_is_down[] = {1, 0, 0, 0, 0, 0, 0, 0, 2, 0};
 
 static void print_bytes(const uint8_t *bytes, size_t length)
 {
@@ -108,6 +113,24 @@ static void match(void)
         printf("wait(n0, full) with wait(up, free): no\n");
 }
 
+static void fill(void)
+{
+    uint64_t reply[PHEASANTRY_REPLY_LENGTH];
+    uint8_t out[32];
+    pheasantry_fill(vocabulary, sizeof vocabulary, wait_name_full, sizeof wait_name_full, name_is_down,
+                    sizeof name_is_down, out, sizeof out, reply);
+    if (reply[0] == PHEASANTRY_ACCEPTED) {
+        printf("wait(n0, full) with down for n0: ");
+        print_bytes(out, reply[1]);
+    }
+
+    pheasantry_fill(vocabulary, sizeof vocabulary, wait_name_full, sizeof wait_name_full, name_is_down,
+                    sizeof name_is_down - 1, out, sizeof out, reply);
+    if (reply[0] == PHEASANTRY_REFUSED_FILLING)
+        printf("wait(n0, full) with a filling cut short: refused %" PRIu64 " %" PRIu64 " %" PRIu64 "\n",
+               reply[0], reply[1], reply[2]);
+}
+
 int main(void)
 {
     uint64_t reply[PHEASANTRY_REPLY_LENGTH];
@@ -119,5 +142,6 @@ int main(void)
         printf("wait(up, free): %" PRIu64 " words, deepest level %" PRIu64 "\n", reply[1], reply[2]);
     list();
     match();
+    fill();
     return 0;
 }

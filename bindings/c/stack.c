@@ -24,7 +24,7 @@
 enum { ENOUGH = 16 * 1024 };
 
 enum { STACK_WORDS = 32768, OUT_LENGTH = 1 << 24 };
-enum call { CHECK_VOCABULARY, CHECK_TERM, MATCH, PART, LIST, CALLS };
+enum call { CHECK_VOCABULARY, CHECK_TERM, MATCH, PART, FILL, LIST, CALLS };
 
 struct bytes {
     uint8_t at[8192];
@@ -40,11 +40,11 @@ static uint64_t reply[PHEASANTRY_REPLY_LENGTH];
 static ucontext_t before, during;
 static uintptr_t top;
 static enum call call;
-static const struct bytes *vocabulary, *pattern, *situation;
+static const struct bytes *vocabulary, *pattern, *situation, *filling;
 
 static void call_it(void)
 {
-    const struct bytes *v = vocabulary, *p = pattern, *s = situation;
+    const struct bytes *v = vocabulary, *p = pattern, *s = situation, *f = filling;
     top = (uintptr_t)__builtin_frame_address(0);
     switch (call) {
     case CHECK_VOCABULARY:
@@ -59,6 +59,9 @@ static void call_it(void)
         break;
     case PART:
         pheasantry_part(v->at, v->length, p->at, p->length, s->at, s->length, 0, reply);
+        break;
+    case FILL:
+        pheasantry_fill(v->at, v->length, p->at, p->length, f->at, f->length, out, OUT_LENGTH, reply);
         break;
     default:
         pheasantry_list(v->at, v->length, p->at, p->length, out, OUT_LENGTH, reply);
@@ -173,6 +176,17 @@ static void trees(struct bytes *t)
     put(t, 0), put(t, 0);
 }
 
+/* A filling file for the first so many names, with the same term for each, which is given with its kind
+ * byte. */
+static void fill_with(struct bytes *f, unsigned names, const struct bytes *term)
+{
+    for (unsigned byte = 0; byte < 8; byte++)
+        put(f, names >= 8 * byte + 8 ? 255 : names > 8 * byte ? (1u << (names - 8 * byte)) - 1 : 0);
+    for (unsigned name = 0; name < names; name++)
+        for (size_t i = 1; i < term->length; i++)
+            put(f, term->at[i]);
+}
+
 /* ---------------------------------------------------------------- the table */
 
 struct said {
@@ -183,9 +197,10 @@ struct said {
 static volatile struct said *said;
 static size_t most;
 
-static void row(const char *name, const struct bytes *v, const struct bytes *p, const struct bytes *s)
+static void row(const char *name, const struct bytes *v, const struct bytes *p, const struct bytes *s,
+                const struct bytes *f)
 {
-    vocabulary = v, pattern = p, situation = s;
+    vocabulary = v, pattern = p, situation = s, filling = f;
     printf("%5zu %5zu  %-45s", v->length, p->length, name);
     for (int c = 0; c < CALLS; c++) {
         int status;
@@ -239,26 +254,48 @@ int main(void)
     pairs(&names, 7, 1);
     hex(&twice, "0002038080");
 
+    /* No name, n0 as a whole pattern, and fillings of 2 bytes, of 62, of 32 levels and of the most bytes. */
+    static struct bytes bare, n0, leaf, small_tree, half_tree;
+    static struct bytes n0_leaf, n0_deep, n0_full_1, n0_full_16, n0_tree, n0_half, names_small;
+    hex(&n0, "0080");
+    hex(&leaf, "000000");
+    hex(&small_tree, "00");
+    pairs(&small_tree, 5, 0);
+    hex(&half_tree, "00");
+    pairs(&half_tree, 10, 0);
+    fill_with(&bare, 0, &leaf);
+    fill_with(&n0_leaf, 1, &leaf);
+    fill_with(&n0_deep, 1, &deep);
+    fill_with(&n0_full_1, 1, &full_1);
+    fill_with(&n0_full_16, 1, &full_16);
+    fill_with(&n0_tree, 1, &tree);
+    fill_with(&n0_half, 1, &half_tree);
+    fill_with(&names_small, 64, &small_tree);
+
     said = mmap(NULL, sizeof *said, PROT_READ | PROT_WRITE, MAP_SHARED | MAP_ANONYMOUS, -1, 0);
     if (said == MAP_FAILED)
         return 1;
     printf("vocabulary and pattern in bytes, and what they are; stack taken, in bytes, by\n");
-    printf("%57s%7s%7s%7s%7s%7s   listing\n", "", "vocab.", "term", "match", "part", "list");
-    row("A, wait(up, free)", &a, &up_free, &up_free);
-    row("B, 32 levels", &b, &deep, &deep);
-    row("B, 33 levels", &b, &too_deep, &too_deep);
-    row("96 words, 32 levels", &one, &open_1, &full_1);
-    row("the same, the last level beyond 128 bytes", &one, &late_1, &full_1);
-    row("the same, every place written", &one, &full_1, &full_1);
-    row("96 words of 16 kinds, 32 levels", &sixteen, &open_16, &full_16);
-    row("the same, every place written", &sixteen, &full_16, &full_16);
-    row("C, 32 levels with trees beside them", &c, &with_trees, &with_trees);
-    row("C, a tree of 11 levels", &c, &tree, &tree);
-    row("the same, and a situation that differs", &c, &tree, &other_tree);
-    row("the same, one more word of its kind", &d, &tree, &tree);
-    row("C, the tree with a name at its end", &c, &largest, &tree);
-    row("C, 64 names", &c, &names, &tree);
-    row("C, a name twice", &c, &twice, &tree);
+    printf("%57s%7s%7s%7s%7s%7s%7s   listing\n", "", "vocab.", "term", "match", "part", "fill", "list");
+    row("A, wait(up, free)", &a, &up_free, &up_free, &bare);
+    row("B, 32 levels", &b, &deep, &deep, &bare);
+    row("B, 33 levels", &b, &too_deep, &too_deep, &bare);
+    row("B, n0, filled with 32 levels", &b, &n0, &deep, &n0_deep);
+    row("96 words, 32 levels", &one, &open_1, &full_1, &bare);
+    row("the same, the last level beyond 128 bytes", &one, &late_1, &full_1, &bare);
+    row("the same, every place written", &one, &full_1, &full_1, &bare);
+    row("96 words, n0, filled with that", &one, &n0, &full_1, &n0_full_1);
+    row("96 words of 16 kinds, 32 levels", &sixteen, &open_16, &full_16, &bare);
+    row("the same, every place written", &sixteen, &full_16, &full_16, &bare);
+    row("96 words of 16 kinds, n0, filled with that", &sixteen, &n0, &full_16, &n0_full_16);
+    row("C, 32 levels with trees beside them", &c, &with_trees, &with_trees, &bare);
+    row("C, a tree of 11 levels", &c, &tree, &tree, &bare);
+    row("the same, and a situation that differs", &c, &tree, &other_tree, &bare);
+    row("the same, one more word of its kind", &d, &tree, &tree, &bare);
+    row("C, n0, filled with the tree", &c, &n0, &tree, &n0_tree);
+    row("C, the tree with a name at its end", &c, &largest, &tree, &n0_leaf);
+    row("C, 64 names, filled with trees", &c, &names, &tree, &names_small);
+    row("C, a name twice, filled with trees", &c, &twice, &tree, &n0_half);
     printf("the most: %zu bytes of %d\n", most, ENOUGH);
     return most > ENOUGH;
 }

@@ -53,6 +53,17 @@ pub mod archive {
             out_length: usize,
             reply: *mut u64,
         );
+        fn pheasantry_fill(
+            v: *const u8,
+            v_length: usize,
+            p: *const u8,
+            p_length: usize,
+            f: *const u8,
+            f_length: usize,
+            out: *mut u8,
+            out_length: usize,
+            reply: *mut u64,
+        );
     }
 
     /// The pointer of a slice; null where there is nothing to point to, which the header allows.
@@ -64,7 +75,7 @@ pub mod archive {
         }
     }
 
-    // SAFETY, for all five: pointers and lengths are those of slices that live through the call, or
+    // SAFETY, for all six: pointers and lengths are those of slices that live through the call, or
     // null and 0, and what is written is borrowed for the call alone.
 
     pub fn check_vocabulary(v: &[u8]) -> Reply {
@@ -134,6 +145,28 @@ pub mod archive {
                 v.len(),
                 pointer(p),
                 p.len(),
+                to,
+                out.len(),
+                reply.as_mut_ptr(),
+            )
+        };
+        reply
+    }
+    pub fn fill(v: &[u8], p: &[u8], f: &[u8], out: &mut [u8]) -> Reply {
+        let mut reply = UNWRITTEN;
+        let to = if out.is_empty() {
+            ptr::null_mut()
+        } else {
+            out.as_mut_ptr()
+        };
+        unsafe {
+            pheasantry_fill(
+                pointer(v),
+                v.len(),
+                pointer(p),
+                p.len(),
+                pointer(f),
+                f.len(),
                 to,
                 out.len(),
                 reply.as_mut_ptr(),

@@ -253,6 +253,96 @@ pub fn many_equal() -> (Vec<u8>, Vec<u8>) {
     (pattern, situation)
 }
 
+/// A pattern and a filling file for it.
+pub struct Fill {
+    pub name: &'static str,
+    pub pattern: Vec<u8>,
+    pub filling: Vec<u8>,
+}
+
+/// A filling file with the same term for each of the first so many names.
+fn fillings(names: usize, term: &[u8]) -> Vec<u8> {
+    let mut map = [0; 8];
+    (0..names).for_each(|name| map[name / 8] |= 1 << (name % 8));
+    let mut file = map.to_vec();
+    file.extend(term.repeat(names));
+    file
+}
+
+/// The full tree of pairs with so many levels, in which names stand at the leaves by turns.
+fn named_leaves(levels: usize, names: usize) -> Vec<u8> {
+    fn grow(out: &mut Vec<u8>, levels: usize, names: usize, next: &mut usize) {
+        if levels == 1 {
+            out.push(128 + (*next % names) as u8);
+            *next += 1;
+            return;
+        }
+        out.extend([2, 3]);
+        grow(out, levels - 1, names, next);
+        grow(out, levels - 1, names, next);
+    }
+    let mut out = vec![0];
+    grow(&mut out, levels, names, &mut 0);
+    out
+}
+
+/// A name alone, and a term of at most so many bytes for it.
+pub fn long_name(most: usize) -> (Vec<u8>, Vec<u8>) {
+    (vec![0, 128], fillings(1, &even(most)[1..]))
+}
+
+/// Patterns of C to fill, with results of up to 4,095 bytes.
+pub fn fills() -> Vec<Fill> {
+    let fill = |name, pattern, filling| Fill {
+        name,
+        pattern,
+        filling,
+    };
+    let (leaf, pair) = (&[0, 0][..], &[2, 3, 0, 0, 1, 0][..]);
+    let mut beside = vec![0, 2, 3];
+    beside.extend(&even(2_000)[1..]);
+    beside.push(128);
+    let (name, long) = long_name(4_096);
+    vec![
+        fill("C n0, long", name, long),
+        fill(
+            "C pair(n0, n0), long",
+            vec![0, 2, 3, 128, 128],
+            fillings(1, &even(2_040)[1..]),
+        ),
+        fill(
+            "C long pattern, n0 at the end",
+            beside,
+            fillings(1, &even(2_000)[1..]),
+        ),
+        fill(
+            "C 63 names 8 times, pairs",
+            named_leaves(10, 63),
+            fillings(63, pair),
+        ),
+        fill(
+            "C 64 names once, 62 bytes each",
+            named_leaves(7, 64),
+            fillings(64, &even(63)[1..]),
+        ),
+        fill(
+            "C 64 names 16 times, leaves",
+            named_leaves(11, 64),
+            fillings(64, leaf),
+        ),
+        fill(
+            "C n0 1,024 times, a leaf",
+            named_leaves(11, 1),
+            fillings(1, leaf),
+        ),
+    ]
+}
+
+/// A filling file of two long fillings in a row: the result of a pair is too long.
+pub fn too_long() -> (Vec<u8>, Vec<u8>) {
+    (vec![0, 2, 3, 128, 129], fillings(2, &even(4_096)[1..]))
+}
+
 /// A long pattern whose last two places have the same name.
 pub fn repeated() -> Vec<u8> {
     let mut out = vec![0, 2, 3];

@@ -1,6 +1,6 @@
 //! Times each call on small and large inputs.
 
-use reference::{check_term, check_vocabulary, leftovers, list, match_pattern, part};
+use reference::{check_term, check_vocabulary, fill, leftovers, list, match_pattern, part};
 use std::hint::black_box;
 use std::time::Instant;
 
@@ -182,6 +182,22 @@ fn main() {
     time("check term, D 255", || {
         check_term(black_box(&d), black_box(&[0, 255]))[1]
     });
+    time("fill, A wait(n0, n1)", || {
+        fill(
+            black_box(&a),
+            black_box(&[0, 0, 3, 128, 129]),
+            black_box(&[3, 0, 0, 0, 0, 0, 0, 0, 1, 0, 3, 0]),
+            black_box(&mut out[..7]),
+        )[1]
+    });
+    time("fill, C pair(n0, n0)", || {
+        fill(
+            black_box(&c),
+            black_box(&pair),
+            black_box(&[1, 0, 0, 0, 0, 0, 0, 0, 0, 0]),
+            black_box(&mut out[..7]),
+        )[1]
+    });
     let mut input = vec![0, 16];
     input.extend(a);
     input.extend(wait);
@@ -282,6 +298,49 @@ fn main() {
             &mut table,
         )[1]
     });
+    let mut long = vec![1, 0, 0, 0, 0, 0, 0, 0u8];
+    long.extend(&half);
+    let length = twice.len();
+    assert_eq!(fill(&c, &pair, &long, &mut out)[1], length as u64);
+    time(&format!("fill, C pair(n0, n0) ({length})"), || {
+        fill(
+            black_box(&c),
+            black_box(&pair),
+            black_box(&long),
+            black_box(&mut out),
+        )[1]
+    });
+    // A full tree of names, n0 alone and 64 by turns, with a word for each.
+    for names in [1, 64] {
+        let mut pattern = vec![0u8];
+        fn leaves(pattern: &mut Vec<u8>, levels: usize, next: &mut u8, names: u8) {
+            if levels == 1 {
+                pattern.push(128 + *next % names);
+                *next = (*next + 1) % 64;
+            } else {
+                pattern.extend([2, 3]);
+                leaves(pattern, levels - 1, next, names);
+                leaves(pattern, levels - 1, next, names);
+            }
+        }
+        leaves(&mut pattern, 11, &mut 0, names);
+        let mut file = if names == 1 {
+            vec![1, 0, 0, 0, 0, 0, 0, 0]
+        } else {
+            vec![255; 8]
+        };
+        file.resize(8 + 2 * names as usize, 0);
+        assert_eq!(fill(&c, &pattern, &file, &mut out), [0, 4095, 0]);
+        let n = pattern.len();
+        time(&format!("fill, C {names} names ({n} to 4095)"), || {
+            fill(
+                black_box(&c),
+                black_box(&pattern),
+                black_box(&file),
+                black_box(&mut out),
+            )[1]
+        });
+    }
     let mut part_open = vec![0u8];
     rough(
         &mut part_open,

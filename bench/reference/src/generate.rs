@@ -11,6 +11,9 @@ pub struct Case {
     pub table_fill: u16,
     pub out_len: usize,
     pub out_fill: u8,
+    /// A filling file, and how much is lent for its result.
+    pub filling: Vec<u8>,
+    pub result_len: usize,
 }
 
 /// The source of cases.
@@ -69,6 +72,14 @@ enum Naming {
     Loose,
     /// Any name.
     Clash,
+}
+
+/// How a name stands in a pattern; the kind is that of its first place.
+#[derive(Clone, Copy, Default)]
+struct Stands {
+    kind: usize,
+    times: usize,
+    deepest: usize,
 }
 
 /// A name in use, its kind and the term it stands for.
@@ -155,6 +166,33 @@ impl Vocabulary {
         let mut bytes = vec![kind as u8];
         self.write(tree, &mut bytes);
         bytes
+    }
+
+    /// How each name stands in a pattern, as far as that can be read.
+    fn stands(&self, pattern: &[u8]) -> [Stands; 64] {
+        let mut names = [Stands::default(); 64];
+        let kind = pattern.first().map_or(0, |&kind| kind as usize);
+        let mut due = vec![(kind % self.kinds, 1)];
+        let mut rest = pattern.get(1..).unwrap_or(&[]);
+        while let Some((kind, level)) = due.pop() {
+            match rest {
+                [byte @ 128..=191, tail @ ..] => {
+                    let name = &mut names[*byte as usize & 63];
+                    name.kind = if name.times == 0 { kind } else { name.kind };
+                    name.times += 1;
+                    name.deepest = name.deepest.max(level);
+                    rest = tail;
+                }
+                [word, map, tail @ ..] if (*word as usize) < self.words.len() => {
+                    let places = self.words[*word as usize].places.iter().rev();
+                    let written = places.filter(|(bit, _)| map >> bit & 1 == 1);
+                    due.extend(written.map(|&(_, kind)| (kind, level + 1)));
+                    rest = tail;
+                }
+                _ => break,
+            }
+        }
+        names
     }
 }
 
@@ -973,6 +1011,205 @@ impl Gen {
         }
     }
 
+    /// A filling file for a pattern.
+    fn filling(&mut self, v: &Vocabulary, pattern: &[u8]) -> Vec<u8> {
+        let stands = v.stands(pattern);
+        let names: Vec<usize> = (0..64).filter(|&name| stands[name].times > 0).collect();
+        let mut given = [const { None }; 64];
+        // One name gets what makes the result about as long as this.
+        let bytes = match self.below(12) {
+            0 => self.pick(&[4093, 4095, 4095, 4097, 4097, 4099]),
+            1 => self.between(1000, 5000),
+            2 | 3 => pattern.len() + self.below(300),
+            _ => 0,
+        };
+        let main = self.below(names.len().max(1));
+        let deep = self.once_in(10);
+        let mut long = if self.once_in(24) { 10_000 } else { 0 };
+        let mut length = pattern.len();
+        let others = names
+            .iter()
+            .enumerate()
+            .filter(|&(rank, _)| rank != main)
+            .map(|(_, &name)| name);
+        let order: Vec<usize> = others.chain(names.get(main).copied()).collect();
+        for (rank, &name) in order.iter().enumerate() {
+            let Stands {
+                kind,
+                times,
+                deepest,
+            } = stands[name];
+            self.left = 5000;
+            let last = rank + 1 == order.len();
+            let tree = if v.size[kind] >= 4000 {
+                Tree::Name(0)
+            } else if last && deep {
+                let levels = self.pick(&[32, 33, 33, 34, 34, 65 - deepest, 66 - deepest]);
+                self.deep(v, kind, levels.saturating_sub(deepest).max(1), true)
+            } else {
+                let mut spare = match self.below(4) {
+                    _ if long > 0 => self.between(1000, 4500),
+                    _ if last => (bytes.max(length) - length) / times,
+                    0 => self.below(40),
+                    1 => self.below(8),
+                    _ => 0,
+                };
+                spare = (spare + times).saturating_sub(v.size[kind]);
+                let level = if self.once_in(8) { 1 } else { deepest };
+                let grow = spare > 16 || self.once_in(2);
+                self.complete(v, kind, level, &mut spare, grow)
+            };
+            let size = 2 * count(&tree);
+            length += times * (size - 1);
+            long = long.max(size) - size;
+            given[name] = Some(tree);
+        }
+        let mut file = vec![0; 8];
+        for &name in &names {
+            file[name / 8] |= 1 << (name % 8);
+            if let Some(tree) = &given[name] {
+                v.write(tree, &mut file);
+            }
+        }
+        file
+    }
+
+    /// The filling file with the parts of a situation, if it fits.
+    fn parts(&mut self, vocabulary: &[u8], pattern: &[u8], situation: &[u8]) -> Option<Vec<u8>> {
+        let mut table = [0; 128];
+        if crate::match_pattern(vocabulary, pattern, situation, &mut table) != [0, 1, 0] {
+            return None;
+        }
+        let mut file = vec![0; 8];
+        for (name, span) in table.as_chunks::<2>().0.iter().enumerate() {
+            let [offset, length] = span.map(|number| number as usize);
+            if length > 0 {
+                file[name / 8] |= 1 << (name % 8);
+                file.extend(&situation[offset..offset + length]);
+            }
+        }
+        Some(file)
+    }
+
+    /// Damages a filling file in one of the ways that its refusals name.
+    fn damage_filling(&mut self, v: &Vocabulary, pattern: &[u8], file: &mut Vec<u8>) {
+        let nodes = (file.len() - 8) / 2;
+        let node = match self.below(3) {
+            _ if nodes == 0 => None,
+            0 => Some(nodes - 1 - self.below(nodes.min(8))),
+            _ => Some(self.below(nodes)),
+        };
+        let at = node.map_or(8, |node| 8 + 2 * node);
+        let standing: Vec<usize> = (0..64)
+            .filter(|name| file[name / 8] >> (name % 8) & 1 == 1)
+            .collect();
+        match self.below(14) {
+            // A name is missing from the map, and its filling or not.
+            0 if !standing.is_empty() => {
+                let name = self.pick(&standing);
+                file[name / 8] &= !(1 << (name % 8));
+                if self.once_in(2) {
+                    file.truncate(at);
+                }
+            }
+            // A name more than the pattern has, with something for it or not.
+            1 => {
+                let name = self.below(64);
+                file[name / 8] |= 1 << (name % 8);
+                if self.once_in(2) {
+                    file.extend([self.below(v.words.len()) as u8, 0]);
+                }
+            }
+            2 => {
+                let length = self.pick(&[0, 1, 4, 7, 7]);
+                file.truncate(length);
+                if length > 0 && self.once_in(2) {
+                    file[length - 1] ^= 1 << self.below(8);
+                }
+            }
+            // A word for another, perhaps of another kind.
+            3 if node.is_some() => file[at] = self.below(v.words.len()) as u8,
+            4 | 5 if node.is_some() => {
+                let byte = match self.below(3) {
+                    0 => 128 + self.below(64) as u8,
+                    1 => 255,
+                    _ => self.byte(v),
+                };
+                file.splice(at..at + 2, [byte]);
+            }
+            // A bit too few or too many in a written map.
+            6 if node.is_some() => {
+                let full = (8..file.len() - 1)
+                    .step_by(2)
+                    .filter(|&at| file[at + 1] != 0);
+                let full: Vec<usize> = full.collect();
+                if !full.is_empty() {
+                    let map = 1 + self.pick(&full);
+                    file[map] &= file[map] - 1;
+                }
+            }
+            7 if node.is_some() => file[at + 1] ^= 1 << self.below(8),
+            8 => {
+                // A filling of level 33, and whatever follows.
+                let stands = v.stands(pattern);
+                if let Some(&name) = standing.first() {
+                    let levels = self.pick(&[33, 33, 34]);
+                    let tree = self.deep(v, stands[name].kind, levels, true);
+                    file.truncate(8);
+                    v.write(&tree, file);
+                }
+            }
+            9 => file.truncate(at + 1),
+            10 => file.truncate(at),
+            11 => {
+                for _ in 0..self.pick(&[1, 1, 2, 9]) {
+                    let byte = self.byte(v);
+                    file.push(byte);
+                }
+            }
+            12 => {
+                let keep = self.below(file.len());
+                file.truncate(keep);
+            }
+            _ => self.damage(v, file, false),
+        }
+    }
+
+    /// A filling file, sound or not, and how many bytes are lent for its result.
+    fn fill_case(
+        &mut self,
+        v: &Vocabulary,
+        vocabulary: &[u8],
+        pattern: &[u8],
+        situation: &[u8],
+    ) -> (Vec<u8>, usize) {
+        if !v.sound() {
+            let length = self.pick(&[0, 8, 12]);
+            return (vec![0; length], 4);
+        }
+        let parts = if self.once_in(4) {
+            self.parts(vocabulary, pattern, situation)
+        } else {
+            None
+        };
+        let mut file = parts.unwrap_or_else(|| self.filling(v, pattern));
+        if self.once_in(3) {
+            self.damage_filling(v, pattern, &mut file);
+        }
+        let reply = crate::fill(vocabulary, pattern, &file, &mut []);
+        let exact = if reply[0] == 20 { reply[2] as usize } else { 0 };
+        let lent = match self.below(16) {
+            0 => 0,
+            1 | 2 => exact.saturating_sub(1),
+            3 => self.below(exact + 1),
+            4 | 5 => exact + 1,
+            6..=8 => exact + self.below(40),
+            9 => exact + 5000,
+            _ => exact,
+        };
+        (file, lent)
+    }
+
     /// A vocabulary at or beyond a limit.
     fn extreme(&mut self) -> Vec<u8> {
         let words = self.pick(&[1, 95, 96, 96, 97]);
@@ -1060,15 +1297,19 @@ impl Gen {
             _ if !names.is_empty() => self.pick(&names),
             _ => 0,
         };
+        let (table_fill, out_fill) = (self.next() as u16, self.next() as u8);
+        let (filling, result_len) = self.fill_case(&v, &vocabulary, &pattern, &situation);
         Case {
             vocabulary,
             pattern,
             situation,
             name,
             table_len,
-            table_fill: self.next() as u16,
+            table_fill,
             out_len,
-            out_fill: self.next() as u8,
+            out_fill,
+            filling,
+            result_len,
         }
     }
 

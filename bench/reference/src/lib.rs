@@ -1,6 +1,7 @@
-//! Check, match, part and list over vocabularies and terms given as bytes.
+//! Check, match, part, list and fill over vocabularies and terms given as bytes.
 #![forbid(unsafe_code)]
 
+mod fill;
 pub mod generate;
 mod listing;
 mod matching;
@@ -132,6 +133,25 @@ fn list_sized<const W: usize, const S: usize>(
     let mut words = Words::<W>::new();
     words.fill(vocabulary)?;
     listing::list::<W, S>(&words, pattern, out)
+}
+
+/// Fills the names of a pattern from a filling file; accepted is
+/// `[0, bytes, 0]`.
+pub fn fill(vocabulary: &[u8], pattern: &[u8], filling: &[u8], out: &mut [u8]) -> Reply {
+    // The bytes behind the map count as a term's behind its kind byte.
+    let longest = pattern.len().max(filling.len().saturating_sub(7));
+    sized!(vocabulary, longest, fill_sized(pattern, filling, out)).unwrap_or_else(|refusal| refusal)
+}
+
+fn fill_sized<const W: usize, const S: usize>(
+    vocabulary: &[u8],
+    pattern: &[u8],
+    filling: &[u8],
+    out: &mut [u8],
+) -> Result<Reply, Reply> {
+    let mut words = Words::<W>::new();
+    words.fill(vocabulary)?;
+    fill::fill::<W, S>(&words, pattern, filling, out)
 }
 
 /// The bytes that the program `leftovers` prints for this standard input.

@@ -15,7 +15,7 @@ pub(crate) struct Pass<const S: usize> {
     pub found: [u16; 128],
     /// The level of each name's first occurrence.
     levels: [u8; 64],
-    names: Names,
+    names: Names<0>,
     stack: Stack<S>,
     top: usize,
     /// How many bytes of each term are still to be read. These and `top` are
@@ -256,9 +256,9 @@ impl<const S: usize> Pass<S> {
         }
         let rest = &pattern[pattern.len() - self.pattern_left..];
         let names = &mut self.names;
-        term::go_on::<W, S, PATTERN>(words, pattern, 1, rest, &mut stack, top, names, &none)?;
+        term::go_on::<W, S, PATTERN, 0>(words, pattern, 1, rest, &mut stack, top, names, &none)?;
         let rest = &situation[situation.len() - self.situation_left..];
-        let read = term::go_on::<W, S, SITUATION>(
+        let read = term::go_on::<W, S, SITUATION, 0>(
             words,
             situation,
             2,

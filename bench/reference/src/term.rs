@@ -7,6 +7,7 @@ pub(crate) const CHECK: u8 = 0;
 pub(crate) const PATTERN: u8 = 1;
 pub(crate) const SITUATION: u8 = 2;
 pub(crate) const LIST: u8 = 3;
+pub(crate) const FILL: u8 = 4;
 
 /// The longest term for which a short stack is enough.
 pub(crate) const SHORT: usize = 17;
@@ -68,19 +69,24 @@ pub(crate) struct Reading {
     pub bytes: u64,
 }
 
-/// The names met so far, as bits, and the kind of each.
+/// The names met so far, as bits, and the kind of each. To fill a pattern `F`
+/// is 64, and how often and how deep each name stands is noted too; else 0.
 #[derive(Clone)]
-pub(crate) struct Names {
+pub(crate) struct Names<const F: usize> {
     pub seen: u64,
     pub kinds: [u8; 64],
+    pub times: [u16; F],
+    pub deepest: [u8; F],
 }
 
-impl Names {
+impl<const F: usize> Names<F> {
     #[inline(always)]
     pub fn new() -> Self {
         Names {
             seen: 0,
             kinds: [0; 64],
+            times: [0; F],
+            deepest: [0; F],
         }
     }
 }
@@ -112,7 +118,7 @@ pub(crate) fn read<const W: usize, const S: usize, const MODE: u8>(
 ) -> Result<Reading, Reply> {
     let (kind, rest) = begin(words.kinds, term, input)?;
     stack.set(0, kind, 1);
-    go_on::<W, S, MODE>(
+    go_on::<W, S, MODE, 0>(
         words,
         term,
         input,
@@ -127,14 +133,14 @@ pub(crate) fn read<const W: usize, const S: usize, const MODE: u8>(
 /// Reads the rest of a term, given the terms due and the names met before.
 #[allow(clippy::too_many_arguments)]
 #[inline(always)]
-pub(crate) fn go_on<const W: usize, const S: usize, const MODE: u8>(
+pub(crate) fn go_on<const W: usize, const S: usize, const MODE: u8, const F: usize>(
     words: &Words<W>,
     term: &[u8],
     input: u64,
     mut rest: &[u8],
     stack: &mut Stack<S>,
     mut top: usize,
-    names: &mut Names,
+    names: &mut Names<F>,
     others: &[u8; 16],
 ) -> Result<Reading, Reply> {
     let mut reading = Reading {
@@ -237,6 +243,10 @@ pub(crate) fn go_on<const W: usize, const S: usize, const MODE: u8>(
                         if MODE == LIST && reading.second == 0 {
                             reading.second = place;
                         }
+                    }
+                    if MODE == FILL {
+                        names.times[name] += 1;
+                        names.deepest[name] = names.deepest[name].max(level);
                     }
                 } else if *byte != 255 || place != 1 {
                     return Err(if *byte >= words.words {

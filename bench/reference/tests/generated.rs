@@ -40,6 +40,9 @@ fn every_reply_occurs() {
             bytes += reply[2];
             largest = largest.max(reply[2]);
         }
+        let mut out = vec![case.out_fill; case.result_len];
+        let reply = reference::fill(v, &case.pattern, &case.filling, &mut out);
+        count("fill", reply[0]);
     }
     let mut rows: Vec<_> = seen.iter().collect();
     rows.sort();
@@ -65,6 +68,10 @@ fn every_reply_occurs() {
     for number in [18, 20] {
         assert!(of("list", number) >= 2000, "{number}");
     }
+    for number in [20, 21, 22, 23] {
+        assert!(of("fill", number) >= 1000, "{number}");
+    }
+    assert!(of("fill", 0) >= 30_000);
     assert!(yes >= 30_000 && no >= 15_000 && listed >= 40_000 && repeated >= 8_000);
     assert!(instance >= 10_000);
 }
@@ -124,6 +131,47 @@ fn boundaries_occur() {
         count("yes, both over 1000", {
             reply == [0, 1, 0] && situation.len() > 1000 && pattern.len() > 1000
         });
+        let file = &case.filling;
+        let named = file.iter().take(8).any(|&byte| byte != 0);
+        let reply = reference::fill(v, pattern, file, &mut []);
+        count("fill 21, short", reply[0] == 21 && file.len() < 8);
+        count("fill 21, above 31", reply[0] == 21 && reply[2] > 31);
+        count("fill 22, bare map", reply[0] == 22 && !named);
+        let last = file.len() as u64;
+        count("fill 22, at the end", reply[0] == 22 && reply[2] == last);
+        count("fill 22, behind 4096", reply[0] == 22 && reply[2] > 4096);
+        count(
+            "fill 22, one byte behind",
+            reply[0] == 22 && reply[2] + 1 == last,
+        );
+        count("fill 23, long file", reply[0] == 23 && last > 4104);
+        count(
+            "fill 23, short file",
+            reply[0] == 23 && pattern.len() as u64 + last < 200,
+        );
+        count("fill, name repeated", {
+            reply[0] == 20 && reference::list(v, pattern, &mut [])[0] == 18
+        });
+        if reply[0] == 20 {
+            let exact = reply[2] as usize;
+            let mut result = vec![0; exact];
+            assert_eq!(
+                reference::fill(v, pattern, file, &mut result),
+                [0, reply[2], 0]
+            );
+            count("fill, 4095", exact == 4095);
+            count("fill, over 4000", exact > 4000);
+            count("fill, exact", case.result_len == exact);
+            count("fill, one less", case.result_len + 1 == exact);
+            count("fill, one more", case.result_len == exact + 1);
+            let checked = reference::check_term(v, &result);
+            assert_eq!(checked[0], 0);
+            count("fill, level 32", checked[2] == 32 && named);
+            let matched = reference::match_pattern(v, pattern, &result, &mut [0; 128]);
+            assert!(matched == [0, 1, 0] || matched[0] == 16);
+            count("fill, complete", matched[0] == 0 && named);
+            count("fill, open places", matched[0] == 16 && named);
+        }
         let reply = reference::list(v, pattern, &mut []);
         count("18", reply[0] == 18);
         count("18 and yes", {
@@ -196,6 +244,14 @@ fn same(seed: u64, cases: usize) {
                 plain::part(v, pattern, situation, name),
             );
         }
+        let mut one = vec![case.out_fill; case.result_len];
+        let mut two = one.clone();
+        assert_eq!(
+            reference::fill(v, pattern, &case.filling, &mut one),
+            plain::fill(v, pattern, &case.filling, &mut two),
+            "{case:?}"
+        );
+        assert_eq!(one, two);
         if reference::list(v, pattern, &mut [])[2] > 1 << 15 {
             continue;
         }

@@ -46,6 +46,17 @@ extern "C" {
         out_length: usize,
         reply: &mut Reply,
     );
+    pub(crate) fn pheasantry_fill(
+        vocabulary: *const u8,
+        vocabulary_length: usize,
+        pattern: *const u8,
+        pattern_length: usize,
+        filling: *const u8,
+        filling_length: usize,
+        out: *mut u8,
+        out_length: usize,
+        reply: &mut Reply,
+    );
 }
 
 #[cfg(test)]

@@ -214,3 +214,57 @@ pub fn leftovers(vocabulary: &[u8], pattern: &[u8]) -> Result<Vec<Vec<u8>>, Refu
     let listed = list(vocabulary, pattern, &mut out)?;
     Ok(entries(&out[..listed.bytes]).map(<[u8]>::to_vec).collect())
 }
+
+/// Writes a pattern into `out`, with each of its names replaced by the term that a filling file has for
+/// it, and says how many bytes that is. Open places stay open. Bytes behind the result stay as they
+/// were.
+///
+/// A filling file is eight bytes of bit map, of which byte 0 holds names 0 to 7, the lowest bit first, and
+/// then, for each standing bit in ascending order, one complete term without kind byte.
+///
+/// ```
+/// use pheasantry::{fill, match_pattern};
+///
+/// let vocabulary = [3, 6, 0, 3, 1, 2, 1, 0, 1, 0, 2, 0, 2, 0, 0, 0];
+/// let wait_n0_full = [0, 0, 3, 0x80, 4, 0];
+/// let up_for_n0 = [1, 0, 0, 0, 0, 0, 0, 0, 1, 0];
+/// let mut out = [0; 4096];
+/// let length = fill(&vocabulary, &wait_n0_full, &up_for_n0, &mut out)?;
+/// let wait_up_full = &out[..length];
+/// assert_eq!(wait_up_full, [0, 0, 3, 1, 0, 4, 0]);
+///
+/// // The result is complete, so a match gives back what was filled in.
+/// let spans = match_pattern(&vocabulary, &wait_n0_full, wait_up_full)?.unwrap();
+/// assert_eq!(wait_up_full[spans.get(0).unwrap()], up_for_n0[8..]);
+/// # Ok::<(), pheasantry::Refusal>(())
+/// ```
+///
+/// # Errors
+///
+/// Refused with 1 to 6 for the vocabulary, 7 to 15 for the pattern, 21 to 23 for the filling file, and 20
+/// where `out` is too short; the place is then the length that is needed. It is never above 4,096. A
+/// refusal leaves `out` as it was.
+pub fn fill(
+    vocabulary: &[u8],
+    pattern: &[u8],
+    filling: &[u8],
+    out: &mut [u8],
+) -> Result<usize, Refusal> {
+    let mut reply = Reply::default();
+    // SAFETY: the pointers and lengths are those of slices that live through the call, and out and
+    // the reply, which it writes, are borrowed for it alone.
+    unsafe {
+        archive::pheasantry_fill(
+            vocabulary.as_ptr(),
+            vocabulary.len(),
+            pattern.as_ptr(),
+            pattern.len(),
+            filling.as_ptr(),
+            filling.len(),
+            out.as_mut_ptr(),
+            out.len(),
+            &mut reply,
+        );
+    }
+    values(reply).map(|(length, _)| length)
+}

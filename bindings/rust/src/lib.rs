@@ -40,7 +40,9 @@ mod refusal;
 mod vocabulary;
 
 pub use answer::{entries, Checked, Listed, Spans};
-pub use calls::{check_term, check_vocabulary, leftovers, list, match_into, match_pattern, part};
+pub use calls::{
+    check_term, check_vocabulary, fill, leftovers, list, match_into, match_pattern, part,
+};
 pub use refusal::{Input, Reason, Refusal};
 pub use vocabulary::Vocabulary;
 

@@ -14,17 +14,20 @@ pub enum Input {
     Situation = 2,
     /// Input 3: the lent table or the lent bytes.
     Output = 3,
+    /// Input 4: the filling file.
+    Filling = 4,
 }
 
 impl Input {
-    const ALL: [Input; 4] = [
+    const ALL: [Input; 5] = [
         Input::Vocabulary,
         Input::Pattern,
         Input::Situation,
         Input::Output,
+        Input::Filling,
     ];
 
-    /// The input's number, 0 to 3.
+    /// The input's number, 0 to 4.
     #[must_use]
     pub fn number(self) -> u8 {
         self as u8
@@ -38,6 +41,7 @@ impl fmt::Display for Input {
             Input::Pattern => "pattern",
             Input::Situation => "situation",
             Input::Output => "lent output",
+            Input::Filling => "filling file",
         })
     }
 }
@@ -84,12 +88,19 @@ pub enum Reason {
     Repeated = 18,
     /// 19: the table has not 128 numbers. The place is 0.
     TableLength = 19,
-    /// 20: the listing is longer than the lent bytes. The place is its length.
+    /// 20: the output is longer than the lent bytes. The place is its length.
     NoRoom = 20,
+    /// 21: the bit map has fewer than 8 bytes or differs from the pattern's names. The place is 0, or the
+    /// lowest name that differs.
+    NamesDiffer = 21,
+    /// 22: a filling is no complete term of its name's kind within 32 levels, or bytes follow.
+    Filling = 22,
+    /// 23: the result is longer than 4,096 bytes or deeper than 32 levels. The place is 0.
+    ResultSize = 23,
 }
 
 impl Reason {
-    const ALL: [Reason; 20] = [
+    const ALL: [Reason; 23] = [
         Reason::Head,
         Reason::WordCount,
         Reason::RecordEnds,
@@ -110,9 +121,12 @@ impl Reason {
         Reason::Repeated,
         Reason::TableLength,
         Reason::NoRoom,
+        Reason::NamesDiffer,
+        Reason::Filling,
+        Reason::ResultSize,
     ];
 
-    /// The line's number, 1 to 20.
+    /// The line's number, 1 to 23.
     #[must_use]
     pub fn number(self) -> u8 {
         self as u8
@@ -141,7 +155,14 @@ impl fmt::Display for Reason {
             Reason::KindsDiffer => "pattern and situation have different kinds",
             Reason::Repeated => "the name stands twice in a pattern to be listed",
             Reason::TableLength => "the table has not 128 numbers",
-            Reason::NoRoom => "the listing is longer than the lent bytes",
+            Reason::NoRoom => "the output is longer than the lent bytes",
+            Reason::NamesDiffer => {
+                "the bit map has fewer than 8 bytes or differs from the pattern's names"
+            }
+            Reason::Filling => {
+                "a filling is no complete term of its name's kind within 32 levels, or bytes follow"
+            }
+            Reason::ResultSize => "the result is longer than 4,096 bytes or deeper than 32 levels",
         })
     }
 }
@@ -190,7 +211,7 @@ impl Refusal {
         self.reason
     }
 
-    /// The line's number, 1 to 20.
+    /// The line's number, 1 to 23.
     #[must_use]
     pub fn number(&self) -> u8 {
         self.reason.number()
@@ -203,8 +224,9 @@ impl Refusal {
     }
 
     /// The offset of the byte at fault or of the missing one. For [`Reason::EmptyKind`] it is a kind, for
-    /// [`Reason::NoRoom`] the length that is needed, and 0 for [`Reason::Head`], [`Reason::Size`],
-    /// [`Reason::KindsDiffer`] and [`Reason::TableLength`], which are about no one byte.
+    /// [`Reason::NamesDiffer`] a name, or 0 where the bit map is short, for [`Reason::NoRoom`] the length
+    /// that is needed, and 0 for [`Reason::Head`], [`Reason::Size`], [`Reason::KindsDiffer`],
+    /// [`Reason::TableLength`] and [`Reason::ResultSize`], which are about no one byte.
     #[must_use]
     pub fn place(&self) -> usize {
         self.place
@@ -223,7 +245,11 @@ impl fmt::Display for Refusal {
         match reason {
             Reason::EmptyKind => write!(f, " ({input}, kind {place})"),
             Reason::NoRoom => write!(f, " (it takes {place} bytes)"),
-            Reason::Head | Reason::Size | Reason::KindsDiffer => write!(f, " ({input})"),
+            Reason::NamesDiffer if *place == 0 => write!(f, " ({input}, short or name 0)"),
+            Reason::NamesDiffer => write!(f, " ({input}, name {place})"),
+            Reason::Head | Reason::Size | Reason::KindsDiffer | Reason::ResultSize => {
+                write!(f, " ({input})")
+            }
             Reason::TableLength => Ok(()),
             _ => write!(f, " ({input}, byte {place})"),
         }

@@ -108,6 +108,16 @@ impl<'a> Vocabulary<'a> {
     pub fn leftovers(&self, pattern: &[u8]) -> Result<Vec<Vec<u8>>, Refusal> {
         calls::leftovers(self.bytes, pattern)
     }
+
+    /// Writes a pattern into `out` with each of its names replaced: see [`fill`](crate::fill).
+    ///
+    /// # Errors
+    ///
+    /// Refused with 7 to 15 for the pattern, 21 to 23 for the filling file, and 20 where `out` is too
+    /// short; the place is then the length that is needed. A refusal leaves `out` as it was.
+    pub fn fill(&self, pattern: &[u8], filling: &[u8], out: &mut [u8]) -> Result<usize, Refusal> {
+        calls::fill(self.bytes, pattern, filling, out)
+    }
 }
 
 impl<'a> TryFrom<&'a [u8]> for Vocabulary<'a> {

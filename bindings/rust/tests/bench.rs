@@ -1,6 +1,6 @@
 //! The bench examples and each line of the refusal list, through the archive.
 use pheasantry::{
-    check_term, check_vocabulary, entries, leftovers, list, match_into, match_pattern, part,
+    check_term, check_vocabulary, entries, fill, leftovers, list, match_into, match_pattern, part,
     Checked, Refusal,
 };
 
@@ -11,6 +11,8 @@ const WAIT_UP_FREE: [u8; 7] = [0, 0, 3, 1, 0, 3, 0];
 const PAIR_A_A: [u8; 7] = [0, 2, 3, 0, 0, 0, 0];
 const PAIR_A_B: [u8; 7] = [0, 2, 3, 0, 0, 1, 0];
 const PAIR_N0_N0: [u8; 5] = [0, 2, 3, 0x80, 0x80];
+const WAIT_N0_N1: [u8; 5] = [0, 0, 3, 0x80, 0x81];
+const UP_AND_FREE: [u8; 12] = [3, 0, 0, 0, 0, 0, 0, 0, 1, 0, 3, 0];
 
 fn numbers<T: std::fmt::Debug>(answer: Result<T, Refusal>) -> (u8, u8, usize) {
     let refusal = answer.unwrap_err();
@@ -124,6 +126,44 @@ fn part_is_the_very_part() {
 }
 
 #[test]
+fn names_are_filled() {
+    let mut out = [9; 10];
+    assert_eq!(fill(&A, &WAIT_N0_N1, &UP_AND_FREE, &mut out), Ok(7));
+    assert_eq!(out[..7], WAIT_UP_FREE);
+    assert_eq!(out[7..], [9; 3]);
+    assert_eq!(fill(&A, &WAIT_N0_N1, &UP_AND_FREE, &mut out[..7]), Ok(7));
+
+    let mut out = [9; 6];
+    let refused = numbers(fill(&A, &WAIT_N0_N1, &UP_AND_FREE, &mut out));
+    assert_eq!((refused, out), ((20, 3, 7), [9; 6]));
+
+    // A name that stands twice, open places, name 63, and no name.
+    let n0_a = [1, 0, 0, 0, 0, 0, 0, 0, 0, 0];
+    let n63_b = [0, 0, 0, 0, 0, 0, 0, 128, 1, 0];
+    for (pattern, filling, result) in [
+        (&PAIR_N0_N0[..], &n0_a[..], &PAIR_A_A[..]),
+        (&[0, 2, 1, 0x80], &n0_a, &[0, 2, 1, 0, 0]),
+        (&[0, 0xbf], &n63_b, &[0, 1, 0]),
+        (&[0, 255], &[0; 8], &[0, 255]),
+    ] {
+        let mut out = vec![9; result.len()];
+        assert_eq!(fill(&C, pattern, filling, &mut out), Ok(result.len()));
+        assert_eq!(out, result);
+    }
+}
+
+#[test]
+fn a_match_gives_back_what_was_filled_in() {
+    let mut out = [9; 7];
+    let length = fill(&A, &WAIT_N0_N1, &UP_AND_FREE, &mut out).unwrap();
+    assert_eq!(
+        part(&A, &WAIT_N0_N1, &out[..length], 0),
+        &UP_AND_FREE[8..10]
+    );
+    assert_eq!(part(&A, &WAIT_N0_N1, &out[..length], 1), &UP_AND_FREE[10..]);
+}
+
+#[test]
 fn terms_are_counted() {
     assert_eq!(checked(check_term(&A, &WAIT_UP_FREE)), (3, 2));
     assert_eq!(checked(check_term(&C, &[0, 255])), (0, 1));
@@ -162,6 +202,19 @@ fn every_line_of_the_refusal_list() {
         (19, 3, 0)
     );
     assert_eq!(numbers(list(&A, &WAIT_UP_FREE, &mut [])), (20, 3, 15));
+    let unfilled = |v, p, f| numbers(fill(v, p, f, &mut []));
+    assert_eq!(unfilled(&A, &WAIT_N0_N1, &UP_AND_FREE), (20, 3, 7));
+    assert_eq!(unfilled(&A, &WAIT_N0_N1, &UP_AND_FREE[..7]), (21, 4, 0));
+    assert_eq!(unfilled(&C, &[0, 0x85], &[0; 8]), (21, 4, 5));
+    assert_eq!(unfilled(&A, &WAIT_N0_N1, &UP_AND_FREE[..11]), (22, 4, 11));
+    let short_map = [1, 0, 0, 0, 0, 0, 0, 0, 2, 1, 0, 0];
+    assert_eq!(unfilled(&C, &[0, 0x80], &short_map), (22, 4, 9));
+    let map = [1, 0, 0, 0, 0, 0, 0, 0];
+    let deep = [&map, &levels(32)[1..]].concat();
+    assert_eq!(unfilled(&B, &[0, 0x80], &deep), (20, 3, 65));
+    assert_eq!(unfilled(&B, &[0, 1, 1, 0x80], &deep), (23, 4, 0));
+    let deeper = [&map, &levels(33)[1..]].concat();
+    assert_eq!(unfilled(&B, &[0, 0x80], &deeper), (22, 4, 72));
 }
 
 #[test]
@@ -171,7 +224,7 @@ fn refusals_are_told() {
     }
     assert_eq!(
         said(list(&A, &WAIT_UP_FREE, &mut [])),
-        "refused 20 3 15: the listing is longer than the lent bytes (it takes 15 bytes)"
+        "refused 20 3 15: the output is longer than the lent bytes (it takes 15 bytes)"
     );
     assert_eq!(
         said(list(&C, &PAIR_N0_N0, &mut [])),
@@ -188,6 +241,18 @@ fn refusals_are_told() {
     assert_eq!(
         said(match_into(&C, &[0, 255], &PAIR_A_A, &mut [])),
         "refused 19 3 0: the table has not 128 numbers"
+    );
+    assert_eq!(
+        said(fill(&C, &[0, 0x80], &[], &mut [])),
+        "refused 21 4 0: the bit map has fewer than 8 bytes or differs from the pattern's names (filling file, short or name 0)"
+    );
+    assert_eq!(
+        said(fill(&C, &[0, 0x85], &[0; 8], &mut [])),
+        "refused 21 4 5: the bit map has fewer than 8 bytes or differs from the pattern's names (filling file, name 5)"
+    );
+    assert_eq!(
+        said(fill(&C, &[0, 255], &[0; 9], &mut [])),
+        "refused 22 4 8: a filling is no complete term of its name's kind within 32 levels, or bytes follow (filling file, byte 8)"
     );
 }
 

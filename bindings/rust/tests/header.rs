@@ -1,5 +1,7 @@
 //! The C header and this crate say the same: the version, the refusals and the inputs.
-use pheasantry::{check_term, check_vocabulary, list, match_into, Reason, Refusal, TABLE_LENGTH};
+use pheasantry::{
+    check_term, check_vocabulary, fill, list, match_into, Reason, Refusal, TABLE_LENGTH,
+};
 
 const HEADER: &str = include_str!("../../../include/pheasantry.h");
 
@@ -37,6 +39,8 @@ fn refusals() -> Vec<Refusal> {
     let a = [3, 6, 0, 3, 1, 2, 1, 0, 1, 0, 2, 0, 2, 0, 0, 0];
     let b = [1, 2, 0, 0, 0, 1, 0];
     let deep = [[0].to_vec(), [1, 1].repeat(33)].concat();
+    let deep_n0 = [&deep[..63], &[0x80]].concat();
+    let more_for_n0 = [1, 0, 0, 0, 0, 0, 0, 0, 1, 1, 0, 0];
     let pair = [0, 2, 3, 0, 0, 0, 0];
     let vocabularies: [&[u8]; 6] = [
         &[],
@@ -66,6 +70,9 @@ fn refusals() -> Vec<Refusal> {
         list(&c, &[0, 2, 3, 0x80, 0x80], &mut []).unwrap_err(),
         match_into(&c, &[0, 255], &pair, &mut []).unwrap_err(),
         list(&c, &pair, &mut []).unwrap_err(),
+        fill(&c, &pair, &[], &mut []).unwrap_err(),
+        fill(&c, &pair, &[0; 9], &mut []).unwrap_err(),
+        fill(&b, &deep_n0, &more_for_n0, &mut []).unwrap_err(),
     ]);
     refusals
 }
@@ -107,12 +114,12 @@ fn the_same_refusals() {
 
 #[test]
 fn the_same_inputs() {
-    use pheasantry::Input::{Output, Pattern, Situation, Vocabulary};
+    use pheasantry::Input::{Filling, Output, Pattern, Situation, Vocabulary};
     let in_header: Vec<(String, u8)> = enumerated("PHEASANTRY_INPUT_")
         .into_iter()
         .map(|(_, name, number)| (name.to_lowercase(), number))
         .collect();
-    let here = [Vocabulary, Pattern, Situation, Output]
+    let here = [Vocabulary, Pattern, Situation, Output, Filling]
         .map(|input| (format!("{input:?}").to_lowercase(), input.number()));
     assert_eq!(in_header, here);
 }

@@ -19,6 +19,14 @@ const TERMS: [&[u8]; 9] = [
     &[],
 ];
 
+// Filling files for some of them.
+const FILES: [&[u8]; 4] = [
+    &[1, 0, 0, 0, 0, 0, 0, 0, 0, 0],
+    &[1, 0, 0, 0, 0, 0, 0, 0, 2, 1],
+    &[0; 8],
+    &[],
+];
+
 #[test]
 fn methods_are_the_functions() {
     let vocabulary = Vocabulary::new(&C).unwrap();
@@ -33,6 +41,16 @@ fn methods_are_the_functions() {
                 pheasantry::list(&C, p, &mut other)
             );
             assert_eq!(one, other);
+        }
+        for file in FILES {
+            for length in [0, 6, 7, 100] {
+                let (mut one, mut other) = (vec![9; length], vec![9; length]);
+                assert_eq!(
+                    vocabulary.fill(p, file, &mut one),
+                    pheasantry::fill(&C, p, file, &mut other)
+                );
+                assert_eq!(one, other);
+            }
         }
         for s in TERMS {
             assert_eq!(
@@ -79,5 +97,6 @@ fn a_damaged_one_is_refused_at_once() {
         assert_eq!(pheasantry::check_term(bytes, &[]), Err(refusal));
         assert_eq!(pheasantry::match_pattern(bytes, &[], &[]), Err(refusal));
         assert_eq!(pheasantry::leftovers(bytes, &[]), Err(refusal));
+        assert_eq!(pheasantry::fill(bytes, &[], &[], &mut []), Err(refusal));
     }
 }

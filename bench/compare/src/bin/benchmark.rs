@@ -36,6 +36,11 @@ mod plain {
     pub fn list(v: &[u8], p: &[u8], out: &mut [u8]) -> Reply {
         reference::list(v, p, out)
     }
+
+    #[inline(never)]
+    pub fn fill(v: &[u8], p: &[u8], f: &[u8], out: &mut [u8]) -> Reply {
+        reference::fill(v, p, f, out)
+    }
 }
 
 /// Copies as many bytes for each entry as it has, one block for each, into the same output.
@@ -227,6 +232,62 @@ impl Bench {
             &mut || plain::list(black_box(v), black_box(p), black_box(&mut out.borrow_mut()))[2],
         ]);
         Self::row(&format!("{name} ({} bytes)", p.len()), &timed);
+    }
+
+    /// A filling into so many bytes, with the number of its reply. Its name gets the bytes of pattern,
+    /// filling file and result.
+    fn filling(
+        &mut self,
+        name: &str,
+        v: &[u8],
+        [p, f]: [&[u8]; 2],
+        lent: usize,
+        number: u64,
+    ) -> Option<(Reply, Timed)> {
+        if !self.wanted(name) {
+            return None;
+        }
+        if self.out.len() < lent {
+            self.out.resize(lent, 0);
+        }
+        let out = &mut self.out[..lent];
+        let reply = archive::fill(v, p, f, out);
+        assert_eq!(reply[0], number, "{name}");
+        let mine = out.to_vec();
+        Self::same(name, reply, plain::fill(v, p, f, out));
+        assert!(mine == *out, "{name}");
+        // Each call takes the slice anew, so that both write to the same memory.
+        let out = std::cell::RefCell::new(out);
+        let [v, p, f] = [v, p, f].map(|bytes| move || black_box(bytes));
+        let timed = turns(&mut [
+            &mut || archive::fill(v(), p(), f(), black_box(&mut out.borrow_mut()))[1],
+            &mut || plain::fill(v(), p(), f(), black_box(&mut out.borrow_mut()))[1],
+        ]);
+        Some((reply, timed))
+    }
+
+    fn fill_row(&mut self, name: &str, v: &[u8], p: &[u8], f: &[u8]) {
+        let length = plain::fill(v, p, f, &mut [])[2] as usize;
+        if let Some((_, timed)) = self.filling(name, v, [p, f], length, 0) {
+            Self::row(
+                &format!(
+                    "{name} ({} and {} bytes, result {length})",
+                    p.len(),
+                    f.len()
+                ),
+                &timed,
+            );
+        }
+    }
+
+    /// A filling that is refused.
+    fn unfilled_row(&mut self, name: &str, v: &[u8], p: &[u8], f: &[u8], lent: usize, number: u64) {
+        if let Some((_, timed)) = self.filling(name, v, [p, f], lent, number) {
+            Self::row(
+                &format!("{name} ({} and {} bytes)", p.len(), f.len()),
+                &timed,
+            );
+        }
     }
 
     fn growth_row(name: &str, length: usize, timed: &Timed) {
@@ -426,9 +487,38 @@ fn lists(bench: &mut Bench, all: &[Term]) {
     bench.refused_row("list, refused 18 at the end", c, &terms::repeated(), 0, 18);
 }
 
+fn fills(bench: &mut Bench) {
+    let (a, c) = (&terms::A[..], &terms::C[..]);
+    let (wait, pair) = ([0, 0, 3, 128, 129], [0, 2, 3, 128, 128]);
+    let up_free = [3, 0, 0, 0, 0, 0, 0, 0, 1, 0, 3, 0];
+    let leaf = [1, 0, 0, 0, 0, 0, 0, 0, 0, 0];
+    Bench::head("Fill");
+    bench.fill_row("fill, A wait(n0, n1)", a, &wait, &up_free);
+    bench.fill_row("fill, C pair(n0, n0)", c, &pair, &leaf);
+    bench.fill_row("fill, C any", c, &[0, 255], &[0; 8]);
+    for fill in terms::fills() {
+        let name = format!("fill, {}", fill.name);
+        bench.fill_row(&name, c, &fill.pattern, &fill.filling);
+    }
+    Bench::head("Fill refused");
+    bench.unfilled_row("fill, C any, refused 21", c, &[0, 255], &leaf, 0, 21);
+    bench.unfilled_row(
+        "fill, A wait(n0, n1), refused 20",
+        a,
+        &wait,
+        &up_free,
+        6,
+        20,
+    );
+    let (pattern, mut filling) = terms::too_long();
+    bench.unfilled_row("fill, refused 23", c, &pattern, &filling, 0, 23);
+    filling.pop();
+    bench.unfilled_row("fill, refused 22 at the end", c, &pattern, &filling, 0, 22);
+}
+
 fn growth(bench: &mut Bench) {
     println!("\n### Growth\n");
-    println!("Bytes: of the term, of pattern and situation together, of the listing.\n");
+    println!("Bytes: of the term, of pattern and situation together, of what is written.\n");
     println!("| call | bytes | archive, ns a byte | reference, ns a byte | ratio |");
     println!("|---|---:|---:|---:|---:|");
     let sizes = [64, 256, 1_024, 4_096];
@@ -449,6 +539,13 @@ fn growth(bench: &mut Bench) {
         let t = terms::even(size);
         if let Some(timed) = bench.matching("growth of match, C even, itself", c, &t, &t, 1) {
             Bench::growth_row("growth of match, C even, itself", 2 * t.len(), &timed);
+        }
+    }
+    for size in sizes {
+        let (p, f) = terms::long_name(size);
+        let length = terms::even(size).len();
+        if let Some((_, timed)) = bench.filling("growth of fill, C n0", c, [&p, &f], length, 0) {
+            Bench::growth_row("growth of fill, C n0", length, &timed);
         }
     }
     for size in sizes {
@@ -477,5 +574,6 @@ fn main() {
     vocabularies(&mut bench);
     large(&mut bench, &all);
     lists(&mut bench, &all);
+    fills(&mut bench);
     growth(&mut bench);
 }

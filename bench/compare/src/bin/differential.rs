@@ -12,13 +12,14 @@ use std::process::exit;
 /// How much is lent around a slice to see that nothing is written beside it.
 const MARGIN: usize = 64;
 
-const CALLS: [&str; 6] = [
+const CALLS: [&str; 7] = [
     "vocabulary",
     "pattern",
     "situation",
     "match",
     "part",
     "list",
+    "fill",
 ];
 
 /// What a call gave: a refusal's number, or 0 and in which way it was accepted.
@@ -26,7 +27,7 @@ type Outcome = (u64, &'static str);
 
 /// How often each call gave each outcome.
 #[derive(Default)]
-struct Seen(BTreeMap<Outcome, [u64; 6]>);
+struct Seen(BTreeMap<Outcome, [u64; 7]>);
 
 impl Seen {
     fn add(&mut self, call: &'static str, outcome: Outcome) {
@@ -66,9 +67,10 @@ fn differs(case: &Case, number: u64, call: &str, what: &str) -> ! {
     println!("vocabulary {}", hex(&case.vocabulary));
     println!("pattern    {}", hex(&case.pattern));
     println!("situation  {}", hex(&case.situation));
+    println!("filling    {}", hex(&case.filling));
     println!(
-        "name {}, table {} numbers, out {} bytes",
-        case.name, case.table_len, case.out_len
+        "name {}, table {} numbers, out {} bytes, for fill {}",
+        case.name, case.table_len, case.out_len, case.result_len
     );
     exit(1);
 }
@@ -185,6 +187,24 @@ fn listing(case: &Case, number: u64, out: &mut Lent<u8>, seen: &mut Seen) {
     seen.add("list", outcome(mine, how));
 }
 
+fn filling(case: &Case, number: u64, out: &mut Lent<u8>, seen: &mut Seen) {
+    let (v, p, f) = (&case.vocabulary, &case.pattern, &case.filling);
+    let fill = case.out_fill;
+    out.fill(case.result_len, |i| fill.wrapping_add((157 * i >> 3) as u8));
+    let (one, another) = out.slices();
+    let mine = archive::fill(v, p, f, one);
+    let other = reference::fill(v, p, f, another);
+    replies(case, number, "fill", mine, other);
+    let bytes = if mine[0] == 0 { mine[1] as usize } else { 0 };
+    out.compare(case, number, "fill", bytes);
+    let how = match f.get(..8) {
+        Some([0, 0, 0, 0, 0, 0, 0, 0]) => "no name",
+        _ if bytes < 2048 => "filled",
+        _ => "2 KiB or more",
+    };
+    seen.add("fill", outcome(mine, how));
+}
+
 fn argument(at: usize, otherwise: u64) -> u64 {
     match std::env::args().nth(at) {
         None => otherwise,
@@ -207,6 +227,7 @@ fn main() {
         check(&case, number, &mut seen);
         matching(&case, number, &mut table, &mut seen);
         listing(&case, number, &mut out, &mut seen);
+        filling(&case, number, &mut out, &mut seen);
         if case != kept {
             differs(&kept, number, "any call", "an input is changed");
         }

@@ -173,6 +173,7 @@ impl Reader<'_> {
 
 struct Term {
     read: Read,
+    names: HashMap<u8, u8>,
     words: u64,
     deepest: u64,
     gap: Option<usize>,
@@ -202,6 +203,7 @@ fn term(v: &Vocabulary, bytes: &[u8], input: u64) -> Result<Term, Reply> {
     }
     Ok(Term {
         read,
+        names: reader.names,
         words: reader.words,
         deepest: reader.deepest,
         gap: reader.gap,
@@ -364,6 +366,105 @@ pub fn list(v: &[u8], pattern: &[u8], out: &mut [u8]) -> Reply {
     }
     out[..whole.len()].copy_from_slice(&whole);
     [0, entries.len() as u64, whole.len() as u64]
+}
+
+/// The complete term of a kind that begins at an offset, and the offset behind
+/// it; or else the offset of the first byte that is amiss.
+fn filling(
+    v: &Vocabulary,
+    bytes: &[u8],
+    at: usize,
+    kind: u8,
+    level: u64,
+) -> Result<(Tree, usize), usize> {
+    let number = *bytes.get(at).ok_or(at)?;
+    let word = v.words.get(number as usize).ok_or(at)?;
+    if level == 33 || word.result != kind {
+        return Err(at);
+    }
+    let map = *bytes.get(at + 1).ok_or(at + 1)?;
+    if (0..8).any(|bit| (map >> bit & 1 == 1) != word.places[bit].is_some()) {
+        return Err(at + 1);
+    }
+    let mut end = at + 2;
+    let mut terms = Vec::new();
+    for place in &word.places {
+        terms.push(match place {
+            Some(kind) => {
+                let (tree, behind) = filling(v, bytes, end, *kind, level + 1)?;
+                end = behind;
+                Some(tree)
+            }
+            None => None,
+        });
+    }
+    Ok((Tree::Word(number, terms), end))
+}
+
+fn put_in(tree: &Tree, given: &HashMap<u8, Tree>) -> Tree {
+    match tree {
+        Tree::Any => Tree::Any,
+        Tree::Name(name) => given[name].clone(),
+        Tree::Word(word, terms) => {
+            let terms = terms
+                .iter()
+                .map(|term| term.as_ref().map(|term| put_in(term, given)));
+            Tree::Word(*word, terms.collect())
+        }
+    }
+}
+
+fn levels(tree: &Tree) -> usize {
+    match tree {
+        Tree::Word(_, terms) => 1 + terms.iter().flatten().map(levels).max().unwrap_or(0),
+        _ => 1,
+    }
+}
+
+fn filled(v: &[u8], pattern: &[u8], file: &[u8]) -> Result<Vec<u8>, Reply> {
+    let v = vocabulary(v)?;
+    let read = term(&v, pattern, 1)?;
+    if file.len() < 8 {
+        return Err([21, 4, 0]);
+    }
+    for name in 0..64 {
+        let stands = file[name as usize / 8] >> (name % 8) & 1 == 1;
+        if stands != read.names.contains_key(&name) {
+            return Err([21, 4, name as u64]);
+        }
+    }
+    let mut at = 8;
+    let mut given = HashMap::new();
+    for name in 0..64 {
+        let Some(&kind) = read.names.get(&name) else {
+            continue;
+        };
+        let (tree, behind) =
+            filling(&v, file, at, kind, 1).map_err(|place| [22, 4, place as u64])?;
+        at = behind;
+        given.insert(name, tree);
+    }
+    if at < file.len() {
+        return Err([22, 4, at as u64]);
+    }
+    let result = put_in(&read.read.tree, &given);
+    let mut bytes = vec![pattern[0]];
+    write(&result, &mut bytes);
+    if bytes.len() > 4096 || levels(&result) > 32 {
+        return Err([23, 4, 0]);
+    }
+    Ok(bytes)
+}
+
+pub fn fill(v: &[u8], pattern: &[u8], file: &[u8], out: &mut [u8]) -> Reply {
+    match filled(v, pattern, file) {
+        Err(refusal) => refusal,
+        Ok(bytes) if bytes.len() > out.len() => [20, 3, bytes.len() as u64],
+        Ok(bytes) => {
+            out[..bytes.len()].copy_from_slice(&bytes);
+            [0, bytes.len() as u64, 0]
+        }
+    }
 }
 
 pub fn program(input: &[u8]) -> String {
