@@ -1,0 +1,8 @@
+-- The laws behind the proofs of measuring and writing the result of fill.
+--
+-- On a pattern's bytes, passed node by node.
+pub mod Nodes
+pub mod Filled
+pub mod Levels
+-- On the values in a filling file.
+pub mod Starts

@@ -1,0 +1,1 @@
+// Document 02's call fill: the pattern with each name replaced.
