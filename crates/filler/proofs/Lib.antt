@@ -6,3 +6,5 @@ pub mod Filled
 pub mod Levels
 -- On the values in a filling file.
 pub mod Starts
+-- The loops.
+pub mod Begun

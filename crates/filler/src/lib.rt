@@ -1,1 +1,2 @@
 // Document 02's call fill: the pattern with each name replaced.
+mod writing;
