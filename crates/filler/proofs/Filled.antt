@@ -16,7 +16,7 @@ use Rattle.terms.proofs.All.{all-left, all-right}
 use Rattle.wire.specs.Map.{writeMap, flags, number, isOpen, writtenFlags}
 use Rattle.wire.specs.Row.{writeRow}
 use Rattle.wire.specs.Vocabulary.{Vocabulary, mapOf}
-use Rattle.wire.specs.TermBytes.{wholeByte, writtenMap, encodeAt, encodeAll, encodeRoot}
+use Rattle.wire.specs.TermBytes.{writtenMap, encodeAt, encodeAll, encodeRoot}
 use Rattle.wire.proofs.GroundBytes.{root-ground}
 use Rattle.filler.proofs.Nodes.{Node, wordNode, nameNode, byteNode, nodesOf, nodesAll, nodesRoot}
 

@@ -6,7 +6,7 @@
 --   levels-own, levels-replaced      those of the term itself, and with its names replaced
 --   levels-root              the nodes of a term reach as deep as the term
 --
-use mathlib.Core.Path.{_≡_, refl, sym, ap, ap₂, _∙_}
+use mathlib.Core.Path.{_≡_, refl, ap, ap₂, _∙_}
 use mathlib.Core.Bool.{not}
 use mathlib.Core.List.{List, [], _∷_, _++_, append-assoc, append-nil}
 use Prim.Native.Nat.{ℕ, zero, suc, _+_, max}
@@ -20,7 +20,7 @@ use Rattle.terms.specs.Replacing.{replace, replaceAll}
 use Rattle.terms.proofs.All.{all-left, all-right}
 use Rattle.wire.specs.Map.{flags, ones, bit, isOpen}
 use Rattle.wire.specs.Vocabulary.{Vocabulary, InOrder, signature}
-use Rattle.wire.specs.TermBytes.{levels, levelsAll, deepest, mostLevels, writtenMap}
+use Rattle.wire.specs.TermBytes.{levels, levelsAll, mostLevels}
 use Rattle.wire.proofs.EntryCut.{written, map-ones}
 use Rattle.filler.proofs.Nodes.{Node, wordNode, nameNode, byteNode, nodesOf, nodesAll, nodesRoot}
 

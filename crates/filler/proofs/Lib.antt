@@ -8,3 +8,4 @@ pub mod Levels
 pub mod Starts
 -- The loops.
 pub mod Begun
+pub mod Measuring

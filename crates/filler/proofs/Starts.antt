@@ -18,7 +18,7 @@ use lib.ListN.{length, getD, take, drop, length-append, length-drop}
 use lib.Seq.{length-take-le, take-at, drop-at, drop-drop}
 use borrow.Author.Tests.{eq-eqb, ne-eqb}
 use Rattle.terms.specs.Lists.{All, occurs, range, keep}
-use Rattle.terms.specs.Term.{Term, Ground, asTerm, names}
+use Rattle.terms.specs.Term.{asTerm, names}
 use Rattle.terms.specs.Filling.{Binding, valueOf}
 use Rattle.terms.proofs.All.{all-implies, all-both}
 use Rattle.terms.proofs.Occurs.{all-occurs}
@@ -26,8 +26,7 @@ use Rattle.wire.specs.Row.{writeRow}
 use Rattle.wire.specs.TermBytes.{nameCount, levels, encodeAt}
 use Rattle.wire.specs.Matching.{size}
 use Rattle.wire.specs.FillingFile.{nameMapBytes, writeNames, writeValue, encodeFilling}
-use Rattle.wire.specs.Filled.{FillInputs, HoldsFillInputs}
-use Rattle.wire.specs.FillComputed.{ValuesIn}
+use Rattle.wire.specs.Filled.{FillInputs}
 use Rattle.wire.proofs.Cond.{cond-true, cond-false}
 use Rattle.filler.specs.Ready.{Ready}
 
