@@ -21,9 +21,9 @@ use Rattle.wire.specs.Map.{writeMap}
 use Rattle.wire.specs.EntryBytes.{othersBytes}
 use Rattle.wire.proofs.Cond.{cond-true, cond-false}
 use Rattle.kinds.specs.Kinds.{kindIn, hasKind, isOther, othersIn, lowest, Chained}
-use Rattle.complement.specs.Entering.{Written}
+use Rattle.slices.specs.Written.{Written}
 use Rattle.complement.proofs.Siblings.{Listed, listed-none, listed-room, listed-taken, listed-all}
-use Rattle.complement.proofs.Writing.{part, back}
+use Rattle.slices.proofs.Writing.{part, back}
 
 -- ---- the lowest number of a range that passes a test
 

@@ -32,8 +32,9 @@ use Rattle.wire.proofs.EntryBytes.{spots-bytes-append}
 use Rattle.wire.proofs.EntryWalk.{flags-at, copy-patched}
 use Rattle.maps.specs.Writing.{mapPut}
 use Rattle.maps.proofs.Writing.{map-set}
-use Rattle.complement.specs.Entering.{Written, TermAt, TermListed, PlacesAt, PlacesListed}
-use Rattle.complement.proofs.Writing.{part, back, part-room, written-none, written-more, written-length}
+use Rattle.slices.specs.Written.{Written}
+use Rattle.complement.specs.Entering.{TermAt, TermListed, PlacesAt, PlacesListed}
+use Rattle.slices.proofs.Writing.{part, back, part-room, written-none, written-more, written-length}
 
 -- ---- the terms of the bits
 

@@ -6,8 +6,8 @@ use native.Mathlib.Omega.{arith}
 use lib.ListN.{length, drop, length-append}
 use Rattle.wire.specs.Map.{writeMap}
 use Rattle.wire.specs.EntryBytes.{othersBytes}
-use Rattle.complement.specs.Entering.{Written}
-use Rattle.complement.proofs.Writing.{part, back, part-room, written-more, written-none, written-length}
+use Rattle.slices.specs.Written.{Written}
+use Rattle.slices.proofs.Writing.{part, back, part-room, written-more, written-none, written-length}
 
 others-bytes-append : (front l m : List ℕ) → othersBytes front (l ++ m) ≡ othersBytes front l ++ othersBytes front m
 others-bytes-append front [] m = refl

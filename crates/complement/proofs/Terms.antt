@@ -28,8 +28,9 @@ use Rattle.wire.proofs.EntryMaps.{closed-bytes, spots-by-bits}
 use Rattle.wire.proofs.EntryWalk.{closed-stands, word-bytes}
 use Rattle.kinds.specs.Kinds.{kindIn, othersIn}
 use Rattle.kinds.proofs.Others.{others-tabled}
-use Rattle.complement.specs.Entering.{OthersAt, Written, TermAt, TermListed, PlacesAt, PlacesListed}
-use Rattle.complement.proofs.Writing.{part, back, part-room, written-none, written-more, written-length}
+use Rattle.slices.specs.Written.{Written}
+use Rattle.complement.specs.Entering.{OthersAt, TermAt, TermListed, PlacesAt, PlacesListed}
+use Rattle.slices.proofs.Writing.{part, back, part-room, written-none, written-more, written-length}
 
 -- A term that is no open place is a name or a word.
 data Shape (t : Term) : Type 0 where

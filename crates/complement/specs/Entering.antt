@@ -1,7 +1,6 @@
 -- Entering: what the functions that list promise each other; no public contract cites it.
 --
 --   Byte b n                   n is the byte b
---   Written bytes before n after   n bytes are written into the lent slice, and those behind them are as before
 --   OthersAt, ListsOthers      where write_others begins, the other words of f's result kind being chained from their lowest
 --                              on, and what it does: the entries of these words are written
 --   TablesOf W results chains  the tables have the result kinds of W's words, and their chains
@@ -14,7 +13,7 @@ use mathlib.Core.Path.{_≡_}
 use mathlib.Core.Bool.{false}
 use mathlib.Core.List.{List, [], _∷_, _++_}
 use Prim.Native.Nat.{ℕ, suc, _+_, _<_, _≤_}
-use lib.ListN.{length, take, drop}
+use lib.ListN.{length, take}
 use Rattle.terms.specs.Term.{Term, Terms, Sorted}
 use Rattle.wire.specs.Map.{mapBytes, writeMap, flags, isOpen}
 use Rattle.wire.specs.Vocabulary.{Vocabulary, InOrder, signature, mostWords}
@@ -23,14 +22,11 @@ use Rattle.wire.specs.EntryBytes.{othersBytes, spots, spotsBytes}
 use Rattle.wire.specs.EntryMaps.{Stands, bitSpots}
 use Rattle.kinds.specs.Kinds.{kindIn, othersIn, lowest, Chained}
 use Rattle.signature.specs.Tables.{Tabled}
+use Rattle.slices.specs.Written.{Written}
 
 pub record Byte (b n : ℕ) : Type 0 where
   pub same : n ≡ b
   pub small : n < 256
-
-pub record Written (bytes before : List ℕ) (n : ℕ) (after : List ℕ) : Type 0 where
-  pub count : n ≡ length bytes
-  pub same : after ≡ bytes ++ drop (length bytes) before
 
 pub record OthersAt (copy : List ℕ) (at f first : ℕ) (chains : List ℕ) (room : ℕ) : Type 0 where
   pub words : ℕ

@@ -3,6 +3,7 @@
 --   length-cut                                so many entries are cut off as are asked for
 --   due-none, due-name, due-last, due-word    the count, a byte or a word a turn
 --   due-within, entry-within                  it never goes past the end
+--   written ts, map-ones                      how many terms are written, by the written map
 --   due-at, due-all, due-root, entry-size     it ends where what is written does
 --   cut-entries                               whole patterns one behind the other are cut into these patterns
 --
@@ -65,7 +66,7 @@ entry-within (s ∷ l) = let h = due-within zero l 1 in omega arith
 -- ---- the count over what is written
 
 -- How many of the terms ts are written.
-abbrev written : Terms → ℕ
+abbrev pub written : Terms → ℕ
 written nil = 0
 written (cons t ts) = bit (not (isOpen t)) + written ts
 
@@ -85,7 +86,8 @@ module _ (W : Vocabulary) (inOrder : InOrder W) where
   known : (f : ℕ) (ts : Terms) (s : ℕ) → Sorted (signature W) (app f ts) s → f < length (W .words)
   known f ts s h = rw (length-symbols W) at (h .0)
 
-  map-ones : (f : ℕ) (ts : Terms) (s : ℕ) → Sorted (signature W) (app f ts) s → ones (flags (writtenMap W f ts)) ≡ written ts
+  -- A written map has a bit for each of them.
+  pub map-ones : (f : ℕ) (ts : Terms) (s : ℕ) → Sorted (signature W) (app f ts) s → ones (flags (writtenMap W f ts)) ≡ written ts
   map-ones f ts s h =
       ap ones (flags-written (mapOf W f) ts)
       ∙ ones-written W (flags (mapOf W f)) ts (word W f .kinds) (word-in-order W f inOrder (known f ts s h) .count)

@@ -20,10 +20,11 @@ use lib.ListN.{length, getD, take}
 use Rattle.wire.specs.EntryBytes.{othersBytes}
 use Rattle.kinds.specs.Kinds.{othersIn}
 use Rattle.maps.proofs.Reading.{map-at}
-use Rattle.complement.specs.Entering.{Written, OthersAt, TermAt, TermListed, PlacesAt, PlacesListed}
+use Rattle.slices.specs.Written.{Written}
+use Rattle.complement.specs.Entering.{OthersAt, TermAt, TermListed, PlacesAt, PlacesListed}
 use Rattle.complement.proofs.Places.{Reached, reached-none, map-inside, out-length, done-inside, reached-all, is-bit, reached-clear, place-term, reached-term, both-inside}
 use Rattle.complement.proofs.Terms.{Word, term-inside, term-word, name-listed, own-others-at, own-inside, word-places, word-listed}
-use Rattle.complement.proofs.Writing.{part, back, written-length}
+use Rattle.slices.proofs.Writing.{part, back, written-length}
 use Rattle.complement.proofs.list_places.Reads as list-places
 use Rattle.complement.proofs.list_places.Kinds as list-places-kinds
 use Rattle.complement.proofs.+list_places+list_term.Lts-list_places as list-places-lts

@@ -1,0 +1,11 @@
+-- The laws behind the proofs of measuring and writing the result of fill.
+--
+-- On a pattern's bytes, passed node by node.
+pub mod Nodes
+pub mod Filled
+pub mod Levels
+-- On the values in a filling file.
+pub mod Starts
+-- The loops.
+pub mod Begun
+pub mod Measuring

@@ -1,0 +1,38 @@
+-- Ready: what measuring and writing the result of fill rest on, and what they give; no public contract cites it.
+--
+--   Ready p b starts depths      the pattern p and the filling file b are accepted, and the tables tell of the file's values
+--   Measurable p starts depths   the same, of some filling file
+--   measured a                   the length of the result with its kind byte; 0 where the result passes a limit
+--   Writable p b starts room     the same as Ready, with some depths, and the result has so much room
+--   WritesResult                 the result stands at the front of the lent slice, and what is behind it stays
+--
+use mathlib.Core.Path.{_≡_}
+use mathlib.Core.Bool.{cond}
+use mathlib.Core.List.{List, _++_}
+use Prim.Native.Nat.{ℕ, _≤_}
+use lib.ListN.{length, drop}
+use Rattle.wire.specs.Filled.{FillInputs, HoldsFillInputs, filledBytes}
+use Rattle.wire.specs.FillComputed.{ValuesIn, large}
+
+pub record Ready (p b starts depths : List ℕ) : Type 0 where
+  pub vocabulary : List ℕ
+  pub inputs : FillInputs
+  pub held : HoldsFillInputs vocabulary p b inputs
+  pub values : ValuesIn inputs starts depths
+
+pub record Measurable (p starts depths : List ℕ) : Type 0 where
+  pub filling : List ℕ
+  pub ready : Ready p filling starts depths
+
+abbrev pub measured : {p starts depths : List ℕ} → Measurable p starts depths → ℕ
+measured a = cond (large (a .ready .inputs)) 0 (length (filledBytes (a .ready .inputs)))
+
+pub record Writable (p b starts : List ℕ) (room : ℕ) : Type 0 where
+  pub depths : List ℕ
+  pub ready : Ready p b starts depths
+  pub fits : length (filledBytes (ready .inputs)) ≤ room
+
+abbrev pub WritesResult : List ℕ → List ℕ → List ℕ → List ℕ → List ℕ → Type 0
+WritesResult p b starts before after =
+    (a : Writable p b starts (length before)) →
+    after ≡ filledBytes (a .ready .inputs) ++ drop (length (filledBytes (a .ready .inputs))) before
