@@ -1,49 +1,28 @@
 -- Filled: a pattern's nodes written, with its names' values in their places, are the bytes of the result.
 --
 --   nodeBytes g x        the bytes of the node x, where g gives those of a name's value
---   written-replaced     a word's written map stays as it is
 --   filled-root          the nodes of a term, so written, are the bytes of the term with its names replaced
 --
 use mathlib.Core.Path.{_≡_, refl, sym, ap, ap₂, _∙_}
-use mathlib.Core.Bool.{Bool, true, false, not}
 use mathlib.Core.List.{List, [], _∷_, _++_, append-assoc, append-nil}
 use Prim.Native.Nat.{ℕ}
 use Rattle.terms.specs.Lists.{All}
-use Rattle.terms.specs.Term.{Term, any, var, app, Terms, nil, cons, Ground, gapp, names, namesAll, asTerm}
+use Rattle.terms.specs.Term.{Term, any, var, app, Terms, nil, cons, names, namesAll, asTerm}
 use Rattle.terms.specs.Filling.{Binding, valueOf}
 use Rattle.terms.specs.Replacing.{replace, replaceAll}
 use Rattle.terms.proofs.All.{all-left, all-right}
-use Rattle.wire.specs.Map.{writeMap, flags, number, isOpen, writtenFlags}
+use Rattle.wire.specs.Map.{writeMap}
 use Rattle.wire.specs.Row.{writeRow}
-use Rattle.wire.specs.Vocabulary.{Vocabulary, mapOf}
-use Rattle.wire.specs.TermBytes.{writtenMap, encodeAt, encodeAll, encodeRoot}
+use Rattle.wire.specs.Vocabulary.{Vocabulary}
+use Rattle.wire.specs.TermBytes.{encodeAt, encodeAll, encodeRoot}
 use Rattle.wire.proofs.GroundBytes.{root-ground}
+use Rattle.wire.proofs.FilledTerms.{filled-map}
 use Rattle.filler.proofs.Nodes.{Node, wordNode, nameNode, byteNode, nodesOf, nodesAll, nodesRoot}
 
 abbrev pub nodeBytes : (ℕ → List ℕ) → Node → List ℕ
 nodeBytes g (wordNode f m) = f ∷ writeMap m
 nodeBytes g (nameNode n) = g n
 nodeBytes g (byteNode b) = b ∷ []
-
--- ---- written maps
-
-ground-written : (g : Ground) → isOpen (asTerm g) ≡ false
-ground-written (gapp f gs) = refl
-
-open-replaced : (bs : List Binding) (t : Term) → isOpen (replace bs t) ≡ isOpen t
-open-replaced bs any = refl
-open-replaced bs (var n) = ground-written (valueOf bs n)
-open-replaced bs (app f ts) = refl
-
-flags-replaced : (bs : List Binding) (ps : List Bool) (ts : Terms) → writtenFlags ps (replaceAll bs ts) ≡ writtenFlags ps ts
-flags-replaced bs [] ts = refl
-flags-replaced bs (false ∷ ps) ts = ap {B = List Bool} (λ l. false ∷ l) (flags-replaced bs ps ts)
-flags-replaced bs (true ∷ ps) nil = refl
-flags-replaced bs (true ∷ ps) (cons t ts) =
-    ap₂ {C = List Bool} _∷_ (ap not (open-replaced bs t)) (flags-replaced bs ps ts)
-
-pub written-replaced : (W : Vocabulary) (bs : List Binding) (f : ℕ) (ts : Terms) → writtenMap W f (replaceAll bs ts) ≡ writtenMap W f ts
-written-replaced W bs f ts = ap number (flags-replaced bs (flags (mapOf W f)) ts)
 
 -- ---- the nodes of a term
 
@@ -58,7 +37,7 @@ module _ (W : Vocabulary) (bs : List Binding) (g : ℕ → List ℕ) where
     filled-at any a ns = refl
     filled-at (var n) a ns = ap (λ l. l ++ writeRow (nodeBytes g) ns) (a .0)
     filled-at (app f ts) a ns =
-        ap₂ {C = List ℕ} (λ m l. f ∷ (m ∷ l)) (sym (written-replaced W bs f ts)) (filled-all ts a ns)
+        ap₂ {C = List ℕ} (λ m l. f ∷ (m ∷ l)) (sym (filled-map W bs f ts)) (filled-all ts a ns)
 
     filled-all : (ts : Terms) → All Given (namesAll ts) → (ns : List Node) →
         writeRow (nodeBytes g) (nodesAll W ts ++ ns) ≡ encodeAll W (replaceAll bs ts) ++ writeRow (nodeBytes g) ns
