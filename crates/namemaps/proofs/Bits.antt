@@ -1,22 +1,21 @@
 -- Bits: the bits of a byte, and the byte that names in a table make.
 use mathlib.Core.Path.{_≡_, refl, sym, ap, ap₂, _∙_}
-use mathlib.Core.Bool.{Bool, true, false, not}
+use mathlib.Core.Bool.{Bool, true, false}
 use mathlib.Core.List.{List, [], _∷_, map}
 use Prim.Native.Nat.{ℕ, suc, _+_, _*_, _<_, _≤_}
 use native.Mathlib.Omega.{arith}
-use lib.Dec.{eqb}
 use lib.ListN.{length, getD, List·getD-eq-default}
-use borrow.Author.Tests.{eq-eqb, ne-eqb}
+use borrow.Author.Tests.{lt-ltb, le-ltb}
 use Rattle.terms.specs.Lists.{range}
 use Rattle.wire.specs.Map.{bit, number}
 use Rattle.wire.specs.VocabularyLines.{byteAt}
 use Rattle.namemaps.specs.Difference.{entryStands}
 
-pub stands-none : (e : ℕ) → e ≡ 256 → 0 ≡ bit (entryStands e)
-stands-none e h = sym (ap (λ b. bit (not b)) (eq-eqb e 256 h))
+pub stands-some : (e : ℕ) → e < 256 → 1 ≡ bit (entryStands e)
+stands-some e h = sym (ap bit (lt-ltb e 256 h))
 
-pub stands-some : (e : ℕ) → (e ≡ 256 → ⊥) → 1 ≡ bit (entryStands e)
-stands-some e h = sym (ap (λ b. bit (not b)) (ne-eqb e 256 h))
+pub stands-none : (e : ℕ) → 256 ≤ e → 0 ≡ bit (entryStands e)
+stands-none e h = sym (ap bit (le-ltb e 256 h))
 
 pub byte-missing : (l : List ℕ) (i : ℕ) → length l ≤ i → 0 ≡ byteAt l i
 byte-missing l i h = sym (List·getD-eq-default l 0 h)

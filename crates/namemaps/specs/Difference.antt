@@ -3,7 +3,7 @@
 -- This file is an algorithm, and nothing in it has to be believed: TableDifference, and FillingRefusals of wire, fix what it
 -- gives.
 --
---   entryStands e          the entry e is that of a name that stands in the pattern: it is not 256
+--   entryStands e          the entry e is that of a name that stands in the pattern: a kind, which is a byte
 --   standsIn names n       the table has such an entry for the name n
 --   bitIn m n              bit n of the byte m stands
 --   LowestApart a b n      n is the lowest bit at which the bytes a and b differ
@@ -12,11 +12,11 @@
 --   TableDifference        of a table that has the names of a pattern, it is the lowest of the unlike names
 --
 use mathlib.Core.Path.{_≡_}
-use mathlib.Core.Bool.{Bool, false, not}
+use mathlib.Core.Bool.{Bool, false}
 use mathlib.Core.List.{List}
 use mathlib.Core.Option.{Option, some, none}
 use Prim.Native.Nat.{ℕ, _<_}
-use lib.Dec.{eqb}
+use lib.Dec.{ltb}
 use lib.ListN.{getD}
 use Rattle.terms.specs.Lists.{occurs, range, keep}
 use Rattle.terms.specs.Term.{Term, names}
@@ -27,7 +27,7 @@ use Rattle.wire.specs.FillingLines.{nameStands}
 use Rattle.wire.specs.FillComputed.{apart, unlike}
 
 abbrev pub entryStands : ℕ → Bool
-entryStands e = not (eqb e 256)
+entryStands e = ltb e 256
 
 abbrev pub standsIn : List ℕ → ℕ → Bool
 standsIn table n = entryStands (getD table n 0)

@@ -7,11 +7,11 @@ ghost use Rattle.wire.specs.Map.{bit, number};
 ghost use Rattle.wire.specs.VocabularyLines.{byteAt};
 ghost use Rattle.namemaps.specs.Difference.{entryStands, standsIn, LowestApart, difference};
 
-// 1 for a name that stands in the pattern. One that does not has the entry 256.
+// 1 for a name that stands in the pattern: its entry is a kind, which is a byte.
 fn stands(entry: u16) -> u8
     ensures { λ r. ⌜ (r ≡ bit (entryStands entry)) × (r < 2) ⌝ }
 {
-    if entry == 256 { 0 } else { 1 }
+    if entry < 256 { 1 } else { 0 }
 }
 
 // Half a byte of the map: the four names from the given one on.
