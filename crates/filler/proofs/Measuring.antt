@@ -108,10 +108,10 @@ module _ {p starts depths : List ℕ} (a : Measurable p starts depths) where
     long = omega (arith, ap length (bytes-all (a .ready)));
   }
 
-  too-long : 4096 < length (filledBytes x) → 0 ≡ measured a
+  too-long : 4096 < length (filledBytes x) → 4097 ≡ measured a
   too-long h = sym (cond-true (large x) _ _ (or-left _ _ (lt-ltb 4096 (length (filledBytes x)) h)))
 
-  too-deep : 32 < deepest (filledTerm x) → 0 ≡ measured a
+  too-deep : 32 < deepest (filledTerm x) → 4097 ≡ measured a
   too-deep h = sym (cond-true (large x) _ _ (or-right (ltb 4096 (length (filledBytes x))) _ (lt-ltb 32 (deepest (filledTerm x)) h)))
 
   fitting : length (filledBytes x) ≤ 4096 → deepest (filledTerm x) ≤ 32 → length (filledBytes x) ≡ measured a
@@ -127,7 +127,7 @@ module _ {p starts depths : List ℕ} (a : Measurable p starts depths) where
       length-all : n ≡ length (filledBytes x)
       length-all = let e = ap (λ l. length (writeRow (nodeBytes g) (nodesIn 0 l))) nothing in omega (arith, m .long)
 
-      pub measuring-long : 4096 < n → 0 ≡ measured a
+      pub measuring-long : 4096 < n → 4097 ≡ measured a
       measuring-long h = too-long (omega (arith, length-all))
 
       pub measuring-all : n ≤ 4096 → n ≡ measured a
@@ -229,10 +229,10 @@ module _ {p starts depths : List ℕ} (a : Measurable p starts depths) where
         length-name : length (g (c - 128)) ≡ size
         length-name = cut-size (a .ready) (c - 128) (omega arith)
 
-        pub measuring-large : 4096 < size → 0 ≡ measured a
+        pub measuring-large : 4096 < size → 4097 ≡ measured a
         measuring-large h = too-long (omega (arith, m .long, length-node some _ (i + 1) name, length-name))
 
-        pub measuring-deep : 32 < depth + getD depths (c - 128) 0 → 0 ≡ measured a
+        pub measuring-deep : 32 < depth + getD depths (c - 128) 0 → 4097 ≡ measured a
         measuring-deep h = too-deep (omega (arith, m .deep, levels-node some _ (i + 1) name given))
 
         pub measuring-name : size ≤ 4096 → depth + getD depths (c - 128) 0 ≤ 32 → Measuring a due depth (left - 1) (n + size) (i + 1)

@@ -2,15 +2,16 @@
 --
 --   Ready p b starts depths      the pattern p and the filling file b are accepted, and the tables tell of the file's values
 --   Measurable p starts depths   the same, of some filling file
---   measured a                   the length of the result with its kind byte; 0 where the result passes a limit
+--   measured a                   the length of the result with its kind byte; 4,097 where the result passes a limit
 --   Writable p b starts room     the same as Ready, with some depths, and the result has so much room
 --   WritesResult                 the result stands at the front of the lent slice, and what is behind it stays
 --
 use mathlib.Core.Path.{_≡_}
 use mathlib.Core.Bool.{cond}
 use mathlib.Core.List.{List, _++_}
-use Prim.Native.Nat.{ℕ, _≤_}
+use Prim.Native.Nat.{ℕ, suc, _≤_}
 use lib.ListN.{length, drop}
+use Rattle.wire.specs.TermBytes.{mostBytes}
 use Rattle.wire.specs.Filled.{FillInputs, HoldsFillInputs, filledBytes}
 use Rattle.wire.specs.FillComputed.{ValuesIn, large}
 
@@ -25,7 +26,7 @@ pub record Measurable (p starts depths : List ℕ) : Type 0 where
   pub ready : Ready p filling starts depths
 
 abbrev pub measured : {p starts depths : List ℕ} → Measurable p starts depths → ℕ
-measured a = cond (large (a .ready .inputs)) 0 (length (filledBytes (a .ready .inputs)))
+measured a = cond (large (a .ready .inputs)) (suc mostBytes) (length (filledBytes (a .ready .inputs)))
 
 pub record Writable (p b starts : List ℕ) (room : ℕ) : Type 0 where
   pub depths : List ℕ

@@ -4,6 +4,9 @@ ghost use Prim.Native.Nat.{_<_};
 ghost use Rattle.wire.specs.Map.{flags, ones};
 ghost use Rattle.filler.specs.Ready.{Measurable, measured};
 
+// One more than the longest result has.
+pub(crate) const OVER: usize = 4097;
+
 fn wide(b: u8) -> usize
     ensures { λ r. ⌜ (r ≡ b) × (r < 256) ⌝ }
 {
@@ -17,7 +20,7 @@ fn count(map: u8) -> u8
     u8::count_ones(map) as u8
 }
 
-// The length of the result with its kind byte, 0 where it is longer than 4,096 bytes or deeper than 32 levels. The pattern is
+// The length of the result with its kind byte, or `OVER` where it is longer than 4,096 bytes or deeper than 32 levels. The pattern is
 // within these limits itself, so only names can pass them. Of each word above a node it is kept how many of its written
 // places are left.
 pub(crate) fn measure(p: &[u8], starts: &[usize; 65], depths: &[u8; 64]) -> usize
@@ -51,10 +54,10 @@ pub(crate) fn measure(p: &[u8], starts: &[usize; 65], depths: &[u8; 64]) -> usiz
                     let name = (c as usize) - 128;
                     let size = starts[name + 1] - starts[name];
                     if 4096 < size {
-                        return 0;
+                        return OVER;
                     }
                     if 32 < depth + wide(depths[name]) {
-                        return 0;
+                        return OVER;
                     }
                     n += size;
                 } else {
@@ -64,7 +67,7 @@ pub(crate) fn measure(p: &[u8], starts: &[usize; 65], depths: &[u8; 64]) -> usiz
         }
     }
     if 4096 < n {
-        return 0;
+        return OVER;
     }
     n
 }
