@@ -7,5 +7,6 @@ pub mod Levels
 -- On the values in a filling file.
 pub mod Starts
 -- The loops.
+pub mod Putting
 pub mod Begun
 pub mod Measuring

@@ -5,12 +5,15 @@
 --   measured a                   the length of the result with its kind byte; 4,097 where the result passes a limit
 --   Writable p b starts room     the same as Ready, with some depths, and the result has so much room
 --   WritesResult                 the result stands at the front of the lent slice, and what is behind it stays
+--   Puttable b from to out at    b has these bytes between two offsets, and out has room for them at an offset
+--   PutsValue                    the bytes of the filling file between two offsets stand at an offset of the lent slice, and the rest stays
 --
 use mathlib.Core.Path.{_≡_}
 use mathlib.Core.Bool.{cond}
 use mathlib.Core.List.{List, _++_}
-use Prim.Native.Nat.{ℕ, suc, _≤_}
-use lib.ListN.{length, drop}
+use Prim.Native.Nat.{ℕ, suc, _+_, _-_, _≤_}
+use lib.ListN.{length, take, drop}
+use Rattle.slices.specs.Written.{Written}
 use Rattle.wire.specs.TermBytes.{mostBytes}
 use Rattle.wire.specs.Filled.{FillInputs, HoldsFillInputs, filledBytes}
 use Rattle.wire.specs.FillComputed.{ValuesIn, large}
@@ -37,3 +40,11 @@ abbrev pub WritesResult : List ℕ → List ℕ → List ℕ → List ℕ → Li
 WritesResult p b starts before after =
     (a : Writable p b starts (length before)) →
     after ≡ filledBytes (a .ready .inputs) ++ drop (length (filledBytes (a .ready .inputs))) before
+
+pub record Puttable (b : List ℕ) (from to : ℕ) (out : List ℕ) (at : ℕ) : Type 0 where
+  pub up : from ≤ to
+  pub inside : to ≤ length b
+  pub room : at + (to - from) ≤ length out
+
+abbrev pub PutsValue : List ℕ → ℕ → ℕ → List ℕ → ℕ → List ℕ → Type 0
+PutsValue b from to before at after = Written (take at before ++ take (to - from) (drop from b)) before (at + (to - from)) after
