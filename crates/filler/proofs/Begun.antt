@@ -20,14 +20,13 @@ use Rattle.wire.specs.Row.{writeRow}
 use Rattle.wire.specs.Filled.{filledBytes}
 use Rattle.maps.specs.Reading.{mapAt}
 use Rattle.maps.specs.Writing.{mapPut}
-use Rattle.maps.proofs.Writing.{map-set}
-use Rattle.slices.specs.Copied.{copied}
 use Rattle.slices.specs.Written.{Written}
-use Rattle.slices.proofs.Writing.{part, back, written-byte, written-copied, written-length}
-use Rattle.filler.specs.Ready.{Ready, Writable, WritesResult}
+use Rattle.slices.proofs.Writing.{written-byte, written-length}
+use Rattle.filler.specs.Ready.{Ready, Writable, WritesResult, Puttable, PutsValue}
 use Rattle.filler.proofs.Nodes.{Node, nodesIn, pass-word, pass-name, pass-other, nodes-pattern}
 use Rattle.filler.proofs.Filled.{nodeBytes, filled-root}
-use Rattle.filler.proofs.Starts.{cutValue, cut-size, cut-values}
+use Rattle.filler.proofs.Putting.{written-word, written-put}
+use Rattle.filler.proofs.Starts.{cutValue, starts-up, starts-inside, cut-size, cut-values}
 
 abbrev pub bytesFrom : List ℕ → List ℕ → List ℕ → ℕ → List ℕ
 bytesFrom p b starts i = writeRow (nodeBytes (cutValue b starts)) (nodesIn 0 (drop i p))
@@ -115,21 +114,9 @@ module _ {p b starts before out : List ℕ} {n i : ℕ} (h : Begun p b starts be
           Begun p b starts before (n + (1 + mapBytes)) (i + (1 + mapBytes)) after
       begun-word {m} {after} e k =
           begun-more _ _ (pass-word p i inside low) refl
-          (subst (λ l. Written (h .done ++ (c ∷ writeMap (mapAt p (i + 1)))) before (n + (1 + mapBytes)) l) (sym put) twice)
-        where
-          once : Written (h .done ++ (c ∷ [])) before (n + 1) (set out n c)
-          once = written-byte (h .written) c (omega (arith, begun-room _ _ (pass-word p i inside low)))
-
-          twice : Written (h .done ++ (c ∷ (mapAt p (i + 1) ∷ []))) before (n + 2) (set (set out n c) (n + 1) (mapAt p (i + 1)))
-          twice =
-              subst (λ l. Written l before (n + 2) (set (set out n c) (n + 1) (mapAt p (i + 1)))) (append-assoc (h .done) (c ∷ []) (mapAt p (i + 1) ∷ []))
-              (subst (λ m. Written ((h .done ++ (c ∷ [])) ++ (mapAt p (i + 1) ∷ [])) before m (set (set out n c) (n + 1) (mapAt p (i + 1))))
-              (let q : n + 1 + 1 ≡ n + 2 = omega arith in q)
-              (written-byte once (mapAt p (i + 1))
-              (omega (arith, begun-room _ _ (pass-word p i inside low), length-append (h .done) (c ∷ [])))))
-
-          put : after ≡ set (set out n c) (n + 1) (mapAt p (i + 1))
-          put = k ∙ sym (map-set (set out n c) (n + 1) m) ∙ ap (set (set out n c) (n + 1)) e
+          (subst (λ l. Written (h .done ++ (c ∷ writeMap (mapAt p (i + 1)))) before (n + (1 + mapBytes)) l)
+          (sym (k ∙ ap (λ m. mapPut m (set out n c) (n + 1)) e))
+          (written-word (h .written) c (mapAt p (i + 1)) (begun-room _ _ (pass-word p i inside low))))
 
     module _ {depths : List ℕ} (a : Ready p b starts depths) (low : 128 ≤ c) (high : c < 192) where
       abbrev from : ℕ
@@ -141,14 +128,15 @@ module _ {p b starts before out : List ℕ} {n i : ℕ} (h : Begun p b starts be
       size : length (g (c - 128)) ≡ to - from
       size = cut-size a (c - 128) (omega arith)
 
-      pub name-room : n + (to - from) ≤ length out
-      name-room = omega (arith, begun-length, h .written .count, size, begun-room _ _ (pass-name p i inside low high))
+      pub name-room : Puttable b from to out n
+      name-room = record {
+        up = starts-up a (c - 128) (omega arith);
+        inside = starts-inside a (c - 128 + 1) (omega arith);
+        room = omega (arith, begun-length, h .written .count, size, begun-room _ _ (pass-name p i inside low high));
+      }
 
-      pub begun-name : {ys : List ℕ} → ys ≡ copied (g (c - 128)) (part n out) → Begun p b starts before (n + (to - from)) (i + 1) (back n out ys)
-      begun-name {ys} e =
-          begun-more _ _ (pass-name p i inside low high) refl
-          (subst (λ m. Written (h .done ++ g (c - 128)) before (n + m) (back n out ys)) size
-          (written-copied (h .written) short (g (c - 128)) (begun-room _ _ (pass-name p i inside low high)) e))
+      pub begun-name : {after : List ℕ} → PutsValue b from to out n after → Begun p b starts before (n + (to - from)) (i + 1) after
+      begun-name w = begun-more _ _ (pass-name p i inside low high) refl (written-put (h .written) (g (c - 128)) w)
 
     module _ (high : 192 ≤ c) where
       pub byte-room : n < length out

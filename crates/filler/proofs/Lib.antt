@@ -6,6 +6,9 @@ pub mod Filled
 pub mod Levels
 -- On the values in a filling file.
 pub mod Starts
+pub mod Reach
 -- The loops.
+pub mod Putting
 pub mod Begun
+pub mod Counting
 pub mod Measuring

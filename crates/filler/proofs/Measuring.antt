@@ -1,4 +1,4 @@
--- Measuring: the loop that measures the result: how long and how deep what the pattern's nodes from an offset on give is.
+-- Measuring: the loop that measures the result and its levels: how deep what the pattern's nodes from an offset on give is.
 --
 --   below due depth, dues due depth left   the places that are due, by how many are left of each word above: each with the
 --                                          number of levels above it
@@ -12,27 +12,22 @@
 use mathlib.Core.Path.{_≡_, refl, sym, ap, ap₂, _∙_}
 use mathlib.Core.Bool.{Bool, true, false}
 use mathlib.Core.List.{List, [], _∷_, _++_}
-use Prim.Native.Nat.{ℕ, zero, suc, _+_, _-_, _*_, _<_, _≤_, max}
+use Prim.Native.Nat.{ℕ, zero, suc, _+_, _-_, _<_, _≤_, max}
 use native.Mathlib.Numerals.{add-one}
 use native.Mathlib.Omega.{arith}
 use lib.Dec.{ltb}
-use lib.ListN.{length, getD, drop, set, replicate, length-append, length-set, drop-of-length-le}
+use lib.ListN.{length, getD, drop, set, replicate, length-set, drop-of-length-le}
 use lib.Seq.{getD-set-same, getD-set-other}
-use borrow.Author.Tests.{lt-ltb, le-ltb, ltb-true, ltb-false}
-use Rattle.terms.proofs.Bools.{or-left, or-right, or-neither}
+use borrow.Author.Tests.{ltb-true, ltb-false}
 use Rattle.wire.specs.Map.{mapBytes, flags, ones}
 use Rattle.wire.specs.TermBytes.{deepest}
-use Rattle.wire.specs.Row.{writeRow}
-use Rattle.wire.specs.Filled.{FillInputs, filledTerm, filledBytes}
-use Rattle.wire.specs.FillComputed.{large}
-use Rattle.wire.proofs.Cond.{cond-true, cond-false}
+use Rattle.wire.specs.Filled.{FillInputs, filledTerm}
 use Rattle.maps.specs.Reading.{mapAt}
 use Rattle.filler.specs.Ready.{Measurable, measured}
 use Rattle.filler.proofs.Nodes.{Node, wordNode, nameNode, byteNode, nodesIn, pass-word, pass-name, pass-other, nodes-pattern}
-use Rattle.filler.proofs.Filled.{nodeBytes}
 use Rattle.filler.proofs.Levels.{levelsIn, levelsBy, levels-own, levels-replaced, levels-root}
-use Rattle.filler.proofs.Starts.{cutValue, cut-size, depth-values}
-use Rattle.filler.proofs.Begun.{bytesFrom, bytes-all}
+use Rattle.filler.proofs.Starts.{depth-values}
+use Rattle.filler.proofs.Counting.{Counted, counted-none, counted-word, counted-large, counted-name, counted-byte, counted-over, counted-whole, too-long, too-deep}
 
 -- ---- the places that are due
 
@@ -65,30 +60,23 @@ dues-push due depth left many h =
 
 -- ---- the loop
 
-pub record Measuring {p starts depths : List ℕ} (a : Measurable p starts depths) (due : List ℕ) (depth left n i : ℕ) : Type 0 where
+pub record Measuring {p starts depths : List ℕ} {reach : ℕ} (a : Measurable p starts depths reach) (due : List ℕ) (depth left n i : ℕ) : Type 0 where
   pub room : length due ≡ 32
   pub low : depth ≤ 32
-  pub few : n ≤ 4096 * i
   -- The pattern's own levels.
   pub shallow : levelsIn (λ m. 1) (dues due depth left) (nodesIn 0 (drop i p)) ≤ 32
   pub deep : max 32 (deepest (filledTerm (a .ready .inputs))) ≡ max 32 (levelsIn (λ m. getD depths m 0) (dues due depth left) (nodesIn 0 (drop i p)))
-  pub long : n + length (bytesFrom p (a .filling) starts i) ≡ length (filledBytes (a .ready .inputs))
+  pub counted : Counted (a .ready) n i
 
-module _ {p starts depths : List ℕ} (a : Measurable p starts depths) where
+module _ {p starts depths : List ℕ} {reach : ℕ} (a : Measurable p starts depths reach) where
   abbrev x : FillInputs
   x = a .ready .inputs
-
-  abbrev g : ℕ → List ℕ
-  g = cutValue (a .filling) starts
 
   abbrev own : ℕ → ℕ
   own n = 1
 
   abbrev given : ℕ → ℕ
   given n = getD depths n 0
-
-  pub short : length p ≤ 4096
-  short = a .ready .held .pattern .limits .most
 
   reached : (h : ℕ → ℕ) → max 1 (levelsIn h (0 ∷ []) (nodesIn 0 (drop 1 p))) ≡ max 1 (levelsBy h (x .pattern))
   reached h =
@@ -102,38 +90,20 @@ module _ {p starts depths : List ℕ} (a : Measurable p starts depths) where
   measuring-none = record {
     room = refl;
     low = omega arith;
-    few = omega arith;
     shallow = let e = reached own in omega (arith, levels-own (x .pattern), a .ready .held .pattern .limits .levels);
     deep = let e = reached given in omega (arith, levels-replaced (x .values) given (x .pattern) (depth-values (a .ready)));
-    long = omega (arith, ap length (bytes-all (a .ready)));
+    counted = counted-none (a .ready);
   }
-
-  too-long : 4096 < length (filledBytes x) → 4097 ≡ measured a
-  too-long h = sym (cond-true (large x) _ _ (or-left _ _ (lt-ltb 4096 (length (filledBytes x)) h)))
-
-  too-deep : 32 < deepest (filledTerm x) → 4097 ≡ measured a
-  too-deep h = sym (cond-true (large x) _ _ (or-right (ltb 4096 (length (filledBytes x))) _ (lt-ltb 32 (deepest (filledTerm x)) h)))
-
-  fitting : length (filledBytes x) ≤ 4096 → deepest (filledTerm x) ≤ 32 → length (filledBytes x) ≡ measured a
-  fitting h k =
-      sym (cond-false (large x) _ _ (or-neither _ _ (le-ltb 4096 (length (filledBytes x)) h) (le-ltb 32 (deepest (filledTerm x)) k)))
 
   module _ {due : List ℕ} {depth left n i : ℕ} (m : Measuring a due depth left n i) where
     -- Behind the last byte.
-    module _ (k : length p ≤ i) where
-      nothing : drop i p ≡ []
-      nothing = drop-of-length-le p {i = i} k
+    pub measuring-long : length p ≤ i → 4096 < n → 4097 ≡ measured a
+    measuring-long k h = counted-over a (m .counted) k h
 
-      length-all : n ≡ length (filledBytes x)
-      length-all = let e = ap (λ l. length (writeRow (nodeBytes g) (nodesIn 0 l))) nothing in omega (arith, m .long)
-
-      pub measuring-long : 4096 < n → 4097 ≡ measured a
-      measuring-long h = too-long (omega (arith, length-all))
-
-      pub measuring-all : n ≤ 4096 → n ≡ measured a
-      measuring-all h =
-          let e = ap (λ l. levelsIn given (dues due depth left) (nodesIn 0 l)) nothing in
-          length-all ∙ fitting (omega (arith, length-all)) (omega (arith, m .deep))
+    pub measuring-all : length p ≤ i → n ≤ 4096 → n ≡ measured a
+    measuring-all k h =
+        let e = ap (λ l. levelsIn given (dues due depth left) (nodesIn 0 l)) (drop-of-length-le p {i = i} k) in
+        counted-whole a (m .counted) k h (omega (arith, m .deep))
 
     module _ (inside : i < length p) where
       abbrev c : ℕ
@@ -166,10 +136,9 @@ module _ {p starts depths : List ℕ} (a : Measurable p starts depths) where
           record {
             room = m .room;
             low = omega (arith, m .low);
-            few = m .few;
             shallow = rw same at (m .shallow);
             deep = m .deep ∙ ap (λ ds. max 32 (levelsIn given ds ns)) same;
-            long = m .long;
+            counted = m .counted;
           }
 
       -- A node y is passed, and no level of its own is too deep.
@@ -177,20 +146,16 @@ module _ {p starts depths : List ℕ} (a : Measurable p starts depths) where
         levels-node : (h : ℕ → ℕ) → levelsIn h (dues due depth left) ns ≡ levelsIn h (depth ∷ dues due depth (left - 1)) (y ∷ nodesIn 0 (drop i′ p))
         levels-node h = ap₂ (levelsIn h) (dues-first due depth left some) e
 
-        length-node : length (bytesFrom p (a .filling) starts i) ≡ length (nodeBytes g y) + length (bytesFrom p (a .filling) starts i′)
-        length-node = ap (λ r. length (writeRow (nodeBytes g) r)) e ∙ length-append (nodeBytes g y) (bytesFrom p (a .filling) starts i′)
-
         measuring-more : {due′ : List ℕ} {depth′ left′ n′ : ℕ} (k : (ℕ → ℕ) → ℕ) →
             ((h : ℕ → ℕ) → levelsIn h (depth ∷ dues due depth (left - 1)) (y ∷ nodesIn 0 (drop i′ p))
             ≡ max (k h) (levelsIn h (dues due′ depth′ left′) (nodesIn 0 (drop i′ p)))) →
-            k given ≤ 32 → length due′ ≡ 32 → depth′ ≤ 32 → n′ ≡ n + length (nodeBytes g y) → n′ ≤ 4096 * i′ → Measuring a due′ depth′ left′ n′ i′
-        measuring-more {due′} {depth′} {left′} {n′} k turned small room low count few = record {
+            k given ≤ 32 → length due′ ≡ 32 → depth′ ≤ 32 → Counted (a .ready) n′ i′ → Measuring a due′ depth′ left′ n′ i′
+        measuring-more {due′} {depth′} {left′} {n′} k turned small room low counted = record {
           room = room;
           low = low;
-          few = few;
           shallow = let t = turned own in omega (arith, m .shallow, levels-node own);
           deep = let t = turned given in omega (arith, m .deep, levels-node given);
-          long = omega (arith, m .long, length-node);
+          counted = counted;
         }
 
       module _ (some : 0 < left) (low : c < 128) where
@@ -207,7 +172,7 @@ module _ {p starts depths : List ℕ} (a : Measurable p starts depths) where
         measuring-leaf none =
             measuring-more some _ next word (λ h. suc depth)
             (λ h. ap (λ (f : ℕ). max (suc depth) (levelsIn h (replicate (ones (flags f)) (suc depth) ++ dues due depth (left - 1)) (nodesIn 0 (drop next p)))) none)
-            measuring-low (m .room) (m .low) (omega arith) (omega (arith, m .few))
+            measuring-low (m .room) (m .low) (counted-word (a .ready) (m .counted) inside low)
 
         pub measuring-word : {many : ℕ} → many ≡ ones (flags (mapAt p (i + 1))) →
             Measuring a (set due depth (left - 1)) (depth + 1) many (n + (1 + mapBytes)) next
@@ -217,7 +182,7 @@ module _ {p starts depths : List ℕ} (a : Measurable p starts depths) where
             ap (λ ds. max (suc depth) (levelsIn h ds (nodesIn 0 (drop next p))))
             (ap (λ (k : ℕ). replicate k (suc depth) ++ dues due depth (left - 1)) (sym e)
             ∙ dues-push due depth (left - 1) many (omega (arith, m .room, measuring-low))))
-            measuring-low (length-set due depth (left - 1) ∙ m .room) (omega (arith, measuring-low)) (omega arith) (omega (arith, m .few))
+            measuring-low (length-set due depth (left - 1) ∙ m .room) (omega (arith, measuring-low)) (counted-word (a .ready) (m .counted) inside low)
 
       module _ (some : 0 < left) (low : 128 ≤ c) (high : c < 192) where
         abbrev size : ℕ
@@ -226,19 +191,16 @@ module _ {p starts depths : List ℕ} (a : Measurable p starts depths) where
         name : ns ≡ nameNode (c - 128) ∷ nodesIn 0 (drop (i + 1) p)
         name = pass-name p i inside low high
 
-        length-name : length (g (c - 128)) ≡ size
-        length-name = cut-size (a .ready) (c - 128) (omega arith)
-
         pub measuring-large : 4096 < size → 4097 ≡ measured a
-        measuring-large h = too-long (omega (arith, m .long, length-node some _ (i + 1) name, length-name))
+        measuring-large h = too-long a (counted-large (a .ready) (m .counted) inside low high h)
 
         pub measuring-deep : 32 < depth + getD depths (c - 128) 0 → 4097 ≡ measured a
-        measuring-deep h = too-deep (omega (arith, m .deep, levels-node some _ (i + 1) name given))
+        measuring-deep h = too-deep a (omega (arith, m .deep, levels-node some _ (i + 1) name given))
 
         pub measuring-name : size ≤ 4096 → depth + getD depths (c - 128) 0 ≤ 32 → Measuring a due depth (left - 1) (n + size) (i + 1)
         measuring-name h k =
             measuring-more some _ (i + 1) name (λ h. depth + h (c - 128)) (λ h. refl) k (m .room) (m .low)
-            (omega (arith, length-name)) (omega (arith, m .few))
+            (counted-name (a .ready) (m .counted) inside low high h)
 
       module _ (some : 0 < left) (high : 192 ≤ c) where
         other : ns ≡ byteNode c ∷ nodesIn 0 (drop (i + 1) p)
@@ -247,4 +209,5 @@ module _ {p starts depths : List ℕ} (a : Measurable p starts depths) where
         pub measuring-byte : Measuring a due depth (left - 1) (n + 1) (i + 1)
         measuring-byte =
             measuring-more some _ (i + 1) other (λ h. suc depth) (λ h. refl)
-            (omega (arith, m .shallow, levels-node some _ (i + 1) other own)) (m .room) (m .low) (omega arith) (omega (arith, m .few))
+            (omega (arith, m .shallow, levels-node some _ (i + 1) other own)) (m .room) (m .low)
+            (counted-byte (a .ready) (m .counted) inside high)

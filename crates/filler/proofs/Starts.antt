@@ -4,6 +4,7 @@
 --   starts-up               a start is no further than the next
 --   starts-inside           no start is behind the end
 --   cut-size                so many bytes are cut out
+--   each                    what is so of each name with a value is so of the pattern's names
 --   cut-values              those of a name of the pattern are the bytes of its value
 --   depth-values            and its depth is that of its value
 --
@@ -150,7 +151,7 @@ module _ {p b starts depths : List ℕ} (a : Ready p b starts depths) where
       ∙ take-at (encodeAt (x .vocabulary) (asTerm (valueOf (x .values) n))) (drop (start (suc n)) b) (size (x .vocabulary) (valueOf (x .values) n)) refl
 
   -- Of each name of the pattern.
-  each : (P : ℕ → Type 0) → ((n : ℕ) → n < nameCount → stands n ≡ true → P n) → All P (names (x .pattern))
+  pub each : (P : ℕ → Type 0) → ((n : ℕ) → n < nameCount → stands n ≡ true → P n) → All P (names (x .pattern))
   each P f =
       all-implies (λ n. (n < nameCount) × (stands n ≡ true)) P (λ n h. f n (h .0) (h .1)) (names (x .pattern))
       (all-both (λ n. n < nameCount) (λ n. stands n ≡ true) (names (x .pattern)) (a .held .pattern .good .named)

@@ -1,18 +1,22 @@
 -- Ready: what measuring and writing the result of fill rest on, and what they give; no public contract cites it.
 --
---   Ready p b starts depths      the pattern p and the filling file b are accepted, and the tables tell of the file's values
---   Measurable p starts depths   the same, of some filling file
---   measured a                   the length of the result with its kind byte; 4,097 where the result passes a limit
---   Writable p b starts room     the same as Ready, with some depths, and the result has so much room
---   WritesResult                 the result stands at the front of the lent slice, and what is behind it stays
+--   Ready p b starts depths            the pattern p and the filling file b are accepted, and the tables tell of the file's values
+--   Measurable p starts depths reach   the same, of some filling file, and the result is no deeper than reach
+--   measured a                         the length of the result with its kind byte; 4,097 where the result passes a limit
+--   MostLevels depths r                no value has more levels than r, which is at least 1
+--   Writable p b starts room           the same as Ready, with some depths, and the result has so much room
+--   WritesResult                       the result stands at the front of the lent slice, and what is behind it stays
+--   Puttable b from to out at          b has bytes between these offsets, and out has room for them at the offset `at`
+--   PutsValue                          those bytes stand there, and all others are as before
 --
 use mathlib.Core.Path.{_≡_}
 use mathlib.Core.Bool.{cond}
 use mathlib.Core.List.{List, _++_}
-use Prim.Native.Nat.{ℕ, suc, _≤_}
-use lib.ListN.{length, drop}
-use Rattle.wire.specs.TermBytes.{mostBytes}
-use Rattle.wire.specs.Filled.{FillInputs, HoldsFillInputs, filledBytes}
+use Prim.Native.Nat.{ℕ, suc, _+_, _-_, _<_, _≤_}
+use lib.ListN.{length, getD, take, drop}
+use Rattle.slices.specs.Written.{Written}
+use Rattle.wire.specs.TermBytes.{nameCount, deepest, mostBytes}
+use Rattle.wire.specs.Filled.{FillInputs, HoldsFillInputs, filledTerm, filledBytes}
 use Rattle.wire.specs.FillComputed.{ValuesIn, large}
 
 pub record Ready (p b starts depths : List ℕ) : Type 0 where
@@ -21,12 +25,18 @@ pub record Ready (p b starts depths : List ℕ) : Type 0 where
   pub held : HoldsFillInputs vocabulary p b inputs
   pub values : ValuesIn inputs starts depths
 
-pub record Measurable (p starts depths : List ℕ) : Type 0 where
+pub record Measurable (p starts depths : List ℕ) (reach : ℕ) : Type 0 where
   pub filling : List ℕ
   pub ready : Ready p filling starts depths
+  pub within : deepest (filledTerm (ready .inputs)) ≤ reach
 
-abbrev pub measured : {p starts depths : List ℕ} → Measurable p starts depths → ℕ
+abbrev pub measured : {p starts depths : List ℕ} {reach : ℕ} → Measurable p starts depths reach → ℕ
 measured a = cond (large (a .ready .inputs)) (suc mostBytes) (length (filledBytes (a .ready .inputs)))
+
+pub record MostLevels (depths : List ℕ) (r : ℕ) : Type 0 where
+  pub some : 0 < r
+  pub low : r < 256
+  pub each : (n : ℕ) → n < nameCount → getD depths n 0 ≤ r
 
 pub record Writable (p b starts : List ℕ) (room : ℕ) : Type 0 where
   pub depths : List ℕ
@@ -37,3 +47,11 @@ abbrev pub WritesResult : List ℕ → List ℕ → List ℕ → List ℕ → Li
 WritesResult p b starts before after =
     (a : Writable p b starts (length before)) →
     after ≡ filledBytes (a .ready .inputs) ++ drop (length (filledBytes (a .ready .inputs))) before
+
+pub record Puttable (b : List ℕ) (from to : ℕ) (out : List ℕ) (at : ℕ) : Type 0 where
+  pub up : from ≤ to
+  pub inside : to ≤ length b
+  pub room : at + (to - from) ≤ length out
+
+abbrev pub PutsValue : List ℕ → ℕ → ℕ → List ℕ → ℕ → List ℕ → Type 0
+PutsValue b from to before at after = Written (take at before ++ take (to - from) (drop from b)) before (at + (to - from)) after

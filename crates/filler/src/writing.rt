@@ -1,7 +1,20 @@
 // The result of fill, written into a lent slice.
-ghost use mathlib.Core.Path.{_≡_};
 ghost use lib.ListN.{length};
-ghost use Rattle.filler.specs.Ready.{Writable, WritesResult};
+ghost use Rattle.filler.specs.Ready.{Writable, WritesResult, Puttable, PutsValue};
+
+// Puts the bytes of b from one offset up to another at an offset of the lent slice. A value is often a word alone: that is
+// put as a word's bytes are.
+fn put_value(b: &[u8], from: usize, to: usize, out: &mut [u8], at: usize)
+    requires { ⌜ Puttable (now b) from to (now out) at ⌝ }
+    ensures { λ _. ⌜ PutsValue (now (b .entry)) from to (now (out .entry)) at (now (out .exit)) ⌝ }
+{
+    if to - from == maps::NODE {
+        out[at] = b[from];
+        maps::write(maps::read(b, from + 1), out, at + 1);
+        return;
+    }
+    slices::copy(&b[from..to], &mut out[at..]);
+}
 
 // Writes the pattern with each name replaced to the front of the lent slice, in one pass over the pattern's bytes.
 pub(crate) fn write(p: &[u8], b: &[u8], starts: &[usize; 65], out: &mut [u8])
@@ -25,7 +38,7 @@ pub(crate) fn write(p: &[u8], b: &[u8], starts: &[usize; 65], out: &mut [u8])
                 let name = (c as usize) - 128;
                 let from = starts[name];
                 let to = starts[name + 1];
-                slices::copy(&b[from..to], &mut out[at..]);
+                put_value(b, from, to, out, at);
                 n += to - from;
             } else {
                 out[at] = c;

@@ -1,11 +1,10 @@
 -- `filler::writing::write` meets its contract. The loop's invariant: the nodes before the offset are written. The measure is the number of bytes left.
 use borrow.Author.Needs.{needs}
 use mathlib.Core.Path.{_∙_}
-use Prim.Native.Nat.{_+_, _-_}
+use Prim.Native.Nat.{_-_}
 use denote.Ref.{now}
 use native.Mathlib.Omega.{arith}
 use lib.ListN.{length, getD, length-set}
-use Rattle.filler.proofs.Starts.{starts-up, starts-inside}
 use Rattle.filler.proofs.Begun.{Begun, begun-kind, begun-length, word-room, begun-word, name-room, begun-name, byte-room, begun-byte, begun-all}
 use Rattle.filler.proofs.writing.write.Statement.{statement}
 use Rattle.filler.proofs.writing.write.Tie as tie
@@ -104,70 +103,32 @@ mul-to c = search needs
 element-copy-out-to : tie.Need-element-copy-out-to Inv-loop μ-loop
 element-copy-out-to c = search needs
 
-sub-copy : tie.Need-sub-copy Inv-loop μ-loop
-sub-copy c =
-    let at-if2 = c .before .before in
-    let at-if1 = at-if2 .before in
-    let at-loop = at-if1 .before .before .before in
-    let start = at-loop .before .before .before .before .before in
-    starts-up (start .pre .ready) (getD (now (start .args .p)) (at-loop .loop .i) 0 - 128) (omega (arith, at-if1 .if1 .left, at-if2 .if2 .taken))
-
-part-copy-start : tie.Need-part-copy-start Inv-loop μ-loop
-part-copy-start c =
-    let at-if2 = c .before .before in
-    let at-if1 = at-if2 .before in
-    let at-loop = at-if1 .before .before .before in
-    let start = at-loop .before .before .before .before .before in
-    starts-up (start .pre .ready) (getD (now (start .args .p)) (at-loop .loop .i) 0 - 128) (omega (arith, at-if1 .if1 .left, at-if2 .if2 .taken))
-
-part-copy-end : tie.Need-part-copy-end Inv-loop μ-loop
-part-copy-end c =
-    let at-if2 = c .before .before in
-    let at-if1 = at-if2 .before in
-    let at-loop = at-if1 .before .before .before in
-    let start = at-loop .before .before .before .before .before in
-    starts-inside (start .pre .ready) (getD (now (start .args .p)) (at-loop .loop .i) 0 - 128 + 1) (omega (arith, at-if1 .if1 .left, at-if2 .if2 .taken))
-
-sub-copy-2 : tie.Need-sub-copy-2 Inv-loop μ-loop
-sub-copy-2 c =
+put-value-requires : tie.Need-put-value-requires Inv-loop μ-loop
+put-value-requires c κs =
     let at-if2 = c .before .before .before in
     let at-if1 = at-if2 .before in
     let at-loop-test = at-if1 .before .before in
     let at-loop = at-loop-test .before in
     let start = at-loop .before .before .before .before .before in
-    omega (arith, name-room (at-loop .loop .inv) (at-loop-test .loop-test .taken) (start .pre .ready) (at-if1 .if1 .left) (at-if2 .if2 .taken))
-
-part-copy-start-2 : tie.Need-part-copy-start-2 Inv-loop μ-loop
-part-copy-start-2 c =
-    let at-if2 = c .before .before .before in
-    let at-if1 = at-if2 .before in
-    let at-loop-test = at-if1 .before .before in
-    let at-loop = at-loop-test .before in
-    let start = at-loop .before .before .before .before .before in
-    omega (arith, name-room (at-loop .loop .inv) (at-loop-test .loop-test .taken) (start .pre .ready) (at-if1 .if1 .left) (at-if2 .if2 .taken))
-
-part-copy-end-2 : tie.Need-part-copy-end-2 Inv-loop μ-loop
-part-copy-end-2 c = search needs
-
-copy-requires : tie.Need-copy-requires Inv-loop μ-loop
-copy-requires c κs = search needs
+    name-room (at-loop .loop .inv) (at-loop-test .loop-test .taken) (start .pre .ready) (at-if1 .if1 .left) (at-if2 .if2 .taken)
 
 sub-n : tie.Need-sub-n Inv-loop μ-loop
 sub-n c =
-    let at-if2 = c .before .before .before .before .before .before .before in
-    let at-if1 = at-if2 .before in
-    let at-loop = at-if1 .before .before .before in
-    let start = at-loop .before .before .before .before .before in
-    starts-up (start .pre .ready) (getD (now (start .args .p)) (at-loop .loop .i) 0 - 128) (omega (arith, at-if1 .if1 .left, at-if2 .if2 .taken))
-
-add-n-2 : tie.Need-add-n-2 Inv-loop μ-loop
-add-n-2 c =
-    let at-if2 = c .before .before .before .before .before .before .before in
+    let at-if2 = c .before .before .before .before .before .before in
     let at-if1 = at-if2 .before in
     let at-loop-test = at-if1 .before .before in
     let at-loop = at-loop-test .before in
     let start = at-loop .before .before .before .before .before in
-    let room = name-room (at-loop .loop .inv) (at-loop-test .loop-test .taken) (start .pre .ready) (at-if1 .if1 .left) (at-if2 .if2 .taken) in
+    name-room (at-loop .loop .inv) (at-loop-test .loop-test .taken) (start .pre .ready) (at-if1 .if1 .left) (at-if2 .if2 .taken) .up
+
+add-n-2 : tie.Need-add-n-2 Inv-loop μ-loop
+add-n-2 c =
+    let at-if2 = c .before .before .before .before .before .before in
+    let at-if1 = at-if2 .before in
+    let at-loop-test = at-if1 .before .before in
+    let at-loop = at-loop-test .before in
+    let start = at-loop .before .before .before .before .before in
+    let room = name-room (at-loop .loop .inv) (at-loop-test .loop-test .taken) (start .pre .ready) (at-if1 .if1 .left) (at-if2 .if2 .taken) .room in
     let size = begun-length (at-loop .loop .inv) ∙ length-set (now (start .args .out)) 0 (getD (now (start .args .p)) 0 0) in
     search needs
 
@@ -176,13 +137,13 @@ loop-less-2 c = search needs
 
 loop-again-2 : tie.Need-loop-again-2 Inv-loop μ-loop
 loop-again-2 c =
-    let at-copy = c .before .before in
-    let at-if2 = at-copy .before .before .before .before .before in
+    let at-put-value = c .before .before in
+    let at-if2 = at-put-value .before .before .before .before in
     let at-if1 = at-if2 .before in
     let at-loop-test = at-if1 .before .before in
     let at-loop = at-loop-test .before in
     let start = at-loop .before .before .before .before .before in
-    begun-name (at-loop .loop .inv) (at-loop-test .loop-test .taken) (start .pre .ready) (at-if1 .if1 .left) (at-if2 .if2 .taken) (at-copy .copy .ensures)
+    begun-name (at-loop .loop .inv) (at-loop-test .loop-test .taken) (start .pre .ready) (at-if1 .if1 .left) (at-if2 .if2 .taken) (at-put-value .put-value .ensures)
 
 slice-write-out-3 : tie.Need-slice-write-out-3 Inv-loop μ-loop
 slice-write-out-3 c =
@@ -247,13 +208,7 @@ write-spec =
     add-to
     mul-to
     element-copy-out-to
-    sub-copy
-    part-copy-start
-    part-copy-end
-    sub-copy-2
-    part-copy-start-2
-    part-copy-end-2
-    copy-requires
+    put-value-requires
     sub-n
     add-n-2
     loop-less-2
