@@ -2,16 +2,17 @@
 --
 --   gap-full, gap-new, gap-word    the first gap behind a node
 --   going-onto, going-up, going-leaf, going-word, going-down    a cursor that moves is one that a reading comes to
---   run-place       the first place of the cursor's frame is the node that is due
---   run-advanced, run-up    a frame with no run, and one with nothing left
+--   open-place, open-advanced, open-up, open-down    what is due from a cursor on: at the first place of its frame, where the
+--                   frame has no run or nothing left, and at the written places of a word
+--   run-place, run-advanced, run-up    reading on there
 --   run-bare, run-down      behind a word without written places, and with some
 --   run-name, run-clash, run-fault, run-deep    at a name, and where something is wrong
 --
-use mathlib.Core.Path.{_≡_, refl, sym, ap, ap₂, subst, _∙_}
+use mathlib.Core.Path.{_≡_, refl, sym, ap, ap₂, _∙_}
 use mathlib.Core.Bool.{Bool, true, false, cond}
 use mathlib.Core.List.{List, [], _∷_, _++_}
-use mathlib.Core.Option.{Option, some, none}
-use Prim.Native.Nat.{ℕ, zero, suc, _+_, _-_, _<_, _≤_, min, max}
+use mathlib.Core.Option.{some, none}
+use Prim.Native.Nat.{ℕ, zero, suc, _+_, _-_, _<_, _≤_, min}
 use native.Mathlib.Numerals.{add-one}
 use native.Mathlib.Omega.{arith}
 use lib.Dec.{ltb}
@@ -149,28 +150,49 @@ module _ {v t frames : List ℕ} {c : Cursor} (g : Going v t frames c) where
       bottom zero e = ap (λ d. getD (set frames d (c .due)) 0 0) e ∙ getD-set-same frames 0 (c .due) 0 (omega (arith, g .entries)) ∙ g .root e
       bottom (suc d) e = getD-set-other frames (c .depth) 0 (c .due) 0 (λ z. omega arith) ∙ g .rootSaved (omega arith)
 
+-- ---- what is due from a cursor on
+
+module _ (v frames : List ℕ) (c : Cursor) where
+  -- The first place of the run is the node that is due.
+  pub open-place : (y : ℕ) → Behind (c .due) y → 0 < runIn (c .due) →
+      openDue v frames c ≡ nodeDue false (getD v (kindsIn (c .due)) 0) c ∷ openDue v frames (atFrame y c)
+  open-place y b first = ap (λ ds. ds ++ savedDue v frames (c .depth)) (due-behind v (suc (c .depth)) (c .due) y b first)
+
+  pub open-advanced : (y : ℕ) → FrameIn v (c .due) → Advanced (c .due) y → runIn (c .due) ≡ 0 → openDue v frames (atFrame y c) ≡ openDue v frames c
+  open-advanced y fits a over =
+      ap (λ ds. ds ++ savedDue v frames (c .depth)) (sym (due-advanced v (suc (c .depth)) (c .due) fits y a over))
+
+  pub open-up : 0 < c .depth → runIn (c .due) ≡ 0 → writtenIn (c .due) ≡ 0 →
+      openDue v frames (wentUp (getD frames (c .depth - 1) 0) c) ≡ openDue v frames c
+  open-up low over bare =
+      let e : c .depth ≡ suc (c .depth - 1) = omega arith in
+      ap (λ ds. ds ++ savedDue v frames (suc (c .depth - 1))) (sym (due-done v (suc (c .depth)) (c .due) over bare))
+      ∙ ap (λ d. frameDue v (suc (c .depth)) (c .due) ++ savedDue v frames d) (sym e)
+
+  pub open-down : (z : ℕ) → c .depth < length frames →
+      openDue v (set frames (c .depth) (c .due)) (wentDown z c) ≡ frameDue v (suc (suc (c .depth))) z ++ openDue v frames c
+  open-down z room =
+      ap (λ d. frameDue v (suc d) z ++ savedDue v (set frames (c .depth) (c .due)) d) (add-one (c .depth))
+      ∙ ap (λ ds. frameDue v (suc (suc (c .depth))) z ++ ds) (saved-last v frames (c .depth) (c .due) room)
+
 -- ---- reading on
 
 module _ (W : Vocabulary) (v t frames : List ℕ) (seen : List Occurrence) (c : Cursor) where
-  -- The first place of the run is the node that is due.
+  -- The same reading, by what is due.
+  abbrev readingOn : List Due → Got Scanned
+  readingOn due = run W due seen (tallyAt (length t) c) (drop (c .at) t)
+
   pub run-place : (y : ℕ) → Behind (c .due) y → 0 < runIn (c .due) →
       restRun W v t frames seen c ≡ nodeRun W v t frames seen false (getD v (kindsIn (c .due)) 0) (atFrame y c)
-  run-place y b first =
-      ap (λ ds. run W (ds ++ savedDue v frames (c .depth)) seen (tallyAt (length t) c) (drop (c .at) t)) (due-behind v (suc (c .depth)) (c .due) y b first)
+  run-place y b first = ap readingOn (open-place v frames c y b first)
 
   pub run-advanced : (y : ℕ) → FrameIn v (c .due) → Advanced (c .due) y → runIn (c .due) ≡ 0 →
       restRun W v t frames seen (atFrame y c) ≡ restRun W v t frames seen c
-  run-advanced y fits a over =
-      ap (λ ds. run W (ds ++ savedDue v frames (c .depth)) seen (tallyAt (length t) c) (drop (c .at) t))
-      (sym (due-advanced v (suc (c .depth)) (c .due) fits y a over))
+  run-advanced y fits a over = ap readingOn (open-advanced v frames c y fits a over)
 
   pub run-up : 0 < c .depth → runIn (c .due) ≡ 0 → writtenIn (c .due) ≡ 0 →
       restRun W v t frames seen (wentUp (getD frames (c .depth - 1) 0) c) ≡ restRun W v t frames seen c
-  run-up low over bare =
-      let e : c .depth ≡ suc (c .depth - 1) = omega arith in
-      ap (λ ds. run W (ds ++ savedDue v frames (suc (c .depth - 1))) seen (tallyAt (length t) c) (drop (c .at) t))
-      (sym (due-done v (suc (c .depth)) (c .due) over bare))
-      ∙ ap (λ d. run W (frameDue v (suc (c .depth)) (c .due) ++ savedDue v frames d) seen (tallyAt (length t) c) (drop (c .at) t)) (sym e)
+  run-up low over bare = ap readingOn (open-up v frames c low over bare)
 
 module _ (W : Vocabulary) (v t frames : List ℕ) (seen : List Occurrence) (k : ℕ) {c : Cursor} (g : Going v t frames c) where
   abbrev rest : List ℕ
@@ -238,9 +260,7 @@ module _ (W : Vocabulary) (v t frames : List ℕ) (seen : List Occurrence) (k : 
         let next : Tally = tallyAt (length t) (pastWord full c) in
         let l : List ℕ = drop (c .at + (1 + mapBytes)) t in
         let level : c .depth + 2 ≡ suc (suc (c .depth)) = omega arith in
-        ap (λ d. run W (frameDue v (suc d) z ++ savedDue v (set frames (c .depth) (c .due)) d) seen (withLevel (c .depth + 2) next) l) (add-one (c .depth))
-        ∙ ap₂ (λ ds d. run W (frameDue v (suc (suc (c .depth))) z ++ ds) seen (withLevel d next) l)
-        (saved-last v frames (c .depth) (c .due) (omega (arith, g .entries))) level
+        ap₂ (λ ds d. run W ds seen (withLevel d next) l) (open-down v frames (pastWord full c) z (omega (arith, g .entries))) level
         ∙ frame-reaches W v (suc (suc (c .depth))) z fits first (openDue v frames c) seen next l
         ∙ ap (λ ds. run W (ds ++ openDue v frames c) seen next l) (dues (suc (suc (c .depth))))
         ∙ word-behind

@@ -6,10 +6,20 @@ pub mod Nodes
 pub mod Standing
 pub mod Levels
 pub mod Tables
+pub mod Full
 pub mod Cursors
+pub mod FullSteps
 pub mod Turns
 pub mod Steps
 pub mod Places
+-- The values of a filling file.
+pub mod Faults
+pub mod Values
+pub mod NameBits
+pub mod Listed
+pub mod Tabling
 -- A term that is handed to a call, and the vocabulary's check and the terms' together.
 pub mod Told
+pub mod NameTables
 pub mod Calls
+pub mod Files

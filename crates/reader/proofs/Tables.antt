@@ -6,13 +6,12 @@
 --   WordFramed, word-framed   the frame of a word at a written map
 --   full-slots                a word whose written map is its place map has every place written
 --
-use mathlib.Core.Path.{_≡_, refl, sym, ap, ap₂, subst, _∙_}
+use mathlib.Core.Path.{_≡_, refl, sym, ap, ap₂, _∙_}
 use mathlib.Core.Bool.{Bool, true, false}
 use mathlib.Core.List.{List, [], _∷_, _++_, append-nil}
-use Prim.Native.Nat.{ℕ, zero, suc, _+_, _*_, _<_, _≤_}
+use Prim.Native.Nat.{ℕ, suc, _+_, _*_, _<_, _≤_}
 use native.Mathlib.Decide.{ℕ-discrete}
 use native.Mathlib.Numerals.{add-one}
-use native.Mathlib.Nat.{add-zero}
 use native.Mathlib.Omega.{arith}
 use lib.Bits.{bitAnd}
 use lib.Count
@@ -29,7 +28,6 @@ use Rattle.wire.proofs.Theorems.{vocabularies-inverse}
 use Rattle.signature.specs.Tables.{Tables, vocabularyIn}
 use Rattle.reader.specs.Frames.{runIn, writtenIn, placesIn, WordFrame, FrameIn, placesDue, frameDue}
 use Rattle.reader.specs.Nodes.{TablesOf}
-use Rattle.reader.specs.Terms.{FullWord}
 use Rattle.reader.proofs.Frames.{no-ones, some-ones, framed, due-parts, due-bare}
 
 -- ---- kinds that stand in a vocabulary
@@ -85,16 +83,6 @@ part-made w p o other written map near =
       near = near;
       map = map;
     }
-
--- The word f, which is the first byte's number.
-pub full-word : {l : List ℕ} {kind n f : ℕ} {results maps : List ℕ} → 2 ≤ length l → f ≡ getD l 0 0 → f < n → getD results f 0 ≡ kind →
-    getD l 1 0 ≡ getD maps f 0 → FullWord l kind n results maps
-full-word {results = results} {maps = maps} long e known of full = record {
-  long = long;
-  known = omega arith;
-  kind = ap (λ f. getD results f 0) (sym e) ∙ of;
-  full = full ∙ ap (λ f. getD maps f 0) e;
-}
 
 -- ---- the tables
 

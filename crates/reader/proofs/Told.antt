@@ -3,7 +3,7 @@
 --   gapBack n o            a gap by the number of the n bytes from it on, as an offset; n where there is none
 --   toldScan t g           what the scan g of the term t behind its kind byte tells
 --   told-short, told-long, told-kind    what is told where the size or the kind is wrong
---   Begun                  size and kind are in order
+--   Begun, checked-root    size and kind are in order, and then reading the term decides
 --   told-fault, told-continues, told-read    what is told where reading the term ends so
 --   refusal-reply          the reply that a refusal gives
 --   told-refused, told-accepted    the reply of checking a term that tells this
@@ -111,10 +111,12 @@ module _ (W : Vocabulary) (t : List ℕ) where
   pub told-long : mostBytes < length t → refuse 7 0 ≡ told W t
   told-long h = size-told (or-right (ltb (length t) 2) (ltb mostBytes (length t)) (lt-ltb mostBytes (length t) h))
 
+  checked-sized : 2 ≤ length t → length t ≤ mostBytes → checkedTerm W t ≡ readWhole W mostLevels t
+  checked-sized long short =
+      cond-false (outside 2 mostBytes (length t)) (refuse 7 0) (readWhole W mostLevels t) (inside-outside 2 mostBytes (length t) long short)
+
   sized : 2 ≤ length t → length t ≤ mostBytes → toldBy W (length t) (readWhole W mostLevels t) ≡ told W t
-  sized long short =
-      ap (toldBy W (length t))
-      (sym (cond-false (outside 2 mostBytes (length t)) (refuse 7 0) (readWhole W mostLevels t) (inside-outside 2 mostBytes (length t) long short)))
+  sized long short = ap (toldBy W (length t)) (sym (checked-sized long short))
 
 kind-refused : (W : Vocabulary) (t : List ℕ) → 2 ≤ length t → W .kinds ≤ getD t 0 0 → refuse 8 0 ≡ toldBy W (length t) (readWhole W mostLevels t)
 kind-refused W [] long h = absurd (omega arith)
@@ -126,14 +128,17 @@ kind-refused W (s ∷ l) long h =
 abbrev pub rootRun : Vocabulary → List ℕ → Got Scanned
 rootRun W t = run W (rootDue (getD t 0 0) ∷ []) [] noTally (drop 1 t)
 
+known-whole : (W : Vocabulary) (s : ℕ) (l : List ℕ) → s < W .kinds →
+    readWhole W mostLevels (s ∷ l) ≡ line15 (s ∷ l) s (readTerm W mostLevels true s [] l)
+known-whole W s l h = cond-true (ltb s (W .kinds)) (line15 (s ∷ l) s (readTerm W mostLevels true s [] l)) (refuse 8 0) (lt-ltb s (W .kinds) h)
+
 kind-known : (W : Vocabulary) (t : List ℕ) → InOrder W → IsBytes t → 2 ≤ length t → getD t 0 0 < W .kinds →
     toldScan t (rootRun W t) ≡ toldBy W (length t) (readWhole W mostLevels t)
 kind-known W [] inOrder bytes long h = absurd (omega arith)
 kind-known W (s ∷ l) inOrder bytes long h =
     ap (toldScan (s ∷ l)) (scan-reads W s [] l)
     ∙ scan-told W s l (readTerm W mostLevels true s [] l) (term-reads W inOrder mostLevels true s [] l (bytes .1))
-    ∙ ap (toldBy W (length (s ∷ l)))
-    (sym (cond-true (ltb s (W .kinds)) (line15 (s ∷ l) s (readTerm W mostLevels true s [] l)) (refuse 8 0) (lt-ltb s (W .kinds) h)))
+    ∙ ap (toldBy W (length (s ∷ l))) (sym (known-whole W s l h))
 
 pub told-kind : (W : Vocabulary) (t : List ℕ) → 2 ≤ length t → length t ≤ mostBytes → W .kinds ≤ getD t 0 0 → refuse 8 0 ≡ told W t
 told-kind W t long short h = kind-refused W t long h ∙ sized W t long short
@@ -147,6 +152,9 @@ pub record Begun (W : Vocabulary) (t : List ℕ) : Type 0 where
   pub long : 2 ≤ length t
   pub short : length t ≤ mostBytes
   pub known : getD t 0 0 < W .kinds
+
+pub checked-root : (W : Vocabulary) (s : ℕ) (l : List ℕ) → Begun W (s ∷ l) → checkedTerm W (s ∷ l) ≡ line15 (s ∷ l) s (readTerm W mostLevels true s [] l)
+checked-root W s l x = checked-sized W (s ∷ l) (x .long) (x .short) ∙ known-whole W s l (x .known)
 
 module _ (v t names : List ℕ) (r : Answer) (x : Begun (vocabularyIn v) t) (reads : TermRead v t 1 (getD t 0 0) (replicate 64 256) names r) where
   told-run : toldScan t (rootRun (vocabularyIn v) t) ≡ told (vocabularyIn v) t
@@ -163,7 +171,7 @@ module _ (v t names : List ℕ) (r : Answer) (x : Begun (vocabularyIn v) t) (rea
       ∙ told-run
 
   module _ (c : Cursor) (e : r ≡ R.Read c) where
-    ends : Ends t names c (rootRun (vocabularyIn v) t)
+    pub ends : Ends t names c (rootRun (vocabularyIn v) t)
     ends = answer e
 
     abbrev scanned : Scanned

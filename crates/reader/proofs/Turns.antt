@@ -3,53 +3,48 @@
 --   Turned                    what holds at each turn: the reading from there on gives what it gave from the beginning on
 --   turned-none, turned-as    the beginning, and the same cursor named otherwise
 --   turned-up, turned-advanced, turned-bare, turned-down    the four turns
---   FullHere, full-here       a full word at an offset
---   WordTurn                  a turn at which it stands
+--   WordTurn                  a turn at which a full word stands
 --   turnsLeft and the less-   the measure
 --   the -asks                 what the calls in a turn ask for
 --
 use mathlib.Core.Path.{_≡_, refl, sym, ap, ap₂, subst, _∙_}
-use mathlib.Core.Bool.{Bool, true, false}
-use mathlib.Core.List.{List, [], _∷_, _++_}
-use mathlib.Core.Logic.{_≢_}
+use mathlib.Core.Bool.{true, false}
+use mathlib.Core.List.{List, _∷_}
+use mathlib.Core.Logic.{_≢_, _⊎_}
 use Prim.Native.Nat.{ℕ, zero, suc, _+_, _-_, _*_, _%_, _<_, _≤_}
-use native.Mathlib.Nat.{add-zero}
 use native.Mathlib.Numerals.{add-one}
 use native.Mathlib.Omega.{arith}
-use lib.Bits.{and-self}
-use lib.ListN.{length, getD, take, drop, set, length-drop}
-use lib.Seq.{getD-drop, getD-set-same, getD-set-other}
-use borrow.Author.Tests.{lt-ltb, eq-eqb}
+use lib.ListN.{length, getD, drop, set}
+use lib.Seq.{getD-set-same, getD-set-other}
 use Rattle.terms.specs.Term.{Occurrence}
-use Rattle.wire.specs.Map.{mapBytes, flags, within, Slot, slots}
-use Rattle.wire.specs.Vocabulary.{Vocabulary, word, mapOf}
-use Rattle.wire.specs.Parser.{wordHere, node}
-use Rattle.wire.specs.Scan.{everyWritten}
+use Rattle.wire.specs.Map.{mapBytes}
 use Rattle.signature.specs.Tables.{Tables, vocabularyIn}
 use Rattle.reader.specs.Frames.{runIn, kindsIn, writtenIn, placesIn, WordFrame, FrameIn}
-use Rattle.reader.specs.Cursors.{pastWord, wentDown, wentUp, atFrame, restRun, Going}
-use Rattle.reader.specs.Terms.{FullWord, Passed}
+use Rattle.reader.specs.Cursors.{pastWord, wentDown, wentUp, atFrame, openDue, restRun, Going}
+use Rattle.reader.specs.Full.{NotFull, Passes}
+use Rattle.reader.specs.Terms.{Passed, nodeDue, nodeRun}
 use Rattle.reader.specs.declared.cursor.Cursor.{Cursor}
-use Rattle.reader.proofs.Frames.{no-ones, some-ones, Behind, Advanced, low-within, due-bare, frame-behind, frame-advanced}
-use Rattle.reader.proofs.Tables.{WordFramed, known-word, word-framed, full-slots}
-use Rattle.reader.proofs.Standing.{rest-whole}
-use Rattle.reader.proofs.Cursors.{going-onto, going-up, going-word, going-down, run-place, run-advanced, run-up, run-bare, run-down}
+use Rattle.reader.proofs.Frames.{no-ones, some-ones, Behind, Advanced, low-within, frame-behind, frame-advanced}
+use Rattle.reader.proofs.Full.{passes-none, passes-as, FullHere}
+use Rattle.reader.proofs.FullSteps.{FullNode, bare-going, bare-same, bare-path, down-framed, down-going, down-same, down-path}
+use Rattle.reader.proofs.Cursors.{going-onto, going-up, open-place, open-advanced, open-up, run-place, run-advanced, run-up}
 
 pub record Turned (v t frames₀ : List ℕ) (c₀ : Cursor) (frames : List ℕ) (c : Cursor) : Type 0 where
   pub going : Going v t frames c
   pub same : (seen : List Occurrence) → restRun (vocabularyIn v) v t frames seen c ≡ restRun (vocabularyIn v) v t frames₀ seen c₀
   pub further : c₀ .at ≤ c .at
+  pub path : Passes (vocabularyIn v) (openDue v frames₀ c₀) (drop (c₀ .at) t) (openDue v frames c) (drop (c .at) t)
 
 pub turned-none : {v t frames : List ℕ} {c : Cursor} → Going v t frames c → Turned v t frames c frames c
-turned-none g = record { going = g; same = λ seen. refl; further = omega arith }
+turned-none g = record { going = g; same = λ seen. refl; further = omega arith; path = passes-none }
 
 pub turned-as : {v t frames₀ frames : List ℕ} {c₀ c d : Cursor} → d ≡ c → Turned v t frames₀ c₀ frames c → Turned v t frames₀ c₀ frames d
 turned-as {v} {t} {frames₀} {frames} {c₀} e x = subst (Turned v t frames₀ c₀ frames) (sym e) x
 
 -- Where the loop is left a place is due, or nothing at all.
 pub turned-ends : {v t frames₀ frames : List ℕ} {c₀ c : Cursor} → Turned v t frames₀ c₀ frames c → (0 < c .depth → 0 < runIn (c .due)) →
-    Passed v t frames₀ c₀ frames c
-turned-ends x due = record { going = x .going; same = x .same; further = x .further; due = due }
+    (0 < c .depth → (31 < c .depth) ⊎ NotFull (vocabularyIn v) (getD v (kindsIn (c .due)) 0) (drop (c .at) t)) → Passed v t frames₀ c₀ frames c
+turned-ends x due stuck = record { going = x .going; same = x .same; further = x .further; due = due; path = x .path; stuck = stuck }
 
 module _ {v t frames₀ frames : List ℕ} {c₀ c : Cursor} (x : Turned v t frames₀ c₀ frames c) (low : 0 < c .depth) where
   pub turned-up : runIn (c .due) ≡ 0 → writtenIn (c .due) ≡ 0 → Turned v t frames₀ c₀ frames (wentUp (getD frames (c .depth - 1) 0) c)
@@ -57,6 +52,7 @@ module _ {v t frames₀ frames : List ℕ} {c₀ c : Cursor} (x : Turned v t fra
     going = going-up (x .going) low;
     same = λ seen. run-up (vocabularyIn v) v t frames seen c low over bare ∙ x .same seen;
     further = x .further;
+    path = passes-as (open-up v frames c low over bare) refl (x .path);
   }
 
   pub turned-advanced : {y : ℕ} → Advanced (c .due) y → runIn (c .due) ≡ 0 → Turned v t frames₀ c₀ frames (atFrame y c)
@@ -64,51 +60,10 @@ module _ {v t frames₀ frames : List ℕ} {c₀ c : Cursor} (x : Turned v t fra
     going = going-onto (x .going) low (frame-advanced v (c .due) y (x .going .due) a over);
     same = λ seen. run-advanced (vocabularyIn v) v t frames seen c y (x .going .due) a over ∙ x .same seen;
     further = x .further;
+    path = passes-as (open-advanced v frames c y (x .going .due) a over) refl (x .path);
   }
 
 -- ---- a full word
-
-within-itself : (fs : List Bool) → within fs fs ≡ true
-within-itself [] = refl
-within-itself (true ∷ fs) = within-itself fs
-within-itself (false ∷ fs) = within-itself fs
-
--- The places of the word f, all of them written.
-abbrev pub fullSlots : Vocabulary → ℕ → List Slot
-fullSlots W f = slots (flags (mapOf W f)) (flags (mapOf W f)) (word W f .kinds)
-
-node-full : (W : Vocabulary) (k f : ℕ) (l : List ℕ) → 2 ≤ length l → getD l 0 0 ≡ f → getD l 1 0 ≡ mapOf W f →
-    f < length (W .words) → word W f .result ≡ k → node W false k [] l ≡ wordHere f (fullSlots W f) (drop 2 l)
-node-full W k f [] h first second known result = absurd (omega arith)
-node-full W k f (b ∷ []) h first second known result = absurd (omega arith)
-node-full W k f (b ∷ m ∷ l) h first second known result =
-    rw (first, second, lt-ltb f (length (W .words)) known, eq-eqb (word W f .result) k result, within-itself (flags (mapOf W f)))
-
--- The word f stands at an offset, full.
-pub record FullHere (v t : List ℕ) (n at k f : ℕ) : Type 0 where
-  pub long : at + (1 + mapBytes) ≤ length t
-  pub known : f < n
-  pub stands : node (vocabularyIn v) false k [] (drop at t) ≡ wordHere f (fullSlots (vocabularyIn v) f) (drop (1 + mapBytes) (drop at t))
-
-pub full-here : {v t : List ℕ} {n at k f : ℕ} {offsets results maps : List ℕ} → Tables v n offsets results maps →
-    FullWord (take (length t - at) (drop at t)) k n results maps → f ≡ getD t at 0 → FullHere v t n at k f
-full-here {v} {t} {n} {at} {k} {f} {offsets} {results} {maps} tables lent e =
-    let W : Vocabulary = vocabularyIn v in
-    let x : FullWord (drop at t) k n results maps = subst (λ l. FullWord l k n results maps) (rest-whole t at) lent in
-    let first : getD (drop at t) 0 0 ≡ f = getD-drop at t 0 0 ∙ ap (λ n. getD t n 0) (add-zero at) ∙ sym e in
-    let known : f < n = subst (λ f. f < n) first (x .known) in
-    let long = x .long in
-    record {
-      long = omega (arith, length-drop at t);
-      known = known;
-      stands =
-          node-full W k f (drop at t) long first
-          (x .full ∙ ap (λ f. getD maps f 0) first ∙ tables .placeMap f known) (known-word tables known)
-          (sym (tables .tabled .result f known) ∙ ap (λ f. getD results f 0) (sym first) ∙ x .kind);
-    }
-
-pub word-inside : {v t : List ℕ} {n at k f : ℕ} → FullHere v t n at k f → at < length t
-word-inside x = omega (arith, x .long)
 
 -- A turn at a place of the run where the word f stands, full; y is the frame behind the place.
 pub record WordTurn (v t frames₀ frames : List ℕ) (c₀ c : Cursor) (n : ℕ) (offsets results maps : List ℕ) (f y : ℕ) : Type 0 where
@@ -123,44 +78,38 @@ pub record WordTurn (v t frames₀ frames : List ℕ) (c₀ c : Cursor) (n : ℕ
 
 module _ {v t frames₀ frames : List ℕ} {c₀ c : Cursor} {n : ℕ} {offsets results maps : List ℕ} {f y : ℕ}
     (x : WordTurn v t frames₀ frames c₀ c n offsets results maps f y) where
-  abbrev W : Vocabulary
-  W = vocabularyIn v
+  -- The word stands where the place was due.
+  pub turn-node : FullNode v t frames (atFrame y c) n offsets results maps (getD v (kindsIn (c .due)) 0) f
+  turn-node = record {
+    going = going-onto (x .turned .going) (x .low) (frame-behind v (c .due) y (x .turned .going .due) (x .behind) (x .first));
+    room = x .room;
+    tables = x .tables;
+    bytes = x .bytes;
+    here = x .here;
+  }
 
-  onto : Going v t frames (atFrame y c)
-  onto = going-onto (x .turned .going) (x .low) (frame-behind v (c .due) y (x .turned .going .due) (x .behind) (x .first))
+  place-same : (seen : List Occurrence) →
+      nodeRun (vocabularyIn v) v t frames seen false (getD v (kindsIn (c .due)) 0) (atFrame y c) ≡ restRun (vocabularyIn v) v t frames₀ seen c₀
+  place-same seen = sym (run-place (vocabularyIn v) v t frames seen c y (x .behind) (x .first)) ∙ x .turned .same seen
 
-  past : Going v t frames (pastWord true (atFrame y c))
-  past = going-word onto true (x .here .long)
-
-  whole : true ≡ everyWritten (fullSlots W f)
-  whole = sym (full-slots (flags (mapOf W f)) (word W f .kinds))
+  place-path : Passes (vocabularyIn v) (openDue v frames₀ c₀) (drop (c₀ .at) t) (nodeDue false (getD v (kindsIn (c .due)) 0) c ∷ openDue v frames (atFrame y c)) (drop (c .at) t)
+  place-path = passes-as (sym (open-place v frames c y (x .behind) (x .first))) refl (x .turned .path)
 
   pub turned-bare : getD maps f 0 ≡ 0 → Turned v t frames₀ c₀ frames (pastWord true (atFrame y c))
   turned-bare e = record {
-    going = past;
-    same = λ seen.
-        run-bare W v t frames seen (getD v (kindsIn (c .due)) 0) onto (x .room) f (fullSlots W f) true whole (x .here .long) (x .here .stands)
-        (due-bare (flags (mapOf W f)) (mapOf W f) (suc (suc (c .depth))) (word W f .kinds) (sym (x .tables .placeMap f (x .here .known)) ∙ e))
-        ∙ sym (run-place W v t frames seen c y (x .behind) (x .first))
-        ∙ x .turned .same seen;
+    going = bare-going turn-node;
+    same = λ seen. bare-same turn-node e seen ∙ place-same seen;
     further = omega (arith, x .turned .further);
+    path = bare-path turn-node e place-path;
   }
-
-  framed-down : {z : ℕ} → WordFrame z (getD maps f 0) (getD maps f 0) (getD offsets f 0) → WordFramed v W f (mapOf W f) z
-  framed-down {z} made =
-      word-framed (x .tables) (x .bytes) (x .here .known)
-      (subst (λ m. WordFrame z m m (getD offsets f 0)) (x .tables .placeMap f (x .here .known)) made) (and-self (mapOf W f))
 
   pub turned-down : {z : ℕ} → (getD maps f 0 ≡ 0 → ⊥) → WordFrame z (getD maps f 0) (getD maps f 0) (getD offsets f 0) →
       Turned v t frames₀ c₀ (set frames (c .depth) y) (wentDown z (pastWord true (atFrame y c)))
-  turned-down {z} other made = record {
-    going = going-down past (let room = x .room in omega arith) (framed-down made .fits);
-    same = λ seen.
-        run-down W v t frames seen (getD v (kindsIn (c .due)) 0) onto (x .room) f (fullSlots W f) true whole (x .here .long) (x .here .stands)
-        z (framed-down made .fits) (framed-down made .some (λ e. other (x .tables .placeMap f (x .here .known) ∙ e))) (framed-down made .dues)
-        ∙ sym (run-place W v t frames seen c y (x .behind) (x .first))
-        ∙ x .turned .same seen;
+  turned-down other made = record {
+    going = down-going turn-node made;
+    same = λ seen. down-same turn-node made other seen ∙ place-same seen;
     further = omega (arith, x .turned .further);
+    path = down-path turn-node made place-path;
   }
 
 -- ---- the measure
@@ -213,7 +162,7 @@ module _ {v t frames₀ frames : List ℕ} {c₀ c : Cursor} {n : ℕ} {offsets 
   pub less-down : (z : ℕ) → WordFrame z (getD maps f 0) (getD maps f 0) (getD offsets f 0) →
       turnsLeft t (set frames (c .depth) y) (wentDown z (pastWord true (atFrame y c))) < turnsLeft t frames c
   less-down z made =
-      let short = framed-down x made .fits .few in
+      let short = down-framed (turn-node x) made .fits .few in
       let run = x .behind .run in
       let written = x .behind .written in
       let few : writtenIn z < 256 = omega arith in

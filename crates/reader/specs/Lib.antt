@@ -4,15 +4,21 @@
 --   Checked    what checking a term gives beside its answer
 --   Nodes      what the private functions promise each other of what stands where a term is due; no public contract cites it
 --   Whole      what reading two terms tells
+--   Values     what reading the inputs of fill gives
 --   Frames     what the private functions promise each other of the places that are due; no public contract cites it
 --   Names      the same, of the names that stood before
 --   Cursors    the same, of where a reading stands
+--   Full       the same, of complete terms
 --   Terms      the same, of reading a term
+--   Fillings   the same, of reading a filling file
 pub mod Answers
 pub mod Checked
 pub mod Nodes
 pub mod Whole
+pub mod Values
 pub mod Frames
 pub mod Names
 pub mod Cursors
+pub mod Full
 pub mod Terms
+pub mod Fillings

@@ -1,8 +1,7 @@
 -- Terms: what the functions that read a term promise each other; no public contract cites it.
 --
---   FullWord l k n r m      at the front of the bytes l stands a word of kind k with its whole place map, by the tables
---   Passed                  reading on from one cursor is reading on from another, further one, where a place is due or
---                           nothing at all
+--   Passed                  reading on from one cursor is reading on over full words from another, further one, where
+--                           nothing is due, or a place at which no full word stands or level 33 would begin
 --   nodeDue b k c           a term of kind k that is due at the cursor's level; b tells whether it is the root
 --   nodeRun W v t frames seen b k c    what reading that term and then what is due behind it gives
 --   Leads W v names frames c g     some names seen are those of the table, and reading on from the cursor gives g
@@ -17,17 +16,18 @@
 use mathlib.Core.Path.{_≡_}
 use mathlib.Core.Bool.{Bool, true, false}
 use mathlib.Core.List.{List, [], _∷_}
-use Prim.Native.Nat.{ℕ, suc, _+_, _<_, _≤_}
+use mathlib.Core.Logic.{_⊎_}
+use Prim.Native.Nat.{ℕ, suc, _<_, _≤_}
 use lib.ListN.{length, getD, drop, replicate}
 use Rattle.terms.specs.Term.{Occurrence}
-use Rattle.wire.specs.Map.{mapBytes}
 use Rattle.wire.specs.Vocabulary.{Vocabulary}
 use Rattle.wire.specs.TermBytes.{wholeByte}
 use Rattle.wire.specs.TermLines.{Due}
 use Rattle.wire.specs.Parser.{Got, got, stop}
 use Rattle.wire.specs.Scan.{Scanned, run, rootDue, noTally}
 use Rattle.signature.specs.Tables.{Tables, vocabularyIn}
-use Rattle.reader.specs.Frames.{runIn}
+use Rattle.reader.specs.Frames.{runIn, kindsIn}
+use Rattle.reader.specs.Full.{NotFull, Passes}
 use Rattle.reader.specs.Names.{Named}
 use Rattle.reader.specs.Cursors.{tallyAt, openDue, restRun, Going}
 use Rattle.reader.specs.Nodes.{numberOf, placeOf}
@@ -38,17 +38,13 @@ use Rattle.reader.specs.declared.term.Step.the-variants as S
 use Rattle.reader.specs.declared.term.Reading.{Reading}
 use Rattle.reader.specs.declared.term.Reading.the-variants as R
 
-pub record FullWord (l : List ℕ) (k n : ℕ) (results maps : List ℕ) : Type 0 where
-  pub long : 1 + mapBytes ≤ length l
-  pub known : getD l 0 0 < n
-  pub kind : getD results (getD l 0 0) 0 ≡ k
-  pub full : getD l 1 0 ≡ getD maps (getD l 0 0) 0
-
 pub record Passed (v t frames : List ℕ) (c : Cursor) (frames′ : List ℕ) (c′ : Cursor) : Type 0 where
   pub going : Going v t frames′ c′
   pub same : (seen : List Occurrence) → restRun (vocabularyIn v) v t frames′ seen c′ ≡ restRun (vocabularyIn v) v t frames seen c
   pub further : c .at ≤ c′ .at
   pub due : 0 < c′ .depth → 0 < runIn (c′ .due)
+  pub path : Passes (vocabularyIn v) (openDue v frames c) (drop (c .at) t) (openDue v frames′ c′) (drop (c′ .at) t)
+  pub stuck : 0 < c′ .depth → (31 < c′ .depth) ⊎ NotFull (vocabularyIn v) (getD v (kindsIn (c′ .due)) 0) (drop (c′ .at) t)
 
 abbrev pub nodeDue : Bool → ℕ → Cursor → Due
 nodeDue b k c = record { sort = k; level = suc (c .depth); root = b }

@@ -7,12 +7,14 @@
 --   told W b           what reading the term b tells
 --   extentValues x     the numbers of an extent
 --   wholeTold r        the same of an answer
+--   WholeRead W b names r   the answer r tells that, and where b is accepted names is the table of its names
 --   pairNumbers r      the reply of reading two terms
 --   bothTold           the reply where the two terms tell that
 --   pairUnder p s r    the same where r is the reading of the vocabulary
 --   pairReply v p s    the reply of reading the terms p and s under the vocabulary v: document 01's numbers and places, of
 --                      the vocabulary (input 0), the first term (1) and the second (2), in this order
 --
+use mathlib.Core.Path.{_≡_}
 use mathlib.Core.List.{List, [], _∷_, _++_}
 use mathlib.Core.Option.{Option, some, none}
 use Prim.Native.Nat.{ℕ}
@@ -25,6 +27,7 @@ use Rattle.wire.specs.CheckComputed.{checkedTerm}
 use Rattle.wire.specs.SituationComputed.{firstGap}
 use Rattle.signature.specs.Answers.{vocabularyRefused}
 use Rattle.reader.specs.Answers.{termRefused}
+use Rattle.reader.specs.Names.{TableOf}
 use Rattle.reader.specs.Nodes.{numberOf, placeOf}
 use Rattle.reader.specs.declared.whole.Extent.{Extent}
 use Rattle.reader.specs.declared.PairAnswer.{PairAnswer}
@@ -52,6 +55,10 @@ extentValues x = x .words ∷ x .deepest ∷ x .gap ∷ []
 abbrev pub wholeTold : Whole → Reading (List ℕ)
 wholeTold (W.Read x) = accept (extentValues x)
 wholeTold (W.Refused why) = refuse (numberOf why) (placeOf why)
+
+pub record WholeRead (U : Vocabulary) (b names : List ℕ) (r : Whole) : Type 0 where
+  pub told : wholeTold r ≡ told U b
+  pub table : (k : Kinded) → checkedTerm U b ≡ accept k → TableOf U (k .kind) (k .term) names
 
 abbrev pub pairNumbers : PairAnswer → Reply
 pairNumbers (P.Read x y) = accepted (extentValues x ++ extentValues y)

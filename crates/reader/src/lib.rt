@@ -6,18 +6,22 @@ ghost use Rattle.wire.specs.CheckComputed.{termReply};
 ghost use Rattle.signature.specs.Tables.{Tables, vocabularyIn};
 ghost use Rattle.reader.specs.Answers.{termNumbers};
 ghost use Rattle.reader.specs.Checked.{CheckedFrom};
+ghost use Rattle.reader.specs.Values.{PatternFilling, FillingJudged, FillingRead};
 ghost use Rattle.reader.specs.Whole.{pairNumbers, pairReply, told, bothTold, extentValues};
 use signature::VocabularyAnswer;
 use signature::VocabularyRefusal;
 use whole::Whole;
 
 mod cursor;
+pub mod filling;
 mod frame;
 mod node;
 pub mod refusal;
 mod term;
 pub mod whole;
 
+pub use filling::FillingAnswer;
+pub use filling::FillingRefusal;
 pub use refusal::TermRefusal;
 pub use whole::Extent;
 
@@ -118,6 +122,91 @@ pub fn read_pair(vocabulary: &[u8], first: &[u8], second: &[u8]) -> PairAnswer
         VocabularyAnswer::Accepted => {
             let words = node::wide(vocabulary[1]);
             read_both(vocabulary, first, second, words, &offsets, &results, &maps)
+        }
+    }
+}
+
+// Reads a pattern under an accepted vocabulary, and a filling file for it.
+fn read_pattern_filling<'a>(
+    v: &[u8],
+    pattern: &[u8],
+    filling: &[u8],
+    starts: &mut [usize; 65],
+    depths: &mut [u8; 64],
+    words: usize,
+    offsets: &'a [u16; 96],
+    results: &'a [u8; 96],
+    maps: &'a [u8; 96],
+) -> FillingAnswer
+    requires { ⌜ Tables (now v) words (now offsets) (now results) (now maps) ⌝ }
+    ensures { λ r. ⌜ PatternFilling (now (v .entry)) (now (pattern .entry)) (now (filling .entry)) (now (starts .exit)) (now (depths .exit)) r ⌝ }
+{
+    let mut names = [256u16; 64];
+    match whole::read_named(v, pattern, &mut names, words, offsets, results, maps) {
+        Whole::Refused(why) => FillingAnswer::Refused(FillingRefusal::Pattern(why)),
+        Whole::Read(_) => filling::read_file(
+            v,
+            filling,
+            &names,
+            starts,
+            depths,
+            words,
+            offsets,
+            results,
+            maps,
+        ),
+    }
+}
+
+// Reads a vocabulary, a pattern and a filling file for it, in this order.
+fn judge_filling(
+    vocabulary: &[u8],
+    pattern: &[u8],
+    filling: &[u8],
+    starts: &mut [usize; 65],
+    depths: &mut [u8; 64],
+) -> FillingAnswer
+    ensures { λ r. ⌜ FillingJudged (now (vocabulary .entry)) (now (pattern .entry)) (now (filling .entry)) (now (starts .exit)) (now (depths .exit)) r ⌝ }
+{
+    let mut offsets = [0u16; 96];
+    let mut results = [0u8; 96];
+    let mut maps = [0u8; 96];
+    match signature::load(vocabulary, &mut offsets, &mut results, &mut maps) {
+        VocabularyAnswer::Refused(why) => FillingAnswer::Refused(FillingRefusal::Vocabulary(why)),
+        VocabularyAnswer::Accepted => {
+            let words = node::wide(vocabulary[1]);
+            read_pattern_filling(
+                vocabulary,
+                pattern,
+                filling,
+                starts,
+                depths,
+                words,
+                &offsets,
+                &results,
+                &maps,
+            )
+        }
+    }
+}
+
+// Reads a vocabulary, a pattern and a filling file for it, in this order. Where all are in order the tables tell where the
+// value of each name begins and ends in the file, and how many levels it has; after any other answer they are blank.
+pub fn read_filling(
+    vocabulary: &[u8],
+    pattern: &[u8],
+    filling: &[u8],
+    starts: &mut [usize; 65],
+    depths: &mut [u8; 64],
+) -> FillingAnswer
+    ensures { λ r. ⌜ FillingRead (now (vocabulary .entry)) (now (pattern .entry)) (now (filling .entry)) (now (starts .exit)) (now (depths .exit)) r ⌝ }
+{
+    match judge_filling(vocabulary, pattern, filling, starts, depths) {
+        FillingAnswer::Read => FillingAnswer::Read,
+        FillingAnswer::Refused(why) => {
+            *starts = [0usize; 65];
+            *depths = [0u8; 64];
+            FillingAnswer::Refused(why)
         }
     }
 }

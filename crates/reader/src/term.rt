@@ -1,12 +1,12 @@
 // One term read node by node, from its first byte to its last: the core of every reading.
 ghost use mathlib.Core.Path.{_≡_};
-ghost use mathlib.Core.Bool.{true};
 ghost use Prim.Native.Nat.{_+_, _<_, _≤_};
 ghost use lib.ListN.{length, replicate};
 ghost use Rattle.signature.specs.Tables.{Tables};
 ghost use Rattle.reader.specs.Frames.{runIn};
 ghost use Rattle.reader.specs.Cursors.{Going};
-ghost use Rattle.reader.specs.Terms.{FullWord, Passed, NodeRead, NodesRead, WholeAt, TermRead};
+ghost use Rattle.reader.specs.Full.{FullTest};
+ghost use Rattle.reader.specs.Terms.{Passed, NodeRead, NodesRead, WholeAt, TermRead};
 use crate::cursor;
 use crate::cursor::Cursor;
 use crate::frame;
@@ -27,7 +27,7 @@ pub(crate) enum Reading {
 }
 
 // Whether a word of a kind stands at the front of the rest of a term, with all its places written.
-fn full_word<'a>(
+pub(crate) fn full_word<'a>(
     rest: &[u8],
     kind: u8,
     words: usize,
@@ -35,7 +35,7 @@ fn full_word<'a>(
     maps: &'a [u8; 96],
 ) -> bool
     requires { ⌜ words ≤ 96 ⌝ }
-    ensures { λ r. ⌜ (r ≡ true → FullWord (now (rest .entry)) kind words (now (results .entry)) (now (maps .entry))) ⌝ }
+    ensures { λ r. ⌜ FullTest (now (rest .entry)) kind words (now (results .entry)) (now (maps .entry)) r ⌝ }
 {
     if rest.len() < maps::NODE {
         return false;
@@ -52,7 +52,7 @@ fn full_word<'a>(
 
 // Reads on over full words, up to a place where another node stands or level 33 would begin. The rest of the term is
 // handed on for each.
-fn full_words<'a>(
+pub(crate) fn full_words<'a>(
     v: &[u8],
     t: &[u8],
     frames: &mut [u64; 32],

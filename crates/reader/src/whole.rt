@@ -1,7 +1,8 @@
 // A term that is handed to a call: its size and kind, the term itself, and that nothing follows it.
 ghost use mathlib.Core.Path.{_≡_};
+ghost use lib.ListN.{replicate};
 ghost use Rattle.signature.specs.Tables.{Tables, vocabularyIn};
-ghost use Rattle.reader.specs.Whole.{told, wholeTold};
+ghost use Rattle.reader.specs.Whole.{told, wholeTold, WholeRead};
 use crate::cursor;
 use crate::refusal::TermRefusal;
 use crate::term;
@@ -21,17 +22,20 @@ pub(crate) enum Whole {
     Refused(TermRefusal),
 }
 
-// Reads a term under an accepted vocabulary.
-pub(crate) fn read<'a>(
+// Reads a term under an accepted vocabulary. Where it is accepted the table, blank before, tells at which kind each of its
+// names stands.
+pub(crate) fn read_named<'a>(
     v: &[u8],
     t: &[u8],
+    names: &mut [u16; 64],
     words: usize,
     offsets: &'a [u16; 96],
     results: &'a [u8; 96],
     maps: &'a [u8; 96],
 ) -> Whole
     requires { ⌜ Tables (now v) words (now offsets) (now results) (now maps) ⌝ }
-    ensures { λ r. ⌜ wholeTold r ≡ told (vocabularyIn (now (v .entry))) (now (t .entry)) ⌝ }
+    requires { ⌜ now names ≡ replicate 64 256 ⌝ }
+    ensures { λ r. ⌜ WholeRead (vocabularyIn (now (v .entry))) (now (t .entry)) (now (names .exit)) r ⌝ }
 {
     if t.len() < 2 {
         return Whole::Refused(TermRefusal::Size);
@@ -43,8 +47,7 @@ pub(crate) fn read<'a>(
     if v[0] <= kind {
         return Whole::Refused(TermRefusal::NoSuchKind);
     }
-    let mut names = [256u16; 64];
-    match term::read_term(v, t, 1, kind, &mut names, words, offsets, results, maps) {
+    match term::read_term(v, t, 1, kind, names, words, offsets, results, maps) {
         Reading::Fault(why) => Whole::Refused(why),
         Reading::Read(c) => {
             let at = c.at;
@@ -58,4 +61,20 @@ pub(crate) fn read<'a>(
             })
         }
     }
+}
+
+// Reads a term under an accepted vocabulary.
+pub(crate) fn read<'a>(
+    v: &[u8],
+    t: &[u8],
+    words: usize,
+    offsets: &'a [u16; 96],
+    results: &'a [u8; 96],
+    maps: &'a [u8; 96],
+) -> Whole
+    requires { ⌜ Tables (now v) words (now offsets) (now results) (now maps) ⌝ }
+    ensures { λ r. ⌜ wholeTold r ≡ told (vocabularyIn (now (v .entry))) (now (t .entry)) ⌝ }
+{
+    let mut names = [256u16; 64];
+    read_named(v, t, &mut names, words, offsets, results, maps)
 }

@@ -1,5 +1,5 @@
 -- All: what holds of each element of a list, carried through the list's operations.
-use mathlib.Core.Path.{_≡_, refl}
+use mathlib.Core.Path.{_≡_, refl, ap₂}
 use mathlib.Core.Bool.{Bool, true, false, cond}
 use mathlib.Core.List.{List, [], _∷_, _++_, map}
 use Prim.Native.Nat.{ℕ, zero, suc, _+_, _<_}
@@ -74,3 +74,8 @@ pub all-range : (from n : ℕ) → All (λ k. k < from + n) (range from n)
 all-range from zero = tt
 all-range from (suc n) =
     (omega arith, all-implies (λ k. k < suc from + n) (λ k. k < from + suc n) (λ k h. omega arith) (range (suc from) n) (all-range (suc from) n))
+
+-- Two functions that agree on each element.
+pub map-agree : {A B : Type 0} (f g : A → B) (l : List A) → All (λ x. f x ≡ g x) l → map f l ≡ map g l
+map-agree f g [] a = refl
+map-agree {B = B} f g (x ∷ l) a = ap₂ {C = List B} _∷_ (a .0) (map-agree f g l (a .1))

@@ -1,11 +1,12 @@
--- Keep: laws of the elements that pass a test.
-use mathlib.Core.Path.{_≡_, refl, sym, _∙_, ap, fun-ext}
+-- Keep: laws of the elements that pass a test, and of ranges in two parts.
+use mathlib.Core.Path.{_≡_, refl, sym, _∙_, ap, ap₂, fun-ext}
 use mathlib.Core.Bool.{Bool, true, false, cond, _&&_, _||_, and-false}
-use mathlib.Core.List.{List, [], _∷_}
-use Prim.Native.Nat.{ℕ}
+use mathlib.Core.List.{List, [], _∷_, _++_}
+use Prim.Native.Nat.{ℕ, zero, suc, _+_}
+use native.Mathlib.Omega.{arith}
 use lib.Dec.{eqb}
 use borrow.Author.Tests.{eqb-true}
-use Rattle.terms.specs.Lists.{occurs, NoneTwice, keep}
+use Rattle.terms.specs.Lists.{All, occurs, NoneTwice, range, keep}
 
 module _ {A : Type 0} where
   pub keep-keep : (p q : A → Bool) (l : List A) → keep p (keep q l) ≡ keep (λ x. q x && p x) l
@@ -20,9 +21,29 @@ module _ {A : Type 0} where
   pub keep-same : (p q : A → Bool) (l : List A) → ((x : A) → p x ≡ q x) → keep p l ≡ keep q l
   keep-same p q l e = ap (λ test. keep test l) (fun-ext e)
 
+  -- Two tests that agree on each element.
+  pub keep-agree : (p q : A → Bool) (l : List A) → All (λ x. p x ≡ q x) l → keep p l ≡ keep q l
+  keep-agree p q [] a = refl
+  keep-agree p q (x ∷ l) a = ap₂ (λ b k. cond b (x ∷ k) k) (a .0) (keep-agree p q l (a .1))
+
   pub keep-all : (l : List A) → keep (λ x. true) l ≡ l
   keep-all [] = refl
   keep-all (x ∷ l) = ap (λ k. x ∷ k) (keep-all l)
+
+  pub keep-append : (p : A → Bool) (l m : List A) → keep p (l ++ m) ≡ keep p l ++ keep p m
+  keep-append p [] m = refl
+  keep-append p (x ∷ l) m = go (p x) (keep-append p l m)
+    where
+      go : (b : Bool) → keep p (l ++ m) ≡ keep p l ++ keep p m →
+          cond b (x ∷ keep p (l ++ m)) (keep p (l ++ m)) ≡ cond b (x ∷ keep p l) (keep p l) ++ keep p m
+      go true e = ap (λ k. x ∷ k) e
+      go false e = e
+
+pub range-append : (from n m : ℕ) → range from (n + m) ≡ range from n ++ range (from + n) m
+range-append from zero m = ap₂ range (let e : from ≡ from + 0 = omega arith in e) (let e : 0 + m ≡ m = omega arith in e)
+range-append from (suc n) m =
+    ap (range from) (let e : suc n + m ≡ suc (n + m) = omega arith in e)
+    ∙ ap (λ l. from ∷ l) (range-append (suc from) n m ∙ ap (λ k. range (suc from) n ++ range k m) (let e : suc from + n ≡ from + suc n = omega arith in e))
 
 pub occurs-keep : (p : ℕ → Bool) (n : ℕ) (l : List ℕ) → occurs n (keep p l) ≡ (p n && occurs n l)
 occurs-keep p n [] = sym (and-false (p n))

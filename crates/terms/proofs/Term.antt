@@ -2,7 +2,7 @@
 use mathlib.Core.Path.{_≡_, refl, sym, _∙_, ap₂}
 use mathlib.Core.Bool.{true}
 use mathlib.Core.List.{List, [], _∷_, _++_, map, map-append}
-use Prim.Native.Nat.{ℕ, _+_}
+use Prim.Native.Nat.{ℕ, _+_, _<_}
 use lib.Dec.{eqb}
 use lib.ListN.{length, length-append}
 use borrow.Author.Tests.{eqb-true}
@@ -11,7 +11,7 @@ use Rattle.terms.specs.Signature.{Signature, arguments}
 use Rattle.terms.specs.Term.{Term, any, var, app, Terms, nil, cons, Ground, gapp, Grounds, gnil, gcons, Sorted, SortedAll, Occurrence, occurrences, occurrencesAll, Consistent, WellSorted, names, namesAll, Linear, openSorts, openSortsAll, openings, openingsAll}
 use Rattle.terms.specs.Matcher.{same, sameAll}
 use Rattle.terms.proofs.Bools.{eqb-refl, and-parts, and-both}
-use Rattle.terms.proofs.All.{all-implies, all-both}
+use Rattle.terms.proofs.All.{all-implies, all-both, all-append}
 use Rattle.terms.proofs.Occurs.{all-occurs, all-other}
 
 mutual
@@ -53,6 +53,20 @@ mutual
 -- The variable of an occurrence is one of the term's names.
 pub occurrences-named : (S : Signature) (t : Term) (s : ℕ) → Sorted S t s → All (λ o. occurs (o .name) (names t) ≡ true) (occurrences S t s)
 occurrences-named S t s h = rw (names-occurrences S t s h) at (all-occurs (λ o. o .name) (occurrences S t s))
+
+-- What holds of a term's sort and of the sorts that symbols ask for holds of the sort of each occurrence.
+module _ (S : Signature) (P : ℕ → Type 0) (asked : (f : ℕ) → f < length (S .symbols) → All P (arguments S f)) where
+  mutual
+    pub occurrences-sorts : (t : Term) (s : ℕ) → Sorted S t s → P s → All (λ o. P (o .sort)) (occurrences S t s)
+    occurrences-sorts any s h p = tt
+    occurrences-sorts (var n) s h p = (p, tt)
+    occurrences-sorts (app f ts) s h p = occurrences-sorts-all ts (arguments S f) (h .2) (asked f (h .0))
+
+    occurrences-sorts-all : (ts : Terms) (ks : List ℕ) → SortedAll S ts ks → All P ks → All (λ o. P (o .sort)) (occurrencesAll S ts ks)
+    occurrences-sorts-all nil ks h p = tt
+    occurrences-sorts-all (cons t ts) [] h p = tt
+    occurrences-sorts-all (cons t ts) (k ∷ ks) h p =
+        all-append (λ o. P (o .sort)) (occurrences S t k) (occurrencesAll S ts ks) (occurrences-sorts t k (h .0) (p .0)) (occurrences-sorts-all ts ks (h .1) (p .1))
 
 -- A sorted term has a sort due at each of its open places.
 mutual

@@ -1,9 +1,9 @@
 -- FillingValues: the values of a filling, one for each name of the pattern, as the terms that are due behind the bit map.
 --
 --   valuesOf bs             the values of the bindings bs
---   bindings-parts, bindings-back    names and values put together, and taken apart
+--   bindings-parts, bindings-joined, bindings-back    names and values put together, and taken apart
 --   row-values              the values are written as those terms
---   sort-in                 the kind at which a name stands is that of one of its occurrences
+--   sort-in, sorts-in       the kind at which a name stands is that of one of its occurrences, and of each where they agree
 --   dueOf l n               what is due for the name n, whose occurrences l tells
 --   values-good, good-sorted, good-fits    bindings of the pattern's names are a good filling exactly where their values
 --                           are of the kinds due, and fit
@@ -30,6 +30,7 @@ use Rattle.wire.specs.TermLines.{Due}
 use Rattle.wire.specs.FillingFile.{ascending, writeValue, GoodFilling}
 use Rattle.wire.specs.FillingLines.{sortIn, valuesDue}
 use Rattle.wire.specs.FillComputed.{bindings}
+use Rattle.wire.proofs.GroundBytes.{joined}
 use Rattle.wire.proofs.FullTerms.{sortsDue, FitsDue}
 use Rattle.wire.proofs.NameMaps.{occurs-ascending, ascending-once}
 
@@ -45,6 +46,22 @@ pub bindings-back : (bs : List Binding) → bindings (keysOf bs) (valuesOf bs) �
 bindings-back [] = refl
 bindings-back (b ∷ bs) = ap {B = List Binding} (λ l. b ∷ l) (bindings-back bs)
 
+module _ (d : ℕ → Due) where
+  pub bindings-parts : (gs : Grounds) (ns : List ℕ) → FitsDue gs (map d ns) → (keysOf (bindings ns gs) ≡ ns) × (valuesOf (bindings ns gs) ≡ gs)
+  bindings-parts gnil [] f = (refl, refl)
+  bindings-parts gnil (n ∷ ns) f = absurd f
+  bindings-parts (gcons g gs) [] f = absurd f
+  bindings-parts (gcons g gs) (n ∷ ns) f =
+      let r = bindings-parts gs ns (f .1) in
+      (ap {B = List ℕ} (λ l. n ∷ l) (r .0), ap (gcons g) (r .1))
+
+  -- Names and values in two parts are bound part by part.
+  pub bindings-joined : (gs hs : Grounds) (ns ms : List ℕ) → FitsDue gs (map d ns) → bindings (ns ++ ms) (joined gs hs) ≡ bindings ns gs ++ bindings ms hs
+  bindings-joined gnil hs [] ms f = refl
+  bindings-joined gnil hs (n ∷ ns) ms f = absurd f
+  bindings-joined (gcons g gs) hs [] ms f = absurd f
+  bindings-joined (gcons g gs) hs (n ∷ ns) ms f = ap {B = List Binding} (λ l. record { name = n; value = g } ∷ l) (bindings-joined gs hs ns ms (f .1))
+
 -- ---- the kinds at which names stand
 
 -- What holds of every occurrence of a name and its kind holds of the name's first.
@@ -59,7 +76,7 @@ sort-in P n (o ∷ l) h a = go (eqb n (o .name)) refl h (λ k. sort-in P n l k (
     go false e k below = below k
 
 -- Of a consistent list it is the kind of each.
-sorts-in : (l : List Occurrence) → Consistent l → All (λ o. sortIn l (o .name) ≡ o .sort) l
+pub sorts-in : (l : List Occurrence) → Consistent l → All (λ o. sortIn l (o .name) ≡ o .sort) l
 sorts-in l c =
     all-implies (λ o. (occurs (o .name) (map (λ o. o .name) l) ≡ true) × All (λ o′. o .name ≡ o′ .name → o .sort ≡ o′ .sort) l)
     (λ o. sortIn l (o .name) ≡ o .sort) (λ o k. sym (sort-in (λ n s. o .name ≡ n → o .sort ≡ s) (o .name) l (k .0) (k .1) refl)) l
@@ -96,15 +113,6 @@ module _ (l : List Occurrence) where
   -- A value is due for the name n, at the first level.
   abbrev pub dueOf : ℕ → Due
   dueOf n = record { sort = sortIn l n; level = 1; root = false }
-
-  pub bindings-parts : (gs : Grounds) (ns : List ℕ) → FitsDue gs (map dueOf ns) →
-      (keysOf (bindings ns gs) ≡ ns) × (valuesOf (bindings ns gs) ≡ gs)
-  bindings-parts gnil [] f = (refl, refl)
-  bindings-parts gnil (n ∷ ns) f = absurd f
-  bindings-parts (gcons g gs) [] f = absurd f
-  bindings-parts (gcons g gs) (n ∷ ns) f =
-      let r = bindings-parts gs ns (f .1) in
-      (ap {B = List ℕ} (λ l. n ∷ l) (r .0), ap (gcons g) (r .1))
 
   shallow-fits : (bs : List Binding) → All (λ b. levels (asTerm (b .value)) ≤ mostLevels) bs → FitsDue (valuesOf bs) (map dueOf (keysOf bs))
   shallow-fits [] a = tt

@@ -23,7 +23,7 @@ use Rattle.wire.specs.Laws.{FillingsInverse}
 use Rattle.wire.proofs.Cond.{cond-false, choice}
 use Rattle.wire.proofs.FullTerms.{sortsDue, FitsDue, HasValues, Values, values-read, values-written}
 use Rattle.wire.proofs.NameMaps.{unlike-names}
-use Rattle.wire.proofs.FillingValues.{valuesOf, row-values, bindings-back, bindings-parts, values-good, good-sorted, good-fits}
+use Rattle.wire.proofs.FillingValues.{valuesOf, row-values, bindings-back, bindings-parts, dueOf, values-good, good-sorted, good-fits}
 
 -- What the reading of the file b accepts is written there.
 abbrev Accepts : Vocabulary → ℕ → Term → List ℕ → Reading (List Binding) → Type 0
@@ -55,7 +55,7 @@ module _ (W : Vocabulary) (s : ℕ) (t : Term) (inOrder : InOrder W) (good : Goo
   values-accepted (stop n r) e h = tt
   values-accepted (got gs (x ∷ r)) e h = tt
   values-accepted (got gs []) e h =
-      let parts = bindings-parts (occurrences (signature W) t s) gs (ascending t) (h .fits) in
+      let parts = bindings-parts (dueOf (occurrences (signature W) t s)) gs (ascending t) (h .fits) in
       values-hold (bindings (ascending t) gs) gs (parts .0) (parts .1) e h
 
   map-accepted : (o : Option ℕ) → nameMapBytes ≤ length b → first (unlike b t) ≡ o → Accepts W s t b (line21 W s t b o)

@@ -3,7 +3,8 @@
 --   names-stand             in the bit map of some names these names stand, and no others
 --   stand-names             bytes in whose map these names stand, and no others, begin with that bit map
 --   occurs-ascending        the names of a term, ascending, are its names below 64
---   ascending-once          .. and none of them stands there twice
+--   range-once, ascending-once    .. and none of them stands there twice
+--   apart-same, same-apart  two truth values that differ, or not
 --   unlike-same             no name is unlike exactly where each stands in the map as it does in the pattern
 --   unlike-none             no name is unlike exactly where map and pattern differ at none
 --   unlike-some             the first that is unlike is the lowest at which they differ
@@ -107,20 +108,20 @@ below-range k from (suc n) h =
     or-neither (eqb k from) (occurs k (range (suc from) n)) (ne-eqb k from (λ e. absurd (omega arith)))
     (below-range k (suc from) n (omega arith))
 
-range-once : (from n : ℕ) → NoneTwice (range from n)
+pub range-once : (from n : ℕ) → NoneTwice (range from n)
 range-once from zero = tt
 range-once from (suc n) = (below-range from (suc from) n (omega arith), range-once (suc from) n)
 
 pub ascending-once : (t : Term) → NoneTwice (ascending t)
 ascending-once t = none-twice-keep (λ n. occurs n (names t)) (range 0 nameCount) (range-once 0 nameCount)
 
-apart-same : (a b : Bool) → apart a b ≡ false → a ≡ b
+pub apart-same : (a b : Bool) → apart a b ≡ false → a ≡ b
 apart-same true true e = refl
 apart-same true false e = absurd (true≢false e)
 apart-same false true e = absurd (true≢false e)
 apart-same false false e = refl
 
-same-apart : (a b : Bool) → a ≡ b → apart a b ≡ false
+pub same-apart : (a b : Bool) → a ≡ b → apart a b ≡ false
 same-apart true true e = refl
 same-apart true false e = e
 same-apart false true e = sym e

@@ -139,7 +139,7 @@ then-same : {A B : Type 0} (x : Got A) (f g : A → List ℕ → Got B) → ((a 
 then-same (got a r) f g e = e a r
 then-same (stop n r) f g e = refl
 
-then-then : {A B C : Type 0} (x : Got A) (f : A → List ℕ → Got B) (g : B → List ℕ → Got C) →
+pub then-then : {A B C : Type 0} (x : Got A) (f : A → List ℕ → Got B) (g : B → List ℕ → Got C) →
     andThen (andThen x f) g ≡ andThen x (λ a r. andThen (f a r) g)
 then-then (got a r) f g = refl
 then-then (stop n r) f g = refl

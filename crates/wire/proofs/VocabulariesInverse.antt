@@ -28,7 +28,7 @@ vocabularies-inverse b W bytes = (
   (λ h. ap readVocabulary (h .written) ∙ read-good W (h .good)),
 )
 
-accept-same : {A : Type 0} (x y : A) → accept x ≡ accept y → x ≡ y
+pub accept-same : {A : Type 0} (x y : A) → accept x ≡ accept y → x ≡ y
 accept-same x y e = ap (acceptedOr x) e
   where
     acceptedOr : {A : Type 0} → A → Reading A → A

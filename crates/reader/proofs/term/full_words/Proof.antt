@@ -8,18 +8,22 @@
 use borrow.Author.Needs.{needs}
 use mathlib.Core.Path.{_≡_, refl, sym, ap, subst, _∙_}
 use mathlib.Core.Bool.{true}
+use mathlib.Core.Logic.{inl, inr}
 use Prim.Native.Nat.{_<_}
 use native.Mathlib.Omega.{arith}
-use native.Mathlib.Nat.{le-refl, lt-of-lt-of-le}
+use native.Mathlib.Nat.{lt-of-lt-of-le}
 use denote.Ref.{now}
 use lib.Dec.{lit<}
-use lib.ListN.{getD}
+use lib.ListN.{getD, drop}
 use borrow.Author.Needs.{scaled-fits}
-use borrow.Author.Tests.{not-false}
+use borrow.Author.Tests.{not-false, not-true}
+use Rattle.signature.specs.Tables.{vocabularyIn}
+use Rattle.reader.specs.Full.{NotFull}
 use Rattle.reader.specs.Cursors.{pastWord, wentDown, atFrame}
 use Rattle.reader.proofs.Tables.{few-words}
 use Rattle.reader.proofs.Turns.{Turned, turned-none, turned-as, turned-ends, turned-up, turned-advanced, turned-bare, turned-down}
-use Rattle.reader.proofs.Turns.{FullHere, WordTurn, full-here, word-inside, turnsLeft, less-up, less-advanced, less-bare, less-down, less-as}
+use Rattle.reader.proofs.Full.{FullHere, full-here, not-full, word-inside}
+use Rattle.reader.proofs.Turns.{WordTurn, turnsLeft, less-up, less-advanced, less-bare, less-down, less-as}
 use Rattle.reader.proofs.Turns.{first-due, none-due, advance-asks, pass-asks, kind-inside, word-asks}
 use Rattle.reader.proofs.term.full_words.Statement.{statement}
 use Rattle.reader.proofs.term.full_words.Tie as tie
@@ -52,7 +56,7 @@ word-turn c =
       bytes = λ i. loop .before .before .shared-slice-known .given i .fits;
       here =
           subst (λ j. FullHere (now (a .v)) (now (a .t)) (a .words) (loop .loop .c .at) (getD (now (a .v)) j 0) (c .before .wide .result)) (kinds .kinds .ensures)
-          (full-here (start .pre .0) (read .full-word .ensures (not-false _ (c .before .before .before .if5 .left))) (c .before .wide .ensures));
+          (full-here (start .pre .0) (read .full-word .ensures .stands (not-false _ (c .before .before .before .if5 .left))) (c .before .wide .ensures));
     }
 
 known : (c : tie.After-passed Inv-loop μ-loop) → c .before .wide .result < 96
@@ -135,7 +139,7 @@ returns : tie.Need-returns Inv-loop μ-loop
 returns c =
     let turn = c .before .before .before in
     let at-loop = turn .before .before .before in
-    turned-ends (at-loop .loop .inv) (λ low. first-due (at-loop .loop .c .due) (turn .if2 .left))
+    turned-ends (at-loop .loop .inv) (λ low. first-due (at-loop .loop .c .due) (turn .if2 .left)) (λ low. inl (c .if4 .taken))
 
 sub-full-word : tie.Need-sub-full-word Inv-loop μ-loop
 sub-full-word c = search needs
@@ -153,14 +157,20 @@ full-word-requires c κs =
 
 returns-2 : tie.Need-returns-2 Inv-loop μ-loop
 returns-2 c =
-    let turn = c .before .before .before .before .before .before in
-    let at-loop = turn .before .before .before in
-    turned-ends (at-loop .loop .inv) (λ low. first-due (at-loop .loop .c .due) (turn .if2 .left))
+    let kinds = c .before .before .before .before .before in
+    let at-loop = kinds .before .before .before .before in
+    let start = at-loop .before .before .before in
+    let v = now (start .args .v) in
+    let t = now (start .args .t) in
+    turned-ends (at-loop .loop .inv) (λ low. first-due (at-loop .loop .c .due) (kinds .before .if2 .left))
+    (λ low. inr
+    (subst (λ j. NotFull (vocabularyIn v) (getD v j 0) (drop (at-loop .loop .c .at) t)) (kinds .kinds .ensures)
+    (not-full (start .pre .0) t (at-loop .loop .c .at) (c .before .full-word .ensures .other (not-true _ (c .if5 .taken))))))
 
 shared-slice-read-wide : tie.Need-shared-slice-read-wide Inv-loop μ-loop
 shared-slice-read-wide c =
     let start = c .before .before .before .before .before .before .before .before .before .before .before .before .before in
-    word-inside {t = now (start .args .t)} (full-here (start .pre .0) (c .before .before .full-word .ensures (not-false _ (c .before .if5 .left))) refl)
+    word-inside {t = now (start .args .t)} (full-here (start .pre .0) (c .before .before .full-word .ensures .stands (not-false _ (c .before .if5 .left))) refl)
 
 wide-requires : tie.Need-wide-requires Inv-loop μ-loop
 wide-requires c κs = search needs
@@ -234,7 +244,7 @@ loop-again-4 : tie.Need-loop-again-4 Inv-loop μ-loop
 loop-again-4 c = turned-as (past (c .before .before)) (turned-bare (word-turn (c .before .before .before .before)) (c .if6 .left))
 
 returns-3 : tie.Need-returns-3 Inv-loop μ-loop
-returns-3 c = turned-ends (c .before .before .loop .inv) (λ low. absurd (let none = c .if1 .left in omega arith))
+returns-3 c = turned-ends (c .before .before .loop .inv) (λ low. absurd (let none = c .if1 .left in omega arith)) (λ low. absurd (let none = c .if1 .left in omega arith))
 
 pub full-words-spec : {M : Type 1} → statement M
 full-words-spec =

@@ -1,0 +1,223 @@
+// Document 02's filling file: the map of a pattern's names, and a complete term for each of them.
+ghost use mathlib.Core.Path.{_≡_};
+ghost use mathlib.Core.Bool.{cond};
+ghost use Prim.Native.Nat.{_+_, _/_, _%_, _<_, _≤_};
+ghost use lib.Dec.{eqb, ltb};
+ghost use lib.ListN.{length, getD};
+ghost use Rattle.wire.specs.FillComputed.{apart};
+ghost use Rattle.signature.specs.Tables.{Tables};
+ghost use Rattle.reader.specs.Fillings.{FaultAt, ValueRead, EntryRead, DifferenceAt, ValuesRead, FileRead};
+use crate::cursor;
+use crate::frame;
+use crate::node;
+use crate::refusal::TermRefusal;
+use crate::term;
+use signature::VocabularyRefusal;
+
+// Why the inputs of fill are refused: document 01's lines 1 to 15, and 21 and 22.
+pub enum FillingRefusal {
+    Vocabulary(VocabularyRefusal),
+    Pattern(TermRefusal),
+    Names(usize),
+    Value(usize),
+}
+
+pub enum FillingAnswer {
+    Read,
+    Refused(FillingRefusal),
+}
+
+// Where a complete term ends and how many levels it has, or where it is at fault.
+enum Value {
+    Read(usize, u8),
+    Fault(usize),
+}
+
+// Where a term of a kind is at fault that is due below so many words: no full word stands at the front of the rest.
+fn fault_at(
+    rest: &[u8],
+    at: usize,
+    depth: usize,
+    kind: u8,
+    words: usize,
+    results: &[u8; 96],
+) -> usize
+    requires { ⌜ (at + length (now rest) < 18446744073709551616) × (words ≤ 96) ⌝ }
+    ensures { λ r. ⌜ FaultAt (now (rest .entry)) at depth kind words (now (results .entry)) r ⌝ }
+{
+    if rest.len() == 0 {
+        return at;
+    }
+    if 31 < depth {
+        return at;
+    }
+    let f = node::wide(rest[0]);
+    if words <= f {
+        return at;
+    }
+    if results[f] != kind {
+        return at;
+    }
+    at + 1
+}
+
+// Reads the complete term of a kind that stands at an offset of some bytes. Bytes may follow it.
+fn read_value<'a>(
+    v: &[u8],
+    b: &[u8],
+    from: usize,
+    kind: u8,
+    words: usize,
+    offsets: &'a [u16; 96],
+    results: &'a [u8; 96],
+    maps: &'a [u8; 96],
+) -> Value
+    requires { ⌜ Tables (now v) words (now offsets) (now results) (now maps) ⌝ }
+    requires { ⌜ from ≤ length (now b) ⌝ }
+    ensures { λ r. ⌜ ValueRead (now (v .entry)) (now (b .entry)) from kind r ⌝ }
+{
+    if !term::full_word(&b[from..], kind, words, results, maps) {
+        return Value::Fault(fault_at(&b[from..], from, 0, kind, words, results));
+    }
+    let f = node::wide(b[from]);
+    let past = cursor::start(from, b.len()).word(true);
+    if maps[f] == 0 {
+        return Value::Read(past.at, past.deepest as u8);
+    }
+    let mut frames = [0u64; 32];
+    let first = past.down(frame::full(maps[f], offsets[f]));
+    let c = term::full_words(v, b, &mut frames, first, words, offsets, results, maps);
+    let depth = c.depth;
+    if depth == 0 {
+        return Value::Read(c.at, c.deepest as u8);
+    }
+    let at = c.at;
+    let due = v[frame::kinds(c.due)];
+    Value::Fault(fault_at(&b[at..], at, depth, due, words, results))
+}
+
+// Reads the value of a name, by its entry in the table of names. A name without a kind has none, and so no bytes.
+fn read_entry<'a>(
+    v: &[u8],
+    b: &[u8],
+    from: usize,
+    kind: u16,
+    words: usize,
+    offsets: &'a [u16; 96],
+    results: &'a [u8; 96],
+    maps: &'a [u8; 96],
+) -> Value
+    requires { ⌜ Tables (now v) words (now offsets) (now results) (now maps) ⌝ }
+    requires { ⌜ from ≤ length (now b) ⌝ }
+    ensures { λ r. ⌜ EntryRead (now (v .entry)) (now (b .entry)) from kind r ⌝ }
+{
+    if 256 <= kind {
+        return Value::Read(from, 0);
+    }
+    read_value(v, b, from, kind as u8, words, offsets, results, maps)
+}
+
+// The bits of a filling file's map from a name on, the lowest being the name's own: those left of its byte, or the next byte.
+fn bits_from(b: &[u8], n: usize, left: u8) -> u8
+    requires { ⌜ (8 ≤ length (now b)) × (n < 64) ⌝ }
+    ensures { λ r. ⌜ r ≡ cond (eqb (n % 8) 0) (getD (now (b .entry)) (n / 8) 0) left ⌝ }
+{
+    if n % 8 == 0 {
+        return b[n / 8];
+    }
+    left
+}
+
+// Whether the lowest bit and the entry of a table of names differ. A name without a kind has the entry 256.
+fn differs(bits: u8, kind: u16) -> bool
+    ensures { λ r. ⌜ r ≡ apart (eqb (bits % 2) 1) (ltb kind 256) ⌝ }
+{
+    if bits % 2 == 1 {
+        return !(kind < 256);
+    }
+    kind < 256
+}
+
+// The lowest name at which the map at the front of a filling file and the table of a pattern's names differ; 64 where they
+// are the same.
+fn first_difference(b: &[u8], names: &[u16; 64]) -> usize
+    requires { ⌜ 8 ≤ length (now b) ⌝ }
+    ensures { λ r. ⌜ DifferenceAt (now (b .entry)) (now (names .entry)) r ⌝ }
+{
+    let mut left = 0u8;
+    let mut n = 0usize;
+    while n < 64 {
+        let bits = bits_from(b, n, left);
+        if differs(bits, names[n]) {
+            return n;
+        }
+        left = bits / 2;
+        n += 1;
+    }
+    n
+}
+
+// Reads a complete term for each name of the table, ascending, and sees that nothing follows the last. The value of name n
+// begins at the n-th start and ends at the next; its levels are noted too.
+fn read_values<'a>(
+    v: &[u8],
+    b: &[u8],
+    names: &[u16; 64],
+    starts: &mut [usize; 65],
+    depths: &mut [u8; 64],
+    words: usize,
+    offsets: &'a [u16; 96],
+    results: &'a [u8; 96],
+    maps: &'a [u8; 96],
+) -> FillingAnswer
+    requires { ⌜ Tables (now v) words (now offsets) (now results) (now maps) ⌝ }
+    requires { ⌜ 8 ≤ length (now b) ⌝ }
+    ensures { λ r. ⌜ ValuesRead (now (v .entry)) (now (b .entry)) (now (names .entry)) (now (starts .exit)) (now (depths .exit)) r ⌝ }
+{
+    *starts = [8usize; 65];
+    *depths = [0u8; 64];
+    let mut at = 8usize;
+    let mut n = 0usize;
+    while n < 64 {
+        match read_entry(v, b, at, names[n], words, offsets, results, maps) {
+            Value::Fault(q) => {
+                return FillingAnswer::Refused(FillingRefusal::Value(q));
+            }
+            Value::Read(end, levels) => {
+                depths[n] = levels;
+                at = end;
+                n += 1;
+                starts[n] = at;
+            }
+        }
+    }
+    if at < b.len() {
+        return FillingAnswer::Refused(FillingRefusal::Value(at));
+    }
+    FillingAnswer::Read
+}
+
+// Reads a filling file for a pattern with that table of names.
+pub(crate) fn read_file<'a>(
+    v: &[u8],
+    b: &[u8],
+    names: &[u16; 64],
+    starts: &mut [usize; 65],
+    depths: &mut [u8; 64],
+    words: usize,
+    offsets: &'a [u16; 96],
+    results: &'a [u8; 96],
+    maps: &'a [u8; 96],
+) -> FillingAnswer
+    requires { ⌜ Tables (now v) words (now offsets) (now results) (now maps) ⌝ }
+    ensures { λ r. ⌜ FileRead (now (v .entry)) (now (b .entry)) (now (names .entry)) (now (starts .exit)) (now (depths .exit)) r ⌝ }
+{
+    if b.len() < 8 {
+        return FillingAnswer::Refused(FillingRefusal::Names(0));
+    }
+    let n = first_difference(b, names);
+    if n < 64 {
+        return FillingAnswer::Refused(FillingRefusal::Names(n));
+    }
+    read_values(v, b, names, starts, depths, words, offsets, results, maps)
+}
