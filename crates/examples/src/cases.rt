@@ -9,10 +9,12 @@
 //   list LENGTH LABEL: PATTERN                    list, into so many bytes; tells them
 //   sum LENGTH LABEL: PATTERN                     list; tells a sum of the entries' bytes
 //   find LENGTH LABEL: PATTERN / ENTRY            list; tells as which entry a given one stands there
+//   write LENGTH LABEL: PATTERN / FILLING         fill, into so many bytes; tells them
 //   report LABEL: INPUT                           the text of the program `leftovers`
 //   digest LABEL: INPUT                           the same; tells its length and a sum of its bytes
 //
 // A line is printed up to its colon, and then the reply. Every other line is passed over.
+use crate::fill_line;
 use crate::list_line;
 use crate::match_line;
 use crate::notation;
@@ -94,7 +96,7 @@ fn under(line: &[u8], vocabulary: &[u8]) {
 
 // The same with the bytes before the slash.
 fn beside(line: &[u8], vocabulary: &[u8], one: &[u8]) {
-    let mut bytes = [0u8; 4097];
+    let mut bytes = [0u8; 8192];
     let n = notation::decode(
         notation::onward(notation::onward(line, b':'), b'/'),
         &mut bytes,
@@ -124,6 +126,10 @@ fn call(key: u8, number: usize, vocabulary: &[u8], one: &[u8], other: &[u8]) {
     }
     if key == b'p' {
         say::bytes(matcher::part(vocabulary, one, other, number));
+        return;
+    }
+    if key == b'w' {
+        fill_line::filled(vocabulary, one, other, number);
         return;
     }
     list_line::listed(key, vocabulary, one, other, number);

@@ -12,3 +12,5 @@ pub mod Putting
 pub mod Begun
 pub mod Counting
 pub mod Measuring
+pub mod Answers
+pub mod Calls

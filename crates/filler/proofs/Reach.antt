@@ -52,7 +52,7 @@ pub filled-reach : (x : FillInputs) (m : ℕ) → All (λ n. levels (asTerm (val
     deepest (filledTerm x) ≤ deepest (x .pattern) + m
 filled-reach x m a = omega (arith, replaced-reach (x .values) m (x .pattern) a)
 
-pub measurable-reach : {p b starts depths : List ℕ} {d most : ℕ} (a : Ready p b starts depths) → MostLevels depths most → deepest (a .inputs .pattern) ≤ d →
+abbrev pub measurable-reach : {p b starts depths : List ℕ} {d most : ℕ} (a : Ready p b starts depths) → MostLevels depths most → deepest (a .inputs .pattern) ≤ d →
     Measurable p starts depths (d + most - 1)
 measurable-reach {p} {b} {starts} {depths} {d} {most} a h k = record {
   filling = b;

@@ -3,26 +3,21 @@
 --   bit-stands          a bit of the map by its byte
 --   Alike               the invariant: map and table are the same below 8 i
 --   alike-none, alike-turn, alike-found, alike-all    its beginning, its turn and its two ends
---   table-difference    the law
 --
 use mathlib.Core.Path.{_≡_, refl, sym, ap, ap₂, subst, _∙_}
-use mathlib.Core.Bool.{Bool, true, false, cond}
+use mathlib.Core.Bool.{Bool, false}
 use mathlib.Core.List.{List, [], _∷_, map}
 use Prim.Native.Nat.{ℕ, zero, suc, _+_, _-_, _*_, _/_, _%_, _<_, _≤_}
 use native.Mathlib.Decide.{decLe}
 use native.Mathlib.Omega.{arith}
 use lib.ListN.{length, getD}
-use Rattle.terms.specs.Lists.{occurs, range, keep}
-use Rattle.terms.specs.Term.{Term, names}
-use Rattle.terms.specs.Emptiness.{first}
-use Rattle.terms.proofs.First.{firstOf, Least, least-first, nowhere-first}
+use Rattle.terms.specs.Lists.{range}
 use Rattle.wire.specs.Map.{flagsIn, number}
 use Rattle.wire.specs.VocabularyLines.{byteAt}
 use Rattle.wire.specs.TermBytes.{nameCount}
 use Rattle.wire.specs.FillingLines.{nameStands}
-use Rattle.wire.specs.FillComputed.{apart, unlike}
 use Rattle.wire.proofs.Map.{flagsIn-number}
-use Rattle.namemaps.specs.Difference.{standsIn, bitIn, LowestApart, orCount, difference, TableDifference}
+use Rattle.namemaps.specs.Difference.{standsIn, bitIn, LowestApart, DifferenceAt}
 
 -- ---- bits
 
@@ -42,20 +37,7 @@ map-bit b i j h =
     let place : j ≡ (8 * i + j) % 8 = omega arith in
     ap₂ (λ i j. bitIn (byteAt b i) j) byte place
 
-apart-same : (a : Bool) → apart a a ≡ false
-apart-same true = refl
-apart-same false = refl
-
-apart-other : (a b : Bool) → (a ≡ b → ⊥) → apart a b ≡ true
-apart-other true true h = absurd (h refl)
-apart-other true false h = refl
-apart-other false true h = refl
-apart-other false false h = absurd (h refl)
-
 -- ---- the search
-
-abbrev apartAt : List ℕ → List ℕ → ℕ → Bool
-apartAt b table n = apart (nameStands b n) (standsIn table n)
 
 pub record Alike (b table : List ℕ) (i : ℕ) : Type 0 where
   pub same : (n : ℕ) → n < 8 * i → nameStands b n ≡ standsIn table n
@@ -87,42 +69,22 @@ module _ {b table : List ℕ} {i : ℕ} (k : Alike b table i) (room : i < 8) {a 
           ∙ bit-made (n - 8 * i) place
           ∙ ap (standsIn table) there
 
-  pub alike-found : {j : ℕ} → LowestApart a m j → 8 * i + j ≡ difference b table
+  pub alike-found : {j : ℕ} → LowestApart a m j → DifferenceAt b table (8 * i + j)
   alike-found {j} l =
       let below = l .below in
-      sym (ap orCount
-      (least-first (apartAt b table) 0 nameCount (8 * i + j)
-      (record {
-        low = omega arith;
-        high = omega arith;
-        passes =
-            apart-other (nameStands b (8 * i + j)) (standsIn table (8 * i + j))
-            (λ e. l .differ (bit-written j below ∙ e ∙ sym (bit-made j below)));
-        lower = λ n lo hi. elim (decLe (8 * i) n) [ yes high ↦ in-byte n high hi | no low ↦ alike n (k .same n (omega arith)) ];
-      })))
+      record {
+        upTo = omega arith;
+        alike = λ n h. elim (decLe (8 * i) n) [ yes high ↦ in-byte n high h | no low ↦ k .same n (omega arith) ];
+        differs = λ h e. l .differ (bit-written j below ∙ e ∙ sym (bit-made j below));
+      }
     where
-      alike : (n : ℕ) → nameStands b n ≡ standsIn table n → apartAt b table n ≡ false
-      alike n e = ap (apart (nameStands b n)) (sym e) ∙ apart-same (nameStands b n)
-
-      in-byte : (n : ℕ) → 8 * i ≤ n → n < 8 * i + j → apartAt b table n ≡ false
+      in-byte : (n : ℕ) → 8 * i ≤ n → n < 8 * i + j → nameStands b n ≡ standsIn table n
       in-byte n high h =
           let place : n - 8 * i < 8 = omega (arith, l .below) in
           let there : 8 * i + (n - 8 * i) ≡ n = omega arith in
-          alike n
-          (ap (nameStands b) (sym there) ∙ sym (bit-written (n - 8 * i) place) ∙ l .lower (n - 8 * i) (omega arith)
+          ap (nameStands b) (sym there) ∙ sym (bit-written (n - 8 * i) place) ∙ l .lower (n - 8 * i) (omega arith)
           ∙ bit-made (n - 8 * i) place
-          ∙ ap (standsIn table) there)
+          ∙ ap (standsIn table) there
 
-pub alike-all : {b table : List ℕ} {i : ℕ} → Alike b table i → 8 ≤ i → 64 ≡ difference b table
-alike-all {b} {table} {i} k h = sym (ap orCount (nowhere-first (apartAt b table) 0 nameCount (λ n lo hi. ap (apart (nameStands b n)) (sym (k .same n (omega arith))) ∙ apart-same (nameStands b n))))
-
--- ---- the law
-
-keep-same : (f g : ℕ → Bool) (from n : ℕ) → ((j : ℕ) → j < from + n → f j ≡ g j) → keep f (range from n) ≡ keep g (range from n)
-keep-same f g from zero h = refl
-keep-same f g from (suc n) h =
-    ap₂ (λ b l. cond b (from ∷ l) l) (h from (omega arith)) (keep-same f g (suc from) n (λ j p. h j (omega arith)))
-
-pub table-difference : TableDifference
-table-difference b table t h =
-    ap (λ l. orCount (first l)) (keep-same (apartAt b table) (λ n. apart (nameStands b n) (occurs n (names t))) 0 nameCount (λ n p. ap (apart (nameStands b n)) (h n p)))
+pub alike-all : {b table : List ℕ} {i : ℕ} → Alike b table i → 8 ≤ i → DifferenceAt b table 64
+alike-all k h = record { upTo = omega arith; alike = λ n p. k .same n (omega arith); differs = λ p. absurd (omega arith) }

@@ -1,2 +1,2 @@
--- What the contract of comparing a bit map of names cites, and the law that fixes it.
+-- What the contract of comparing a bit map of names cites.
 pub mod Difference

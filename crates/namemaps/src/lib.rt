@@ -5,7 +5,7 @@ ghost use Prim.Native.Nat.{_+_, _≤_, _<_};
 ghost use Rattle.terms.specs.Lists.{range};
 ghost use Rattle.wire.specs.Map.{bit, number};
 ghost use Rattle.wire.specs.VocabularyLines.{byteAt};
-ghost use Rattle.namemaps.specs.Difference.{entryStands, standsIn, LowestApart, difference};
+ghost use Rattle.namemaps.specs.Difference.{entryStands, standsIn, LowestApart, DifferenceAt};
 
 // 1 for a name that stands in the pattern: its entry is a kind, which is a byte.
 fn stands(entry: u16) -> u8
@@ -66,7 +66,7 @@ fn lowest_apart(a: u8, b: u8) -> usize
 // The lowest name at which the bit map at the front of some bytes and a table of names differ, 64 where they are the same.
 // A byte of the map that is missing counts as 0. Eight names are compared at once.
 pub fn first_difference(map: &[u8], names: &[u16; 64]) -> usize
-    ensures { λ r. ⌜ r ≡ difference (now (map .entry)) (now (names .entry)) ⌝ }
+    ensures { λ r. ⌜ DifferenceAt (now (map .entry)) (now (names .entry)) r ⌝ }
 {
     let mut i = 0;
     while i < 8 {

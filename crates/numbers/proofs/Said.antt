@@ -1,6 +1,6 @@
 -- Said: the numbers of an answer say which reply it is.
 --
---   vocabulary-said, term-said, match-said, list-said    the reply read back from the numbers of an answer
+--   vocabulary-said, term-said, match-said, list-said, fill-said    the reply read back from the numbers of an answer
 --   accepted-said, refused-said                          which one with two values it is, by the first number
 --
 use mathlib.Core.Path.{_≡_, refl, sym, ap, subst, _∙_}
@@ -16,11 +16,13 @@ use Rattle.signature.specs.declared.VocabularyRefusal.{VocabularyRefusal}
 use Rattle.signature.specs.declared.VocabularyRefusal.the-variants as W
 use Rattle.signature.specs.declared.VocabularyAnswer.{VocabularyAnswer}
 use Rattle.signature.specs.declared.VocabularyAnswer.the-variants as C
-use Rattle.reader.specs.Answers.{termRefused, termNumbers}
+use Rattle.reader.specs.Answers.{termRefused, termNumbers, fillingRefused}
 use Rattle.reader.specs.declared.refusal.TermRefusal.{TermRefusal}
 use Rattle.reader.specs.declared.refusal.TermRefusal.the-variants as T
 use Rattle.reader.specs.declared.TermAnswer.{TermAnswer}
 use Rattle.reader.specs.declared.TermAnswer.the-variants as A
+use Rattle.reader.specs.declared.filling.FillingRefusal.{FillingRefusal}
+use Rattle.reader.specs.declared.filling.FillingRefusal.the-variants as F
 use Rattle.inputs.specs.Answers.{inputsRefused}
 use Rattle.inputs.specs.declared.InputsRefusal.{InputsRefusal}
 use Rattle.inputs.specs.declared.InputsRefusal.the-variants as I
@@ -30,6 +32,9 @@ use Rattle.matcher.specs.declared.MatchAnswer.the-variants as M
 use Rattle.complement.specs.Answers.{listNumbers}
 use Rattle.complement.specs.declared.ListAnswer.{ListAnswer}
 use Rattle.complement.specs.declared.ListAnswer.the-variants as L
+use Rattle.filler.specs.Answers.{fillNumbers}
+use Rattle.filler.specs.declared.FillAnswer.{FillAnswer}
+use Rattle.filler.specs.declared.FillAnswer.the-variants as G
 use Rattle.numbers.specs.Numbers.{replyNumbers, replyIn}
 
 -- ---- refusals
@@ -61,6 +66,12 @@ module _ (k : ℕ) where
   inputs-refused-said (I.Incomplete q) = refl
   inputs-refused-said I.KindsDiffer = refl
 
+  filling-refused-said : (why : FillingRefusal) → replyIn k (replyNumbers (fillingRefused why)) ≡ fillingRefused why
+  filling-refused-said (F.Vocabulary why) = vocabulary-refused-said why
+  filling-refused-said (F.Pattern why) = term-refused-said 1 why
+  filling-refused-said (F.Names n) = refl
+  filling-refused-said (F.Value q) = refl
+
 -- ---- answers
 
 pub vocabulary-said : (a : VocabularyAnswer) → replyIn 0 (replyNumbers (vocabularyNumbers a)) ≡ vocabularyNumbers a
@@ -84,6 +95,12 @@ list-said (L.Vocabulary why) = vocabulary-refused-said 2 why
 list-said (L.Pattern why) = term-refused-said 2 1 why
 list-said (L.Repeated q) = refl
 list-said (L.NoRoom m) = refl
+
+pub fill-said : (a : FillAnswer) → replyIn 1 (replyNumbers (fillNumbers a)) ≡ fillNumbers a
+fill-said (G.Written m) = refl
+fill-said (G.Inputs why) = filling-refused-said 1 why
+fill-said G.TooLarge = refl
+fill-said (G.NoRoom m) = refl
 
 -- ---- by the first number
 

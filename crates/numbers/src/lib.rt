@@ -1,17 +1,20 @@
-// The numbers of document 01's replies. Accepted: 0 and the values, 0 where there is none. Refused: number, input
+// The numbers of the papers' replies. Accepted: 0 and the values, 0 where there is none. Refused: number, input
 // and place.
 ghost use mathlib.Core.Path.{_≡_};
 ghost use mathlib.Core.List.{[], _∷_};
 ghost use Rattle.wire.specs.Reply.{accepted as Reply·accepted, refused as Reply·refused};
 ghost use Rattle.signature.specs.Answers.{vocabularyRefused, vocabularyNumbers};
-ghost use Rattle.reader.specs.Answers.{termRefused, termNumbers};
+ghost use Rattle.reader.specs.Answers.{termRefused, termNumbers, fillingRefused};
 ghost use Rattle.inputs.specs.Answers.{inputsRefused};
 ghost use Rattle.matcher.specs.Answers.{matchNumbers};
 ghost use Rattle.complement.specs.Answers.{listNumbers};
+ghost use Rattle.filler.specs.Answers.{fillNumbers};
 ghost use Rattle.numbers.specs.Numbers.{replyNumbers};
 use complement::ListAnswer;
+use filler::FillAnswer;
 use inputs::InputsRefusal;
 use matcher::MatchAnswer;
+use reader::FillingRefusal;
 use reader::TermAnswer;
 use reader::TermRefusal;
 use signature::VocabularyAnswer;
@@ -78,6 +81,18 @@ fn inputs_refused(why: InputsRefusal) -> Numbers
     }
 }
 
+// Lines 1 to 15, 21 and 22.
+fn filling_refused(why: FillingRefusal) -> Numbers
+    ensures { λ r. ⌜ r ≡ replyNumbers (fillingRefused why) ⌝ }
+{
+    match why {
+        FillingRefusal::Vocabulary(why) => vocabulary_refused(why),
+        FillingRefusal::Pattern(why) => term_refused(1, why),
+        FillingRefusal::Names(n) => refused(21, 4, n as u64),
+        FillingRefusal::Value(q) => refused(22, 4, q as u64),
+    }
+}
+
 // No values.
 pub fn vocabulary_numbers(answer: VocabularyAnswer) -> Numbers
     ensures { λ r. ⌜ r ≡ replyNumbers (vocabularyNumbers answer) ⌝ }
@@ -121,5 +136,17 @@ pub fn list_numbers(answer: ListAnswer) -> Numbers
         ListAnswer::Pattern(why) => term_refused(1, why),
         ListAnswer::Repeated(q) => refused(18, 1, q as u64),
         ListAnswer::NoRoom(bytes) => refused(20, 3, bytes as u64),
+    }
+}
+
+// The value is the result's length.
+pub fn fill_numbers(answer: FillAnswer) -> Numbers
+    ensures { λ r. ⌜ r ≡ replyNumbers (fillNumbers answer) ⌝ }
+{
+    match answer {
+        FillAnswer::Written(bytes) => accepted(bytes as u64, 0),
+        FillAnswer::Inputs(why) => filling_refused(why),
+        FillAnswer::TooLarge => refused(23, 4, 0),
+        FillAnswer::NoRoom(bytes) => refused(20, 3, bytes as u64),
     }
 }

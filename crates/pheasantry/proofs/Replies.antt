@@ -6,10 +6,12 @@ use Rattle.wire.specs.Reply.{Reply}
 use Rattle.wire.specs.Checking.{VocabularyPromise, TermPromise}
 use Rattle.wire.specs.Matching.{MatchPromise}
 use Rattle.wire.specs.Leftovers.{ListPromise}
+use Rattle.wire.specs.Filled.{FillPromise}
 use Rattle.wire.specs.Effect.{HasEffect}
 use Rattle.wire.specs.CheckComputed.{vocabularyReply, termReply}
 use Rattle.wire.specs.MatchComputed.{matched}
 use Rattle.wire.specs.ListComputed.{listed}
+use Rattle.wire.specs.FillComputed.{filled}
 use Rattle.signature.specs.Answers.{vocabularyNumbers}
 use Rattle.signature.specs.declared.VocabularyAnswer.{VocabularyAnswer}
 use Rattle.reader.specs.Answers.{termNumbers}
@@ -18,9 +20,11 @@ use Rattle.matcher.specs.Answers.{matchNumbers}
 use Rattle.matcher.specs.declared.MatchAnswer.{MatchAnswer}
 use Rattle.complement.specs.Answers.{listNumbers}
 use Rattle.complement.specs.declared.ListAnswer.{ListAnswer}
+use Rattle.filler.specs.Answers.{fillNumbers}
+use Rattle.filler.specs.declared.FillAnswer.{FillAnswer}
 use Rattle.numbers.specs.Numbers.{replyNumbers, replyIn}
-use Rattle.numbers.proofs.Said.{vocabulary-said, term-said, match-said, list-said}
-use Rattle.pheasantry.specs.Replies.{VocabularyReplied, TermReplied, MatchReplied, ListReplied}
+use Rattle.numbers.proofs.Said.{vocabulary-said, term-said, match-said, list-said, fill-said}
+use Rattle.pheasantry.specs.Replies.{VocabularyReplied, TermReplied, MatchReplied, ListReplied, FillReplied}
 
 -- The numbers of an answer that can be read back are those of the reply that they say.
 formed : (k : ℕ) {numbers : List ℕ} (r : Reply) → numbers ≡ replyNumbers r → replyIn k (replyNumbers r) ≡ r →
@@ -56,5 +60,14 @@ pub list-replied : {v p before after numbers : List ℕ} (a : ListAnswer) → nu
 list-replied {v} {p} {before} {after} a e (promise, shown) =
     let f = formed 2 (listNumbers a) e (list-said a) in (
       record { form = f .0; promise = subst (ListPromise v p before after) (sym (f .1)) promise },
+      record { reply = f .1 ∙ shown .reply; after = shown .after },
+    )
+
+pub fill-replied : {v p b before after numbers : List ℕ} (a : FillAnswer) → numbers ≡ replyNumbers (fillNumbers a) →
+    FillPromise v p b before after (fillNumbers a) × HasEffect (filled v p b before) (fillNumbers a) after →
+    FillReplied v p b before after numbers × HasEffect (filled v p b before) (replyIn 1 numbers) after
+fill-replied {v} {p} {b} {before} {after} a e (promise, shown) =
+    let f = formed 1 (fillNumbers a) e (fill-said a) in (
+      record { form = f .0; promise = subst (FillPromise v p b before after) (sym (f .1)) promise },
       record { reply = f .1 ∙ shown .reply; after = shown .after },
     )

@@ -5,6 +5,7 @@
 --   MatchReplied           what match promises
 --   PartReplied            what part promises
 --   ListReplied            what list promises
+--   FillReplied            what fill promises
 --
 -- In each, `form` says that the numbers are those of the reply that they say, and `promise` is what the call
 -- promises of that reply.
@@ -16,6 +17,7 @@ use Rattle.wire.specs.Reply.{accepted}
 use Rattle.wire.specs.Checking.{VocabularyPromise, TermPromise}
 use Rattle.wire.specs.Matching.{cutOut, MatchPromise, PartPromise}
 use Rattle.wire.specs.Leftovers.{ListPromise}
+use Rattle.wire.specs.Filled.{FillPromise}
 use Rattle.numbers.specs.Numbers.{replyNumbers, replyIn, spanSaid}
 
 pub record VocabularyReplied (v numbers : List ℕ) : Type 0 where
@@ -38,3 +40,7 @@ pub record PartReplied (v p s : List ℕ) (n : ℕ) (numbers : List ℕ) : Type 
 pub record ListReplied (v p before after numbers : List ℕ) : Type 0 where
   pub form : numbers ≡ replyNumbers (replyIn 2 numbers)
   pub promise : ListPromise v p before after (replyIn 2 numbers)
+
+pub record FillReplied (v p b before after numbers : List ℕ) : Type 0 where
+  pub form : numbers ≡ replyNumbers (replyIn 1 numbers)
+  pub promise : FillPromise v p b before after (replyIn 1 numbers)

@@ -1,11 +1,12 @@
-// The calls of document 01 for other languages: each answers in the numbers of the crate `numbers`.
+// The calls of the papers for other languages: each answers in the numbers of the crate `numbers`.
 ghost use mathlib.Core.Path.{_≡_};
 ghost use Rattle.wire.specs.Effect.{HasEffect};
 ghost use Rattle.wire.specs.CheckComputed.{vocabularyReply, termReply};
 ghost use Rattle.wire.specs.MatchComputed.{matched, partSpan};
 ghost use Rattle.wire.specs.ListComputed.{listed};
+ghost use Rattle.wire.specs.FillComputed.{filled};
 ghost use Rattle.numbers.specs.Numbers.{replyIn, spanSaid};
-ghost use Rattle.pheasantry.specs.Replies.{VocabularyReplied, TermReplied, MatchReplied, PartReplied, ListReplied};
+ghost use Rattle.pheasantry.specs.Replies.{VocabularyReplied, TermReplied, MatchReplied, PartReplied, ListReplied, FillReplied};
 use numbers::Numbers;
 
 fn wide(x: u16) -> u64
@@ -87,4 +88,20 @@ pub extern "C" fn pheasantry_list(
     ensures { λ _. ⌜ HasEffect (listed (now (vocabulary .entry)) (now (pattern .entry)) (now (out .entry))) (replyIn 2 (now (reply .exit))) (now (out .exit)) ⌝ }
 {
     *reply = numbers::list_numbers(complement::list(vocabulary, pattern, out));
+}
+
+// Writes a pattern with each name replaced, by a filling file, into out. The value is the result's length. A refusal
+// leaves out as it was.
+#[no_mangle]
+pub extern "C" fn pheasantry_fill(
+    vocabulary: &[u8],
+    pattern: &[u8],
+    filling: &[u8],
+    out: &mut [u8],
+    reply: &mut Numbers,
+)
+    ensures { λ _. ⌜ FillReplied (now (vocabulary .entry)) (now (pattern .entry)) (now (filling .entry)) (now (out .entry)) (now (out .exit)) (now (reply .exit)) ⌝ }
+    ensures { λ _. ⌜ HasEffect (filled (now (vocabulary .entry)) (now (pattern .entry)) (now (filling .entry)) (now (out .entry))) (replyIn 1 (now (reply .exit))) (now (out .exit)) ⌝ }
+{
+    *reply = numbers::fill_numbers(filler::fill(vocabulary, pattern, filling, out));
 }

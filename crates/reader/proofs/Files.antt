@@ -27,13 +27,14 @@ use Rattle.wire.specs.FillComputed.{readValues, unlike, line22, line21, readFil
 use Rattle.wire.proofs.Cond.{cond-true, cond-false}
 use Rattle.wire.proofs.Matching.{not-accepted}
 use Rattle.wire.proofs.NameMaps.{unlike-same, unlike-some}
+use Rattle.namemaps.specs.Difference.{DifferenceAt}
 use Rattle.signature.specs.Answers.{vocabularyRefused}
 use Rattle.signature.specs.Tables.{vocabularyIn}
 use Rattle.signature.specs.declared.VocabularyRefusal.{VocabularyRefusal}
 use Rattle.reader.specs.Answers.{fillingRefused, fillingNumbers}
 use Rattle.reader.specs.Names.{TableOf}
 use Rattle.reader.specs.Nodes.{numberOf, placeOf}
-use Rattle.reader.specs.Fillings.{valuesIn, ValuesRead, FileTold, FileRead, DifferenceAt}
+use Rattle.reader.specs.Fillings.{valuesIn, ValuesRead, FileTold, FileRead}
 use Rattle.reader.specs.Values.{FillingTold, FillingRead}
 use Rattle.reader.specs.Whole.{toldBy, told}
 use Rattle.reader.specs.declared.refusal.TermRefusal.{TermRefusal}

@@ -15,7 +15,6 @@ pub mod Places
 -- The values of a filling file.
 pub mod Faults
 pub mod Values
-pub mod NameBits
 pub mod Listed
 pub mod Tabling
 -- A term that is handed to a call, and the vocabulary's check and the terms' together.

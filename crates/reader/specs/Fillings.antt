@@ -13,7 +13,6 @@
 --   TablesTo                tables that tell of the names below n where the values begin and end, and how many levels they have
 --   ValuesRead              what reading the values gives
 --   FileTold, FileRead      what reading a filling file for a pattern with that table of names gives
---   DifferenceAt b names n  n is the lowest name at which the map at the front of b and the table differ; 64 where none is
 --
 use mathlib.Core.Path.{_≡_}
 use mathlib.Core.Bool.{true, false}
@@ -31,7 +30,6 @@ use Rattle.wire.specs.Matching.{size}
 use Rattle.wire.specs.Parser.{Reading, accept, got, stop}
 use Rattle.wire.specs.CheckComputed.{replyOf}
 use Rattle.wire.specs.FillingFile.{nameMapBytes}
-use Rattle.wire.specs.FillingLines.{nameStands}
 use Rattle.wire.specs.FillComputed.{readValues, line22, readFilling, ValuesIn}
 use Rattle.signature.specs.Tables.{Tabled, vocabularyIn}
 use Rattle.reader.specs.Full.{NotFull}
@@ -101,8 +99,3 @@ pub record FileTold (W : Vocabulary) (s : ℕ) (t : Term) (b starts depths : Lis
 
 abbrev pub FileRead : List ℕ → List ℕ → List ℕ → List ℕ → List ℕ → FillingAnswer → Type 0
 FileRead v b names starts depths r = (s : ℕ) (t : Term) → TableOf (vocabularyIn v) s t names → FileTold (vocabularyIn v) s t b starts depths r
-
-pub record DifferenceAt (b names : List ℕ) (n : ℕ) : Type 0 where
-  pub upTo : n ≤ nameCount
-  pub alike : (m : ℕ) → m < n → nameStands b m ≡ listed names m
-  pub differs : n < nameCount → nameStands b n ≡ listed names n → ⊥

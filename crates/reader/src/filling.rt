@@ -1,12 +1,8 @@
 // Document 02's filling file: the map of a pattern's names, and a complete term for each of them.
-ghost use mathlib.Core.Path.{_≡_};
-ghost use mathlib.Core.Bool.{cond};
-ghost use Prim.Native.Nat.{_+_, _/_, _%_, _<_, _≤_};
-ghost use lib.Dec.{eqb, ltb};
-ghost use lib.ListN.{length, getD};
-ghost use Rattle.wire.specs.FillComputed.{apart};
+ghost use Prim.Native.Nat.{_+_, _<_, _≤_};
+ghost use lib.ListN.{length};
 ghost use Rattle.signature.specs.Tables.{Tables};
-ghost use Rattle.reader.specs.Fillings.{FaultAt, ValueRead, EntryRead, DifferenceAt, ValuesRead, FileRead};
+ghost use Rattle.reader.specs.Fillings.{FaultAt, ValueRead, EntryRead, ValuesRead, FileRead};
 use crate::cursor;
 use crate::frame;
 use crate::node;
@@ -117,46 +113,6 @@ fn read_entry<'a>(
     read_value(v, b, from, kind as u8, words, offsets, results, maps)
 }
 
-// The bits of a filling file's map from a name on, the lowest being the name's own: those left of its byte, or the next byte.
-fn bits_from(b: &[u8], n: usize, left: u8) -> u8
-    requires { ⌜ (8 ≤ length (now b)) × (n < 64) ⌝ }
-    ensures { λ r. ⌜ r ≡ cond (eqb (n % 8) 0) (getD (now (b .entry)) (n / 8) 0) left ⌝ }
-{
-    if n % 8 == 0 {
-        return b[n / 8];
-    }
-    left
-}
-
-// Whether the lowest bit and the entry of a table of names differ. A name without a kind has the entry 256.
-fn differs(bits: u8, kind: u16) -> bool
-    ensures { λ r. ⌜ r ≡ apart (eqb (bits % 2) 1) (ltb kind 256) ⌝ }
-{
-    if bits % 2 == 1 {
-        return !(kind < 256);
-    }
-    kind < 256
-}
-
-// The lowest name at which the map at the front of a filling file and the table of a pattern's names differ; 64 where they
-// are the same.
-fn first_difference(b: &[u8], names: &[u16; 64]) -> usize
-    requires { ⌜ 8 ≤ length (now b) ⌝ }
-    ensures { λ r. ⌜ DifferenceAt (now (b .entry)) (now (names .entry)) r ⌝ }
-{
-    let mut left = 0u8;
-    let mut n = 0usize;
-    while n < 64 {
-        let bits = bits_from(b, n, left);
-        if differs(bits, names[n]) {
-            return n;
-        }
-        left = bits / 2;
-        n += 1;
-    }
-    n
-}
-
 // Reads a complete term for each name of the table, ascending, and sees that nothing follows the last. The value of name n
 // begins at the n-th start and ends at the next; its levels are noted too.
 fn read_values<'a>(
@@ -215,7 +171,7 @@ pub(crate) fn read_file<'a>(
     if b.len() < 8 {
         return FillingAnswer::Refused(FillingRefusal::Names(0));
     }
-    let n = first_difference(b, names);
+    let n = namemaps::first_difference(b, names);
     if n < 64 {
         return FillingAnswer::Refused(FillingRefusal::Names(n));
     }

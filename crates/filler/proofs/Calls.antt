@@ -1,0 +1,144 @@
+-- Calls: the whole call from its parts.
+--
+--   promised                    what is computed keeps the promise
+--   Found, found                inputs in order, with the tables of their values
+--   fill-refused                where the inputs are refused, so is fill, in the same way
+--   ready, measurable, writable what measuring and writing ask for
+--   fill-large, fill-short, fill-written    the answers then, by what was measured
+--
+use mathlib.Core.Path.{_≡_, refl, sym, ap, _∙_, subst, subst₂}
+use mathlib.Core.Bool.{Bool, true, false, cond}
+use mathlib.Core.List.{List, [], _∷_, _++_}
+use Prim.Native.Nat.{ℕ, _+_, _<_, _≤_}
+use native.Mathlib.Omega.{arith}
+use lib.ListN.{length, drop}
+use Rattle.wire.specs.Reply.{Reply, accepted, refused, IsBytes}
+use Rattle.wire.specs.TermBytes.{mostBytes}
+use Rattle.wire.specs.Effect.{Effect, HasEffect}
+use Rattle.wire.specs.VocabularyLines.{byteAt}
+use Rattle.wire.specs.Filled.{FillInputs, HoldsFillInputs, filledBytes, FillPromise}
+use Rattle.wire.specs.FillComputed.{FillJudged, fillable, refusal, fillJudged, fillClear, ValuesIn, large, filledWith, filled}
+use Rattle.wire.proofs.Bytes.{bytes-of}
+use Rattle.wire.proofs.FillJudging.{fillable-held}
+use Rattle.wire.proofs.FillKeeps.{within-is, with-large, with-short, with-room, fill-keeps}
+use Rattle.wire.proofs.Matching.{not-accepted}
+use Rattle.reader.specs.Values.{FillingRead}
+use Rattle.reader.specs.Answers.{fillingRefused, fillingNumbers}
+use Rattle.reader.specs.Nodes.{numberOf, placeOf}
+use Rattle.reader.specs.declared.filling.FillingRefusal.{FillingRefusal}
+use Rattle.reader.specs.declared.filling.FillingRefusal.the-variants as F
+use Rattle.reader.specs.declared.filling.FillingAnswer.{FillingAnswer}
+use Rattle.reader.specs.declared.filling.FillingAnswer.the-variants as G
+use Rattle.reader.proofs.Calls.{refused-never}
+use Rattle.reader.proofs.Told.{refusal-reply}
+use Rattle.filler.specs.Ready.{Ready, Measurable, measured, MostLevels, Writable, WritesResult}
+use Rattle.filler.proofs.Reach.{measurable-wider, measurable-reach}
+
+never-accepted : (why : FillingRefusal) → fillingRefused why ≡ accepted [] → ⊥
+never-accepted (F.Vocabulary why) e = refused-never why [] e
+never-accepted (F.Pattern why) e = not-accepted (numberOf why) 1 (placeOf why) [] (sym (refusal-reply 1 why) ∙ e)
+never-accepted (F.Names n) e = not-accepted 21 4 n [] e
+never-accepted (F.Value q) e = not-accepted 22 4 q [] e
+
+-- The bytes of the three inputs.
+pub record Bytes (v p b : List ℕ) : Type 0 where
+  pub vocabulary : IsBytes v
+  pub pattern : IsBytes p
+  pub filling : IsBytes b
+
+pub bytes-all : {v p b : List ℕ} → ((i : ℕ) → byteAt v i < 256) → ((i : ℕ) → byteAt p i < 256) → ((i : ℕ) → byteAt b i < 256) → Bytes v p b
+bytes-all {v} {p} {b} hv hp hb = record { vocabulary = bytes-of v hv; pattern = bytes-of p hp; filling = bytes-of b hb }
+
+-- What a call is to show.
+abbrev pub Shown : List ℕ → List ℕ → List ℕ → List ℕ → List ℕ → Reply → Type 0
+Shown v p b out after r = FillPromise v p b out after r × HasEffect (filled v p b out) r after
+
+-- Inputs in order, and the tables of their values.
+pub record Found (v p b starts depths : List ℕ) : Type 0 where
+  pub inputs : FillInputs
+  pub judged : fillJudged v p b ≡ fillable inputs
+  pub values : ValuesIn inputs starts depths
+
+pub found : {v p b starts depths : List ℕ} {r : FillingAnswer} → FillingRead v p b starts depths r → r ≡ G.Read → Found v p b starts depths
+found {v} {p} {b} {starts} {depths} read e = go (fillJudged v p b) refl (sym (ap fillingNumbers e) ∙ read .answer)
+  where
+    go : (j : FillJudged) → fillJudged v p b ≡ j → accepted [] ≡ fillClear j → Found v p b starts depths
+    go (fillable x) k h = record { inputs = x; judged = k; values = read .read x k }
+    go (refusal n i q) k h = absurd (not-accepted n i q [] (sym h))
+
+module _ {v p b : List ℕ} (bytes : Bytes v p b) (out : List ℕ) where
+  promised : (r : Reply) (after : List ℕ) → filled v p b out ≡ record { reply = r; after = after } → Shown v p b out after r
+  promised r after e = (
+    subst (λ (x : Effect). FillPromise v p b out (x .after) (x .reply)) e
+        (fill-keeps v p b out (bytes .vocabulary) (bytes .pattern) (bytes .filling)),
+    record { reply = sym (ap (λ (x : Effect). x .reply) e); after = sym (ap (λ (x : Effect). x .after) e) },
+  )
+
+  pub fill-refused : {starts depths : List ℕ} {r : FillingAnswer} → FillingRead v p b starts depths r → (why : FillingRefusal) → r ≡ G.Refused why →
+      Shown v p b out out (fillingRefused why)
+  fill-refused read why e =
+      promised (fillingRefused why) out (go (fillJudged v p b) (sym (ap fillingNumbers e) ∙ read .answer))
+    where
+      go : (j : FillJudged) → fillingRefused why ≡ fillClear j → filledWith out j ≡ record { reply = fillingRefused why; after = out }
+      go (fillable x) h = absurd (never-accepted why h)
+      go (refusal n i q) h = ap (λ r. record { reply = r; after = out }) (sym h)
+
+  module _ {starts depths : List ℕ} (f : Found v p b starts depths) where
+    abbrev x : FillInputs
+    x = f .inputs
+
+    abbrev pub ready : Ready p b starts depths
+    ready = record {
+      vocabulary = v;
+      inputs = x;
+      held = fillable-held v p b out (bytes .vocabulary) (bytes .pattern) (bytes .filling) x (f .judged);
+      values = f .values;
+    }
+
+    -- A pattern has at most 32 levels, and a name is one of them.
+    abbrev pub measurable : {most reach : ℕ} → MostLevels depths most → reach ≡ 31 + most → Measurable p starts depths reach
+    measurable m e = measurable-wider (measurable-reach ready m (ready .held .pattern .limits .levels)) (omega arith)
+
+    -- What is measured.
+    abbrev pub length? : ℕ
+    length? = cond (large x) 4097 (length (filledBytes x))
+
+    pub size-known : {most reach n : ℕ} → MostLevels depths most → reach ≡ 31 + most → ((a : Measurable p starts depths reach) → n ≡ measured a) → n ≡ length?
+    size-known m e h = h (measurable m e)
+
+    -- The number that was measured tells whether the result is within the limits.
+    over : (n : ℕ) → n ≡ length? → mostBytes < n → large x ≡ true
+    over n e h = go (large x) refl e
+      where
+        go : (c : Bool) → large x ≡ c → n ≡ cond c 4097 (length (filledBytes x)) → large x ≡ true
+        go true k e = k
+        go false k e = let most = within-is (x .vocabulary) (x .kind) (x .pattern) (x .values) k .most in absurd (omega arith)
+
+    pub under : (n : ℕ) → n ≡ length? → n ≤ mostBytes → (large x ≡ false) × (n ≡ length (filledBytes x))
+    under n e h = go (large x) refl e
+      where
+        go : (c : Bool) → large x ≡ c → n ≡ cond c 4097 (length (filledBytes x)) → (large x ≡ false) × (n ≡ length (filledBytes x))
+        go true k e = absurd (omega arith)
+        go false k e = (k, e)
+
+    pub fill-large : (n : ℕ) → n ≡ length? → mostBytes < n → Shown v p b out out (refused 23 4 0)
+    fill-large n e h = promised (refused 23 4 0) out (ap (filledWith out) (f .judged) ∙ with-large out x (over n e h))
+
+    pub fill-short : (n : ℕ) → n ≡ length? → n ≤ mostBytes → length out < n → Shown v p b out out (refused 20 3 n)
+    fill-short n e h short =
+        let k = under n e h in
+        subst (λ m. Shown v p b out out (refused 20 3 m)) (sym (k .1))
+        (promised (refused 20 3 (length (filledBytes x))) out
+        (ap (filledWith out) (f .judged) ∙ with-short out x (k .0) (subst (λ m. length out < m) (k .1) short)))
+
+    abbrev pub writable : (n : ℕ) → n ≡ length? → n ≤ mostBytes → n ≤ length out → Writable p b starts (length out)
+    writable n e h room = record { depths = depths; ready = ready; fits = subst (λ m. m ≤ length out) (under n e h .1) room }
+
+    pub fill-written : (n : ℕ) → n ≡ length? → n ≤ mostBytes → n ≤ length out → (after : List ℕ) →
+        WritesResult p b starts out after → Shown v p b out after (accepted (n ∷ []))
+    fill-written n e h room after writes =
+        let k = under n e h in
+        let written = writes (writable n e h room) in
+        subst₂ (λ m l. Shown v p b out l (accepted (m ∷ []))) (sym (k .1)) (sym written)
+        (promised (accepted (length (filledBytes x) ∷ [])) (filledBytes x ++ drop (length (filledBytes x)) out)
+        (ap (filledWith out) (f .judged) ∙ with-room out x (k .0) (subst (λ m. m ≤ length out) (k .1) room)))
