@@ -42,19 +42,19 @@ use Rattle.reader.proofs.Told.{Begun, rootRun, checked-root}
 -- ---- entries
 
 -- What the test of an entry tells of it.
-clashing-none : (k s : ℕ) → clashing k s ≡ false → (k ≡ 256 → ⊥) → k ≡ s
+clashing-none : (k s : ℕ) → clashing k s ≡ false → (k ≡ 65535 → ⊥) → k ≡ s
 clashing-none k s e other = go (eqb k s) refl
   where
     go : (b : Bool) → eqb k s ≡ b → k ≡ s
     go true h = eqb-true k s h
-    go false h = absurd (true≢false (rw (ne-eqb k 256 other, h) at e))
+    go false h = absurd (true≢false (rw (ne-eqb k 65535 other, h) at e))
 
-clashing-some : (k s : ℕ) → clashing k s ≡ true → k ≡ 256 → ⊥
-clashing-some k s e h = go (eqb k 256) refl
+clashing-some : (k s : ℕ) → clashing k s ≡ true → k ≡ 65535 → ⊥
+clashing-some k s e h = go (eqb k 65535) refl
   where
-    go : (b : Bool) → eqb k 256 ≡ b → ⊥
+    go : (b : Bool) → eqb k 65535 ≡ b → ⊥
     go true q = false≢true (rw q at e)
-    go false q = eqb-false k 256 q h
+    go false q = eqb-false k 65535 q h
 
 module _ (names : List ℕ) (seen : List Occurrence) (named : Named names seen) (n : ℕ) (below : n < 64) where
   -- A name that stands has the kind at which it stands.
@@ -79,8 +79,8 @@ module _ (names : List ℕ) (seen : List Occurrence) (named : Named names seen) 
         (clashing-some (getD names n 0) (suc k) (sym (named-clash names seen n (suc k) below named) ∙ other-clash (suc k) (λ e. omega arith)))
 
   -- One that does not has none.
-  pub named-absent : occurs n (map (λ o. o .name) seen) ≡ false → getD names n 0 ≡ 256
-  named-absent h = go (eqb (getD names n 0) 256) refl
+  pub named-absent : occurs n (map (λ o. o .name) seen) ≡ false → getD names n 0 ≡ 65535
+  named-absent h = go (eqb (getD names n 0) 65535) refl
     where
       entry : ℕ
       entry = getD names n 0
@@ -91,10 +91,10 @@ module _ (names : List ℕ) (seen : List Occurrence) (named : Named names seen) 
           (all-implies (λ o. n ≡ o .name → ⊥) (λ o. Agree o (record { name = n; sort = suc entry })) (λ o k e. absurd (k (sym e))) seen
           (all-other (λ o. o .name) n seen h))
 
-      go : (b : Bool) → eqb entry 256 ≡ b → entry ≡ 256
-      go true e = eqb-true entry 256 e
+      go : (b : Bool) → eqb entry 65535 ≡ b → entry ≡ 65535
+      go true e = eqb-true entry 65535 e
       go false e =
-          let z = clashing-none entry (suc entry) (sym (named-clash names seen n (suc entry) below named) ∙ none) (eqb-false entry 256 e) in
+          let z = clashing-none entry (suc entry) (sym (named-clash names seen n (suc entry) below named) ∙ none) (eqb-false entry 65535 e) in
           absurd (omega arith)
 
 -- ---- the table of a term

@@ -18,14 +18,14 @@ use Rattle.terms.specs.Term.{Occurrence}
 use Rattle.wire.specs.Parser.{clash}
 use Rattle.reader.specs.Names.{clashing, Named}
 
-pub clashing-new : (k s : ℕ) → k ≡ 256 → false ≡ clashing k s
-clashing-new k s e = rw (eq-eqb k 256 e)
+pub clashing-new : (k s : ℕ) → k ≡ 65535 → false ≡ clashing k s
+clashing-new k s e = rw (eq-eqb k 65535 e)
 
 pub clashing-same : (k s : ℕ) → k ≡ s → false ≡ clashing k s
-clashing-same k s e = rw (eq-eqb k s e) (sym (and-false (not (eqb k 256))))
+clashing-same k s e = rw (eq-eqb k s e) (sym (and-false (not (eqb k 65535))))
 
-pub clashing-other : (k s : ℕ) → (k ≡ 256 → ⊥) → (k ≡ s → ⊥) → true ≡ clashing k s
-clashing-other k s d e = rw (ne-eqb k 256 d, ne-eqb k s e)
+pub clashing-other : (k s : ℕ) → (k ≡ 65535 → ⊥) → (k ≡ s → ⊥) → true ≡ clashing k s
+clashing-other k s d e = rw (ne-eqb k 65535 d, ne-eqb k s e)
 
 clash-append : (seen : List Occurrence) (o : Occurrence) (n s : ℕ) →
     clash (seen ++ (o ∷ [])) n s ≡ (clash seen n s || (eqb (o .name) n && not (eqb (o .sort) s)))
@@ -39,18 +39,18 @@ unfolding Named
 named-clash names seen n s h named = named n s h
 
 -- No name has stood yet.
-pub named-none : Named (replicate 64 256) []
+pub named-none : Named (replicate 64 65535) []
 unfolding Named
-named-none n s h = sym (ap (λ k. clashing k s) (getD-replicate 64 n 256 0 h))
+named-none n s h = sym (ap (λ k. clashing k s) (getD-replicate 64 n 65535 0 h))
 
 -- A name at a kind that agrees with its entry, which is that kind from then on.
 same-name : (k j s : ℕ) → k < 256 → clashing j k ≡ false → (clashing j s || not (eqb k s)) ≡ clashing k s
-same-name k j s small agrees = go (eqb j 256) (eqb j k) refl refl
+same-name k j s small agrees = go (eqb j 65535) (eqb j k) refl refl
   where
-    new : eqb k 256 ≡ false
-    new = ne-eqb k 256 (λ e. omega arith)
+    new : eqb k 65535 ≡ false
+    new = ne-eqb k 65535 (λ e. omega arith)
 
-    go : (b c : Bool) → eqb j 256 ≡ b → eqb j k ≡ c → (clashing j s || not (eqb k s)) ≡ clashing k s
+    go : (b c : Bool) → eqb j 65535 ≡ b → eqb j k ≡ c → (clashing j s || not (eqb k s)) ≡ clashing k s
     go true c p q = rw (p, new)
     go false true p q = rw (p, new, eqb-true j k q) (or-self (not (eqb k s)))
     go false false p q = absurd (true≢false (sym (ap₂ (λ a b. not a && not b) p q) ∙ agrees))

@@ -156,7 +156,7 @@ pub record Begun (W : Vocabulary) (t : List ℕ) : Type 0 where
 pub checked-root : (W : Vocabulary) (s : ℕ) (l : List ℕ) → Begun W (s ∷ l) → checkedTerm W (s ∷ l) ≡ line15 (s ∷ l) s (readTerm W mostLevels true s [] l)
 checked-root W s l x = checked-sized W (s ∷ l) (x .long) (x .short) ∙ known-whole W s l (x .known)
 
-module _ (v t names : List ℕ) (r : Answer) (x : Begun (vocabularyIn v) t) (reads : TermRead v t 1 (getD t 0 0) (replicate 64 256) names r) where
+module _ (v t names : List ℕ) (r : Answer) (x : Begun (vocabularyIn v) t) (reads : TermRead v t 1 (getD t 0 0) (replicate 64 65535) names r) where
   told-run : toldScan t (rootRun (vocabularyIn v) t) ≡ told (vocabularyIn v) t
   told-run = kind-known (vocabularyIn v) t (x .inOrder) (x .bytes) (x .long) (x .known) ∙ sized (vocabularyIn v) t (x .long) (x .short)
 

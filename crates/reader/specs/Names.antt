@@ -19,9 +19,9 @@ use Rattle.wire.specs.TermBytes.{nameCount}
 use Rattle.wire.specs.FillingLines.{sortIn}
 use Rattle.wire.specs.Parser.{clash}
 
--- A name that has not stood yet has the entry 256.
+-- A name that has not stood yet has the entry 65535.
 abbrev pub clashing : ℕ → ℕ → Bool
-clashing k s = not (eqb k 256) && not (eqb k s)
+clashing k s = not (eqb k 65535) && not (eqb k s)
 
 unfoldable pub Named : List ℕ → List Occurrence → Type 0
 Named names seen = (n s : ℕ) → n < 64 → clash seen n s ≡ clashing (getD names n 0) s

@@ -141,7 +141,7 @@ fn read_pattern_filling<'a>(
     requires { ⌜ Tables (now v) words (now offsets) (now results) (now maps) ⌝ }
     ensures { λ r. ⌜ PatternFilling (now (v .entry)) (now (pattern .entry)) (now (filling .entry)) (now (starts .exit)) (now (depths .exit)) r ⌝ }
 {
-    let mut names = [256u16; 64];
+    let mut names = [65535u16; 64];
     match whole::read_named(v, pattern, &mut names, words, offsets, results, maps) {
         Whole::Refused(why) => FillingAnswer::Refused(FillingRefusal::Pattern(why)),
         Whole::Read(_) => filling::read_file(

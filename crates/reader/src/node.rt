@@ -68,11 +68,11 @@ pub(crate) fn node_at<'a>(
     Node::Name(b - 128)
 }
 
-// Whether a name stood at another kind. One that has not stood yet has the entry 256.
+// Whether a name stood at another kind. One that has not stood yet has the entry 65535.
 pub(crate) fn clashes(before: u16, kind: u8) -> bool
     ensures { λ r. ⌜ r ≡ clashing before kind ⌝ }
 {
-    if before == 256 {
+    if before == 65535 {
         return false;
     }
     if before == (kind as u16) {

@@ -34,7 +34,7 @@ pub(crate) fn read_named<'a>(
     maps: &'a [u8; 96],
 ) -> Whole
     requires { ⌜ Tables (now v) words (now offsets) (now results) (now maps) ⌝ }
-    requires { ⌜ now names ≡ replicate 64 256 ⌝ }
+    requires { ⌜ now names ≡ replicate 64 65535 ⌝ }
     ensures { λ r. ⌜ WholeRead (vocabularyIn (now (v .entry))) (now (t .entry)) (now (names .exit)) r ⌝ }
 {
     if t.len() < 2 {
@@ -75,6 +75,6 @@ pub(crate) fn read<'a>(
     requires { ⌜ Tables (now v) words (now offsets) (now results) (now maps) ⌝ }
     ensures { λ r. ⌜ wholeTold r ≡ told (vocabularyIn (now (v .entry))) (now (t .entry)) ⌝ }
 {
-    let mut names = [256u16; 64];
+    let mut names = [65535u16; 64];
     read_named(v, t, &mut names, words, offsets, results, maps)
 }

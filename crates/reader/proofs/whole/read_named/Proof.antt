@@ -33,7 +33,7 @@ begun c =
 
 reads : (c : tie.After-read-term) →
     let a = c .before .before .before .before .before .before .before .before .before .args in
-    TermRead (now (a .v)) (now (a .t)) 1 (getD (now (a .t)) 0 0) (replicate 64 256) (c .read-term .last .1 .1 .1 .1 .0) (c .read-term .result)
+    TermRead (now (a .v)) (now (a .t)) 1 (getD (now (a .t)) 0 0) (replicate 64 65535) (c .read-term .last .1 .1 .1 .1 .0) (c .read-term .result)
 reads c =
     let start = c .before .before .before .before .before .before .before .before .before in
     subst (λ l. TermRead (now (start .args .v)) (now (start .args .t)) 1 (getD (now (start .args .t)) 0 0) l (c .read-term .last .1 .1 .1 .1 .0) (c .read-term .result)) (start .pre .1)
