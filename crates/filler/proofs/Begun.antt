@@ -11,7 +11,7 @@
 --
 use mathlib.Core.Path.{_≡_, refl, sym, ap, subst, _∙_}
 use mathlib.Core.List.{List, [], _∷_, _++_, append-nil, append-assoc}
-use Prim.Native.Nat.{ℕ, _+_, _-_, _<_, _≤_}
+use Prim.Native.Nat.{ℕ, _+_, _-_, _%_, _<_, _≤_}
 use native.Mathlib.Omega.{arith}
 use lib.ListN.{length, getD, drop, set, length-append, length-set, drop-of-length-le}
 use lib.Seq.{drop-set-lt}
@@ -128,15 +128,30 @@ module _ {p b starts before out : List ℕ} {n i : ℕ} (h : Begun p b starts be
       size : length (g (c - 128)) ≡ to - from
       size = cut-size a (c - 128) (omega arith)
 
-      pub name-room : Puttable b from to out n
-      name-room = record {
+      room-here : Puttable b from to out n
+      room-here = record {
         up = starts-up a (c - 128) (omega arith);
         inside = starts-inside a (c - 128 + 1) (omega arith);
         room = omega (arith, begun-length, h .written .count, size, begun-room _ _ (pass-name p i inside low high));
       }
 
-      pub begun-name : {after : List ℕ} → PutsValue b from to out n after → Begun p b starts before (n + (to - from)) (i + 1) after
-      begun-name w = begun-more _ _ (pass-name p i inside low high) refl (written-put (h .written) (g (c - 128)) w)
+      begun-here : {after : List ℕ} → PutsValue b from to out n after → Begun p b starts before (n + (to - from)) (i + 1) after
+      begun-here w = begun-more _ _ (pass-name p i inside low high) refl (written-put (h .written) (g (c - 128)) w)
+
+      -- The same of its number by the remainder, which is below 64 whatever byte it is.
+      number : c % 64 ≡ c - 128
+      number = omega arith
+
+      pub name-room : Puttable b (getD starts (c % 64) 0) (getD starts (c % 64 + 1) 0) out n
+      name-room = subst (λ m. Puttable b (getD starts m 0) (getD starts (m + 1) 0) out n) (sym number) room-here
+
+      pub begun-name : {after : List ℕ} → PutsValue b (getD starts (c % 64) 0) (getD starts (c % 64 + 1) 0) out n after →
+          Begun p b starts before (n + (getD starts (c % 64 + 1) 0 - getD starts (c % 64) 0)) (i + 1) after
+      begun-name {after} =
+          subst
+          (λ m.
+          PutsValue b (getD starts m 0) (getD starts (m + 1) 0) out n after →
+          Begun p b starts before (n + (getD starts (m + 1) 0 - getD starts m 0)) (i + 1) after) (sym number) begun-here
 
     module _ (high : 192 ≤ c) where
       pub byte-room : n < length out

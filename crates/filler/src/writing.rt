@@ -35,7 +35,7 @@ pub(crate) fn write(p: &[u8], b: &[u8], starts: &[usize; 65], out: &mut [u8])
         } else {
             i += 1;
             if c < 192 {
-                let name = (c as usize) - 128;
+                let name = (c as usize) % 64;
                 let from = starts[name];
                 let to = starts[name + 1];
                 put_value(b, from, to, out, at);

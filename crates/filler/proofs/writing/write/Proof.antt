@@ -83,10 +83,9 @@ add-i-2 : tie.Need-add-i-2 Inv-loop μ-loop
 add-i-2 c = search needs
 
 cast-name : tie.Need-cast-name Inv-loop μ-loop
-cast-name c = search needs
-
-sub-name : tie.Need-sub-name Inv-loop μ-loop
-sub-name c = search needs
+cast-name c =
+    let known = c .before .before in
+    record { fits = omega (arith, known .shared-slice-known4 .given (known .before .before .loop .i) .fits) }
 
 mul-from : tie.Need-mul-from Inv-loop μ-loop
 mul-from c = search needs
@@ -202,7 +201,6 @@ write-spec =
     loop-again
     add-i-2
     cast-name
-    sub-name
     mul-from
     element-copy-out-from
     add-to
