@@ -70,6 +70,12 @@ module _ (from to : List ℕ) (n : ℕ) (long : n ≤ length from) where
       ∙ ap₂ (λ a b. a ++ take w (drop at from) ++ b) (front i at h k) (behind i k)
       ∙ ap (λ a. a ++ drop n to) (sym (take-add at w from) ∙ ap (λ m. take m from) e)
 
+-- Two blocks of one width, the first behind the i bytes copied before it and the second up to n, over the first where they overlap.
+pub two-moved : (from to : List ℕ) (n : ℕ) → n ≤ length from → (i w : ℕ) {now first after : List ℕ} → now ≡ begun from to i →
+    first ≡ paste now i (drop i from) w → after ≡ paste first (n - w) (drop (n - w) from) w → i + w ≤ n → n ≤ i + w + w → after ≡ begun from to n
+two-moved from to n long i w p q r h k =
+    moved-on from to n long (i + w) (n - w) w (moved-on from to (i + w) (omega arith) i i w p q (omega arith) (omega arith) refl) r (omega arith) h (omega arith)
+
 -- One more block, in the loop over blocks.
 pub block-copied : (w : ℕ) {from to : List ℕ} {n at : ℕ} {now after : List ℕ} → n ≤ length from → n ≤ length to → Copying from to n at now →
     after ≡ paste now at (drop at from) w → at + w ≤ n → Copying from to n (at + w) after

@@ -80,19 +80,24 @@ fn move_block(from: &[u8], at: usize, n: usize, to: &mut [u8])
     }
 }
 
-// Copies the first n bytes, fewer than 16. The blocks may overlap: what is written twice is the same.
+// Copies the first n bytes, fewer than 16: from 4 on as two blocks. They may overlap: what is written twice is the same.
 fn copy_few(from: &[u8], n: usize, to: &mut [u8])
     requires { ⌜ n ≤ length (now from) ⌝ }
     requires { ⌜ n < 16 ⌝ }
     requires { ⌜ n ≤ length (now to) ⌝ }
     ensures { λ _. ⌜ now (to .exit) ≡ begun (now (from .entry)) (now (to .entry)) n ⌝ }
 {
-    if n < 8 {
-        copy_bytes(from, n, to);
+    if 8 <= n {
+        move_block(from, 0, 8, to);
+        move_block(from, n - 8, 8, to);
         return;
     }
-    move_block(from, 0, 8, to);
-    move_block(from, n - 8, 8, to);
+    if 4 <= n {
+        move_block(from, 0, 4, to);
+        move_block(from, n - 4, 4, to);
+        return;
+    }
+    copy_bytes(from, n, to);
 }
 
 // Copies the first n bytes in blocks of 4096, and what is left as one more.

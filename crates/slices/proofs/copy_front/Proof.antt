@@ -1,9 +1,8 @@
 -- `slices::copy_front` meets its contract: after each block the first bytes up to its end are copied.
-use mathlib.Core.Path.{refl}
 use denote.Ref.{now}
-use Prim.Native.Nat.{_+_, _-_, _*_, _/_}
+use Prim.Native.Nat.{_-_, _*_, _/_}
 use native.Mathlib.Omega.{arith}
-use Rattle.slices.proofs.Moving.{moved-on}
+use Rattle.slices.proofs.Moving.{moved-on, two-moved}
 use borrow.Author.Needs.{needs}
 use Rattle.slices.proofs.copy_front.Statement.{statement}
 use Rattle.slices.proofs.copy_front.Tie as tie
@@ -70,12 +69,8 @@ returns-4 c =
     let far = at-if3 .if3 .left in
     let at-whole = at-if3 .before .before .before in
     let start = at-whole .before .before .before .before .before .before in
-    let from = now (start .args .from) in
-    let to = now (start .args .to) in
     let n = start .args .n in
-    let whole = n / 32 * 32 in
-    let first = moved-on from to (whole + 16) (omega arith) whole whole 16 (at-whole .copy-bytes .ensures) (at-first .move-block2 .ensures) (omega arith) (omega arith) refl in
-    moved-on from to n (omega arith) (whole + 16) (n - 16) 16 first (at-last .move-block3 .ensures) (omega arith) (omega arith) (omega arith)
+    two-moved (now (start .args .from)) (now (start .args .to)) n (omega arith) (n / 32 * 32) 16 (at-whole .copy-bytes .ensures) (at-first .move-block2 .ensures) (at-last .move-block3 .ensures) (omega arith) (omega arith)
 
 pub copy-front-spec : {M : Type 1} → statement M
 copy-front-spec =
