@@ -207,9 +207,9 @@ module _ {v b names : List ℕ} {n at : ℕ} {starts depths : List ℕ} (x : Val
             value-append-new before (new ∷ []) n (ap (occurs n) keys ∙ listed-new names n e)
             ∙ cond-true (eqb n n) (y .value) (valueOf [] n) (eq-eqb n n refl)
 
-    pub values-stop : {q : ℕ} → ValueStops v b at (getD names n 0) q → ValuesRead v b names starts depths (G.Refused (F.Value q))
-    values-stop {q} y = record {
-      answer = ap (replyOf 4 (λ bs. [])) (sym refused);
+    pub values-stop : {deepest q : ℕ} → ValueStops v b at (getD names n 0) q → ValuesRead v b names deepest starts depths (G.Refused (F.Value q))
+    values-stop {deepest} {q} y = record {
+      answer = ap (replyOf 4 (λ bs. deepest ∷ [])) (sym refused);
       tables = λ bs f. absurd (refuse-never (sym refused ∙ f));
     }
       where
@@ -246,10 +246,10 @@ module _ {v b names : List ℕ} {n at : ℕ} {starts depths : List ℕ} (inOrder
           subst₂ (λ at′ deep. ValuesTo v b names (n + 1) at′ (set starts (n + 1) at′) (set depths n deep)) (ap (endOf at) same) (ap (levelsOf at) same)
           (values-absent x below (le-ltb (getD names n 0) 256 high))
 
-  pub values-fault : {q : ℕ} → r ≡ R.Fault q → ValuesRead v b names starts depths (G.Refused (F.Value q))
-  values-fault {q} e = go (decLt (getD names n 0) 256)
+  pub values-fault : {deepest q : ℕ} → r ≡ R.Fault q → ValuesRead v b names deepest starts depths (G.Refused (F.Value q))
+  values-fault {deepest} {q} e = go (decLt (getD names n 0) 256)
     where
-      go : Dec (getD names n 0 < 256) → ValuesRead v b names starts depths (G.Refused (F.Value q))
+      go : Dec (getD names n 0 < 256) → ValuesRead v b names deepest starts depths (G.Refused (F.Value q))
       go (yes low) = values-stop x below inOrder (lt-ltb (getD names n 0) 256 low) (subst (ValueRead v b at (getD names n 0)) e (read .listed low))
       go (no other) =
           let high : 256 ≤ getD names n 0 = omega arith in
@@ -264,9 +264,9 @@ module _ {v b names : List ℕ} {n at : ℕ} {starts depths : List ℕ} (x : Val
   ended : readValues (vocabularyIn v) (duesTo names nameCount) (drop nameMapBytes b) ≡ got (x .values) (drop at b)
   ended = ap (λ n. readValues (vocabularyIn v) (duesTo names n) (drop nameMapBytes b)) (sym all) ∙ x .same
 
-  pub values-continue : at < length b → ValuesRead v b names starts depths (G.Refused (F.Value at))
-  values-continue more = record {
-    answer = ap (replyOf 4 (λ bs. [])) (sym refused);
+  pub values-continue : {deepest : ℕ} → at < length b → ValuesRead v b names deepest starts depths (G.Refused (F.Value at))
+  values-continue {deepest} more = record {
+    answer = ap (replyOf 4 (λ bs. deepest ∷ [])) (sym refused);
     tables = λ bs f. absurd (refuse-never (sym refused ∙ f));
   }
     where
@@ -275,9 +275,9 @@ module _ {v b names : List ℕ} {n at : ℕ} {starts depths : List ℕ} (x : Val
           ap (line22 b (listedTo names nameCount)) (ended ∙ ap (got (x .values)) (drop-cons b at 0 more))
           ∙ ap (refuse 22) (offset-drop b (getD b at 0 ∷ drop (suc at) b) at (sym (drop-cons b at 0 more)) (omega arith))
 
-  pub values-all : length b ≤ at → ValuesRead v b names starts depths G.Read
-  values-all over = record {
-    answer = ap (replyOf 4 (λ bs. [])) (sym accepts);
+  pub values-all : {deepest : ℕ} → length b ≤ at → ValuesRead v b names deepest starts depths (G.Read deepest)
+  values-all {deepest} over = record {
+    answer = ap (replyOf 4 (λ bs. deepest ∷ [])) (sym accepts);
     tables = λ bs f.
         subst (λ bs. TablesTo (vocabularyIn v) names nameCount bs starts depths) (accept-same _ bs (sym accepts ∙ f))
         (subst (λ n. TablesTo (vocabularyIn v) names n (bindings (listedTo names n) (x .values)) starts depths) all (x .tables));

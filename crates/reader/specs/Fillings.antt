@@ -11,7 +11,7 @@
 --   dueFor names n, duesTo names n    the value that is due for the name n, and those for the names below it
 --   valuesIn W names b      the values in the file b, for all names of the table
 --   TablesTo                tables that tell of the names below n where the values begin and end, and how many levels they have
---   ValuesRead              what reading the values gives
+--   ValuesRead              what reading the values gives, where the pattern's deepest level is that
 --   FileTold, FileRead      what reading a filling file for a pattern with that table of names gives
 --
 use mathlib.Core.Path.{_≡_}
@@ -88,14 +88,14 @@ pub record TablesTo (W : Vocabulary) (names : List ℕ) (n : ℕ) (bs : List Bin
       (getD starts (m + 1) 0 ≡ getD starts m 0 + size W (valueOf bs m)) × (getD depths m 0 ≡ levels (asTerm (valueOf bs m)))
   pub absent : (m : ℕ) → m < n → listed names m ≡ false → (getD starts (m + 1) 0 ≡ getD starts m 0) × (getD depths m 0 ≡ 0)
 
-pub record ValuesRead (v b names starts depths : List ℕ) (r : FillingAnswer) : Type 0 where
-  pub answer : fillingNumbers r ≡ replyOf 4 (λ bs. []) (valuesIn (vocabularyIn v) names b)
+pub record ValuesRead (v b names : List ℕ) (deepest : ℕ) (starts depths : List ℕ) (r : FillingAnswer) : Type 0 where
+  pub answer : fillingNumbers r ≡ replyOf 4 (λ bs. deepest ∷ []) (valuesIn (vocabularyIn v) names b)
   pub tables : (bs : List Binding) → valuesIn (vocabularyIn v) names b ≡ accept bs → TablesTo (vocabularyIn v) names nameCount bs starts depths
 
-pub record FileTold (W : Vocabulary) (s : ℕ) (t : Term) (b starts depths : List ℕ) (r : FillingAnswer) : Type 0 where
-  pub answer : fillingNumbers r ≡ replyOf 4 (λ bs. []) (readFilling W s t b)
+pub record FileTold (W : Vocabulary) (s : ℕ) (t : Term) (b : List ℕ) (deepest : ℕ) (starts depths : List ℕ) (r : FillingAnswer) : Type 0 where
+  pub answer : fillingNumbers r ≡ replyOf 4 (λ bs. deepest ∷ []) (readFilling W s t b)
   pub tables : (bs : List Binding) → readFilling W s t b ≡ accept bs →
       ValuesIn (record { vocabulary = W; kind = s; pattern = t; values = bs }) starts depths
 
-abbrev pub FileRead : List ℕ → List ℕ → List ℕ → List ℕ → List ℕ → FillingAnswer → Type 0
-FileRead v b names starts depths r = (s : ℕ) (t : Term) → TableOf (vocabularyIn v) s t names → FileTold (vocabularyIn v) s t b starts depths r
+abbrev pub FileRead : List ℕ → List ℕ → List ℕ → ℕ → List ℕ → List ℕ → FillingAnswer → Type 0
+FileRead v b names deepest starts depths r = (s : ℕ) (t : Term) → TableOf (vocabularyIn v) s t names → FileTold (vocabularyIn v) s t b deepest starts depths r

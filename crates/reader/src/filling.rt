@@ -18,8 +18,9 @@ pub enum FillingRefusal {
     Value(usize),
 }
 
+// The pattern's deepest level where all inputs are in order, or why they are refused.
 pub enum FillingAnswer {
-    Read,
+    Read(usize),
     Refused(FillingRefusal),
 }
 
@@ -121,6 +122,7 @@ fn read_values<'a>(
     names: &[u16; 64],
     starts: &mut [usize; 65],
     depths: &mut [u8; 64],
+    deepest: usize,
     words: usize,
     offsets: &'a [u16; 96],
     results: &'a [u8; 96],
@@ -128,7 +130,7 @@ fn read_values<'a>(
 ) -> FillingAnswer
     requires { ⌜ Tables (now v) words (now offsets) (now results) (now maps) ⌝ }
     requires { ⌜ 8 ≤ length (now b) ⌝ }
-    ensures { λ r. ⌜ ValuesRead (now (v .entry)) (now (b .entry)) (now (names .entry)) (now (starts .exit)) (now (depths .exit)) r ⌝ }
+    ensures { λ r. ⌜ ValuesRead (now (v .entry)) (now (b .entry)) (now (names .entry)) deepest (now (starts .exit)) (now (depths .exit)) r ⌝ }
 {
     *starts = [8usize; 65];
     *depths = [0u8; 64];
@@ -150,7 +152,7 @@ fn read_values<'a>(
     if at < b.len() {
         return FillingAnswer::Refused(FillingRefusal::Value(at));
     }
-    FillingAnswer::Read
+    FillingAnswer::Read(deepest)
 }
 
 // Reads a filling file for a pattern with that table of names.
@@ -160,13 +162,14 @@ pub(crate) fn read_file<'a>(
     names: &[u16; 64],
     starts: &mut [usize; 65],
     depths: &mut [u8; 64],
+    deepest: usize,
     words: usize,
     offsets: &'a [u16; 96],
     results: &'a [u8; 96],
     maps: &'a [u8; 96],
 ) -> FillingAnswer
     requires { ⌜ Tables (now v) words (now offsets) (now results) (now maps) ⌝ }
-    ensures { λ r. ⌜ FileRead (now (v .entry)) (now (b .entry)) (now (names .entry)) (now (starts .exit)) (now (depths .exit)) r ⌝ }
+    ensures { λ r. ⌜ FileRead (now (v .entry)) (now (b .entry)) (now (names .entry)) deepest (now (starts .exit)) (now (depths .exit)) r ⌝ }
 {
     if b.len() < 8 {
         return FillingAnswer::Refused(FillingRefusal::Names(0));
@@ -175,5 +178,16 @@ pub(crate) fn read_file<'a>(
     if n < 64 {
         return FillingAnswer::Refused(FillingRefusal::Names(n));
     }
-    read_values(v, b, names, starts, depths, words, offsets, results, maps)
+    read_values(
+        v,
+        b,
+        names,
+        starts,
+        depths,
+        deepest,
+        words,
+        offsets,
+        results,
+        maps,
+    )
 }

@@ -8,10 +8,10 @@ use Rattle.reader.proofs.filling.read_values.Statement.{statement}
 use Rattle.reader.proofs.filling.read_values.Tie as tie
 
 abbrev Inv-loop : tie.InvT-loop
-Inv-loop v b names starts₀ depths₀ words offsets results maps at₀ n₀ starts depths at n = ValuesTo v b names n at starts depths
+Inv-loop v b names starts₀ depths₀ deepest words offsets results maps at₀ n₀ starts depths at n = ValuesTo v b names n at starts depths
 
 abbrev μ-loop : tie.MeasureT-loop
-μ-loop v b names starts₀ depths₀ words offsets results maps at₀ n₀ starts depths at n = 64 - n
+μ-loop v b names starts₀ depths₀ deepest words offsets results maps at₀ n₀ starts depths at n = 64 - n
 
 loop-holds : tie.Need-loop-holds Inv-loop μ-loop
 loop-holds c = values-none (c .before .before .before .before .pre .1) refl refl refl
