@@ -1,6 +1,7 @@
 -- Tabling: how the loop over the names of a filling file goes on.
 --
---   ValuesTo              what holds before a name: the values of the names below it were read, and the tables tell of them
+--   ValuesTo              what holds before a name: the values of the names below it were read, and the tables tell of them;
+--                         from it on no levels are noted
 --   values-none           the beginning
 --   entry-none, entry-value    an entry of the table of names
 --   values-listed, values-absent, values-more    a name more, with a value and without one
@@ -53,10 +54,11 @@ pub record ValuesTo (v b names : List ℕ) (n at : ℕ) (starts depths : List �
   pub same : readValues (vocabularyIn v) (duesTo names n) (drop nameMapBytes b) ≡ got values (drop at b)
   pub tables : TablesTo (vocabularyIn v) names n (bindings (listedTo names n) values) starts depths
   pub last : getD starts n 0 ≡ at
+  pub ahead : (m : ℕ) → n ≤ m → m < nameCount → getD depths m 0 ≡ 0
 
 pub values-none : {v b names starts depths : List ℕ} → nameMapBytes ≤ length b → length starts ≡ nameCount + 1 → length depths ≡ nameCount →
-    getD starts 0 0 ≡ nameMapBytes → ValuesTo v b names 0 nameMapBytes starts depths
-values-none long many deep first = record {
+    getD starts 0 0 ≡ nameMapBytes → ((m : ℕ) → m < nameCount → getD depths m 0 ≡ 0) → ValuesTo v b names 0 nameMapBytes starts depths
+values-none long many deep first blank = record {
   upTo = omega arith;
   inside = long;
   values = gnil;
@@ -69,6 +71,7 @@ values-none long many deep first = record {
     absent = λ m h. absurd (omega arith);
   };
   last = first;
+  ahead = λ m low high. blank m high;
 }
 
 -- ---- the tables
@@ -153,6 +156,9 @@ module _ {v b names : List ℕ} {n at : ℕ} {starts depths : List ℕ} (x : Val
   abbrev before : List Binding
   before = bindings (listedTo names n) (x .values)
 
+  still-ahead : (deep m : ℕ) → n + 1 ≤ m → m < nameCount → getD (set depths n deep) m 0 ≡ 0
+  still-ahead deep m low high = let other : m ≢ n = (λ e. omega arith) in getD-set-other depths n m deep 0 other ∙ x .ahead m (omega arith) high
+
   pub values-absent : listed names n ≡ false → ValuesTo v b names (n + 1) at (set starts (n + 1) at) (set depths n 0)
   values-absent e = record {
     upTo = omega arith;
@@ -163,6 +169,7 @@ module _ {v b names : List ℕ} {n at : ℕ} {starts depths : List ℕ} (x : Val
         subst (λ ns. TablesTo W names (n + 1) (bindings ns (x .values)) (set starts (n + 1) at) (set depths n 0)) (sym (listed-same names n e))
         (tables-more (x .tables) below (x .last) (λ m h o. refl) (λ o. absurd (true≢false (sym o ∙ e))) (λ o. (refl, refl)));
     last = getD-set-same starts (n + 1) at 0 (omega (arith, x .tables .manyStarts));
+    ahead = still-ahead 0;
   }
 
   module _ (inOrder : InOrder (vocabularyIn v)) (e : listed names n ≡ true) where
@@ -189,6 +196,7 @@ module _ {v b names : List ℕ} {n at : ℕ} {starts depths : List ℕ} (x : Val
           (λ o. (y .span ∙ ap (λ g. at + size W g) (sym value), y .reached ∙ ap (λ g. levels (asTerm g)) (sym value)))
           (λ o. absurd (true≢false (sym e ∙ o))));
       last = getD-set-same starts (n + 1) at′ 0 (omega (arith, x .tables .manyStarts));
+      ahead = still-ahead deep;
     }
       where
         new : Binding
