@@ -1,7 +1,7 @@
 -- Calls: the whole call from its parts.
 --
 --   promised                    what is computed keeps the promise
---   Found, found                inputs in order, with the tables of their values
+--   Found, found                inputs in order, with the tables of their values and the pattern's deepest level
 --   fill-refused                where the inputs are refused, so is fill, in the same way
 --   ready, measurable, writable what measuring and writing ask for
 --   fill-large, fill-short, fill-written    the answers then, by what was measured
@@ -11,9 +11,9 @@ use mathlib.Core.Bool.{Bool, true, false, cond}
 use mathlib.Core.List.{List, [], _∷_, _++_}
 use Prim.Native.Nat.{ℕ, _+_, _<_, _≤_}
 use native.Mathlib.Omega.{arith}
-use lib.ListN.{length, drop}
+use lib.ListN.{length, getD, drop}
 use Rattle.wire.specs.Reply.{Reply, accepted, refused, IsBytes}
-use Rattle.wire.specs.TermBytes.{mostBytes}
+use Rattle.wire.specs.TermBytes.{deepest, mostBytes}
 use Rattle.wire.specs.Effect.{Effect, HasEffect}
 use Rattle.wire.specs.VocabularyLines.{byteAt}
 use Rattle.wire.specs.Filled.{FillInputs, HoldsFillInputs, filledBytes, FillPromise}
@@ -24,21 +24,12 @@ use Rattle.wire.proofs.FillKeeps.{within-is, with-large, with-short, with-room,
 use Rattle.wire.proofs.Matching.{not-accepted}
 use Rattle.reader.specs.Values.{FillingRead}
 use Rattle.reader.specs.Answers.{fillingRefused, fillingNumbers}
-use Rattle.reader.specs.Nodes.{numberOf, placeOf}
 use Rattle.reader.specs.declared.filling.FillingRefusal.{FillingRefusal}
-use Rattle.reader.specs.declared.filling.FillingRefusal.the-variants as F
 use Rattle.reader.specs.declared.filling.FillingAnswer.{FillingAnswer}
 use Rattle.reader.specs.declared.filling.FillingAnswer.the-variants as G
-use Rattle.reader.proofs.Calls.{refused-never}
-use Rattle.reader.proofs.Told.{refusal-reply}
+use Rattle.reader.proofs.Files.{filling-never}
 use Rattle.filler.specs.Ready.{Ready, Measurable, measured, MostLevels, Writable, WritesResult}
 use Rattle.filler.proofs.Reach.{measurable-wider, measurable-reach}
-
-never-accepted : (why : FillingRefusal) → fillingRefused why ≡ accepted [] → ⊥
-never-accepted (F.Vocabulary why) e = refused-never why [] e
-never-accepted (F.Pattern why) e = not-accepted (numberOf why) 1 (placeOf why) [] (sym (refusal-reply 1 why) ∙ e)
-never-accepted (F.Names n) e = not-accepted 21 4 n [] e
-never-accepted (F.Value q) e = not-accepted 22 4 q [] e
 
 -- The bytes of the three inputs.
 pub record Bytes (v p b : List ℕ) : Type 0 where
@@ -53,18 +44,24 @@ bytes-all {v} {p} {b} hv hp hb = record { vocabulary = bytes-of v hv; pattern = 
 abbrev pub Shown : List ℕ → List ℕ → List ℕ → List ℕ → List ℕ → Reply → Type 0
 Shown v p b out after r = FillPromise v p b out after r × HasEffect (filled v p b out) r after
 
--- Inputs in order, and the tables of their values.
-pub record Found (v p b starts depths : List ℕ) : Type 0 where
+-- Inputs in order, the tables of their values, and the pattern's deepest level.
+pub record Found (v p b starts depths : List ℕ) (deep : ℕ) : Type 0 where
   pub inputs : FillInputs
   pub judged : fillJudged v p b ≡ fillable inputs
   pub values : ValuesIn inputs starts depths
+  pub deepest : deep ≡ deepest (inputs .pattern)
 
-pub found : {v p b starts depths : List ℕ} {r : FillingAnswer} → FillingRead v p b starts depths r → r ≡ G.Read → Found v p b starts depths
-found {v} {p} {b} {starts} {depths} read e = go (fillJudged v p b) refl (sym (ap fillingNumbers e) ∙ read .answer)
+-- The first value of a reply.
+abbrev firstOf : Reply → ℕ
+firstOf (accepted l) = getD l 0 0
+firstOf (refused n i q) = 0
+
+pub found : {v p b starts depths : List ℕ} {deep : ℕ} {r : FillingAnswer} → FillingRead v p b starts depths r → r ≡ G.Read deep → Found v p b starts depths deep
+found {v} {p} {b} {starts} {depths} {deep} read e = go (fillJudged v p b) refl (sym (ap fillingNumbers e) ∙ read .answer)
   where
-    go : (j : FillJudged) → fillJudged v p b ≡ j → accepted [] ≡ fillClear j → Found v p b starts depths
-    go (fillable x) k h = record { inputs = x; judged = k; values = read .read x k }
-    go (refusal n i q) k h = absurd (not-accepted n i q [] (sym h))
+    go : (j : FillJudged) → fillJudged v p b ≡ j → accepted (deep ∷ []) ≡ fillClear j → Found v p b starts depths deep
+    go (fillable x) k h = record { inputs = x; judged = k; values = read .read x k; deepest = ap firstOf h }
+    go (refusal n i q) k h = absurd (not-accepted n i q (deep ∷ []) (sym h))
 
 module _ {v p b : List ℕ} (bytes : Bytes v p b) (out : List ℕ) where
   promised : (r : Reply) (after : List ℕ) → filled v p b out ≡ record { reply = r; after = after } → Shown v p b out after r
@@ -80,10 +77,10 @@ module _ {v p b : List ℕ} (bytes : Bytes v p b) (out : List ℕ) where
       promised (fillingRefused why) out (go (fillJudged v p b) (sym (ap fillingNumbers e) ∙ read .answer))
     where
       go : (j : FillJudged) → fillingRefused why ≡ fillClear j → filledWith out j ≡ record { reply = fillingRefused why; after = out }
-      go (fillable x) h = absurd (never-accepted why h)
+      go (fillable x) h = absurd (filling-never why (deepest (x .pattern) ∷ []) h)
       go (refusal n i q) h = ap (λ r. record { reply = r; after = out }) (sym h)
 
-  module _ {starts depths : List ℕ} (f : Found v p b starts depths) where
+  module _ {starts depths : List ℕ} {deep : ℕ} (f : Found v p b starts depths deep) where
     abbrev x : FillInputs
     x = f .inputs
 

@@ -30,7 +30,7 @@ pub fn fill(vocabulary: &[u8], pattern: &[u8], filling: &[u8], out: &mut [u8]) -
         FillingAnswer::Refused(why) => {
             return FillAnswer::Inputs(why);
         }
-        FillingAnswer::Read => {}
+        FillingAnswer::Read(_) => {}
     }
     // A pattern has at most 32 levels, and a name is one of them.
     let reach = 31 + depth::most_levels(&depths);

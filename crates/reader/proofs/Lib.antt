@@ -17,6 +17,7 @@ pub mod Faults
 pub mod Values
 pub mod Listed
 pub mod Tabling
+pub mod Skipping
 -- A term that is handed to a call, and the vocabulary's check and the terms' together.
 pub mod Told
 pub mod NameTables

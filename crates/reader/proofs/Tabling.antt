@@ -1,6 +1,7 @@
 -- Tabling: how the loop over the names of a filling file goes on.
 --
---   ValuesTo              what holds before a name: the values of the names below it were read, and the tables tell of them
+--   ValuesTo              what holds before a name: the values of the names below it were read, and the tables tell of them;
+--                         from it on no levels are noted
 --   values-none           the beginning
 --   entry-none, entry-value    an entry of the table of names
 --   values-listed, values-absent, values-more    a name more, with a value and without one
@@ -53,10 +54,11 @@ pub record ValuesTo (v b names : List ℕ) (n at : ℕ) (starts depths : List �
   pub same : readValues (vocabularyIn v) (duesTo names n) (drop nameMapBytes b) ≡ got values (drop at b)
   pub tables : TablesTo (vocabularyIn v) names n (bindings (listedTo names n) values) starts depths
   pub last : getD starts n 0 ≡ at
+  pub ahead : (m : ℕ) → n ≤ m → m < nameCount → getD depths m 0 ≡ 0
 
 pub values-none : {v b names starts depths : List ℕ} → nameMapBytes ≤ length b → length starts ≡ nameCount + 1 → length depths ≡ nameCount →
-    getD starts 0 0 ≡ nameMapBytes → ValuesTo v b names 0 nameMapBytes starts depths
-values-none long many deep first = record {
+    getD starts 0 0 ≡ nameMapBytes → ((m : ℕ) → m < nameCount → getD depths m 0 ≡ 0) → ValuesTo v b names 0 nameMapBytes starts depths
+values-none long many deep first blank = record {
   upTo = omega arith;
   inside = long;
   values = gnil;
@@ -69,6 +71,7 @@ values-none long many deep first = record {
     absent = λ m h. absurd (omega arith);
   };
   last = first;
+  ahead = λ m low high. blank m high;
 }
 
 -- ---- the tables
@@ -153,6 +156,9 @@ module _ {v b names : List ℕ} {n at : ℕ} {starts depths : List ℕ} (x : Val
   abbrev before : List Binding
   before = bindings (listedTo names n) (x .values)
 
+  still-ahead : (deep m : ℕ) → n + 1 ≤ m → m < nameCount → getD (set depths n deep) m 0 ≡ 0
+  still-ahead deep m low high = let other : m ≢ n = (λ e. omega arith) in getD-set-other depths n m deep 0 other ∙ x .ahead m (omega arith) high
+
   pub values-absent : listed names n ≡ false → ValuesTo v b names (n + 1) at (set starts (n + 1) at) (set depths n 0)
   values-absent e = record {
     upTo = omega arith;
@@ -163,6 +169,7 @@ module _ {v b names : List ℕ} {n at : ℕ} {starts depths : List ℕ} (x : Val
         subst (λ ns. TablesTo W names (n + 1) (bindings ns (x .values)) (set starts (n + 1) at) (set depths n 0)) (sym (listed-same names n e))
         (tables-more (x .tables) below (x .last) (λ m h o. refl) (λ o. absurd (true≢false (sym o ∙ e))) (λ o. (refl, refl)));
     last = getD-set-same starts (n + 1) at 0 (omega (arith, x .tables .manyStarts));
+    ahead = still-ahead 0;
   }
 
   module _ (inOrder : InOrder (vocabularyIn v)) (e : listed names n ≡ true) where
@@ -189,6 +196,7 @@ module _ {v b names : List ℕ} {n at : ℕ} {starts depths : List ℕ} (x : Val
           (λ o. (y .span ∙ ap (λ g. at + size W g) (sym value), y .reached ∙ ap (λ g. levels (asTerm g)) (sym value)))
           (λ o. absurd (true≢false (sym e ∙ o))));
       last = getD-set-same starts (n + 1) at′ 0 (omega (arith, x .tables .manyStarts));
+      ahead = still-ahead deep;
     }
       where
         new : Binding
@@ -207,9 +215,9 @@ module _ {v b names : List ℕ} {n at : ℕ} {starts depths : List ℕ} (x : Val
             value-append-new before (new ∷ []) n (ap (occurs n) keys ∙ listed-new names n e)
             ∙ cond-true (eqb n n) (y .value) (valueOf [] n) (eq-eqb n n refl)
 
-    pub values-stop : {q : ℕ} → ValueStops v b at (getD names n 0) q → ValuesRead v b names starts depths (G.Refused (F.Value q))
-    values-stop {q} y = record {
-      answer = ap (replyOf 4 (λ bs. [])) (sym refused);
+    pub values-stop : {deepest q : ℕ} → ValueStops v b at (getD names n 0) q → ValuesRead v b names deepest starts depths (G.Refused (F.Value q))
+    values-stop {deepest} {q} y = record {
+      answer = ap (replyOf 4 (λ bs. deepest ∷ [])) (sym refused);
       tables = λ bs f. absurd (refuse-never (sym refused ∙ f));
     }
       where
@@ -246,10 +254,10 @@ module _ {v b names : List ℕ} {n at : ℕ} {starts depths : List ℕ} (inOrder
           subst₂ (λ at′ deep. ValuesTo v b names (n + 1) at′ (set starts (n + 1) at′) (set depths n deep)) (ap (endOf at) same) (ap (levelsOf at) same)
           (values-absent x below (le-ltb (getD names n 0) 256 high))
 
-  pub values-fault : {q : ℕ} → r ≡ R.Fault q → ValuesRead v b names starts depths (G.Refused (F.Value q))
-  values-fault {q} e = go (decLt (getD names n 0) 256)
+  pub values-fault : {deepest q : ℕ} → r ≡ R.Fault q → ValuesRead v b names deepest starts depths (G.Refused (F.Value q))
+  values-fault {deepest} {q} e = go (decLt (getD names n 0) 256)
     where
-      go : Dec (getD names n 0 < 256) → ValuesRead v b names starts depths (G.Refused (F.Value q))
+      go : Dec (getD names n 0 < 256) → ValuesRead v b names deepest starts depths (G.Refused (F.Value q))
       go (yes low) = values-stop x below inOrder (lt-ltb (getD names n 0) 256 low) (subst (ValueRead v b at (getD names n 0)) e (read .listed low))
       go (no other) =
           let high : 256 ≤ getD names n 0 = omega arith in
@@ -264,9 +272,9 @@ module _ {v b names : List ℕ} {n at : ℕ} {starts depths : List ℕ} (x : Val
   ended : readValues (vocabularyIn v) (duesTo names nameCount) (drop nameMapBytes b) ≡ got (x .values) (drop at b)
   ended = ap (λ n. readValues (vocabularyIn v) (duesTo names n) (drop nameMapBytes b)) (sym all) ∙ x .same
 
-  pub values-continue : at < length b → ValuesRead v b names starts depths (G.Refused (F.Value at))
-  values-continue more = record {
-    answer = ap (replyOf 4 (λ bs. [])) (sym refused);
+  pub values-continue : {deepest : ℕ} → at < length b → ValuesRead v b names deepest starts depths (G.Refused (F.Value at))
+  values-continue {deepest} more = record {
+    answer = ap (replyOf 4 (λ bs. deepest ∷ [])) (sym refused);
     tables = λ bs f. absurd (refuse-never (sym refused ∙ f));
   }
     where
@@ -275,9 +283,9 @@ module _ {v b names : List ℕ} {n at : ℕ} {starts depths : List ℕ} (x : Val
           ap (line22 b (listedTo names nameCount)) (ended ∙ ap (got (x .values)) (drop-cons b at 0 more))
           ∙ ap (refuse 22) (offset-drop b (getD b at 0 ∷ drop (suc at) b) at (sym (drop-cons b at 0 more)) (omega arith))
 
-  pub values-all : length b ≤ at → ValuesRead v b names starts depths G.Read
-  values-all over = record {
-    answer = ap (replyOf 4 (λ bs. [])) (sym accepts);
+  pub values-all : {deepest : ℕ} → length b ≤ at → ValuesRead v b names deepest starts depths (G.Read deepest)
+  values-all {deepest} over = record {
+    answer = ap (replyOf 4 (λ bs. deepest ∷ [])) (sym accepts);
     tables = λ bs f.
         subst (λ bs. TablesTo (vocabularyIn v) names nameCount bs starts depths) (accept-same _ bs (sym accepts ∙ f))
         (subst (λ n. TablesTo (vocabularyIn v) names n (bindings (listedTo names n) (x .values)) starts depths) all (x .tables));

@@ -4,7 +4,7 @@
 --   termNumbers a            the reply of checking a term
 --   TermAnswersDiffer        different answers have different numbers or values
 --   fillingRefused why       the reply that refuses the inputs of fill
---   fillingNumbers a         the reply of reading the inputs of fill, with no values
+--   fillingNumbers a         the reply of reading the inputs of fill, with the pattern's deepest level
 --
 use mathlib.Core.Path.{_≡_}
 use mathlib.Core.List.{[], _∷_}
@@ -48,5 +48,5 @@ fillingRefused (F.Names n) = refused 21 4 n
 fillingRefused (F.Value q) = refused 22 4 q
 
 abbrev pub fillingNumbers : FillingAnswer → Reply
-fillingNumbers G.Read = accepted []
+fillingNumbers (G.Read deepest) = accepted (deepest ∷ [])
 fillingNumbers (G.Refused why) = fillingRefused why

@@ -10,21 +10,24 @@
 --   listedTo names n        the names below n for which the table has a kind, ascending
 --   dueFor names n, duesTo names n    the value that is due for the name n, and those for the names below it
 --   valuesIn W names b      the values in the file b, for all names of the table
+--   Skips b n r             where r is true, n is the first of eight names whose byte in the map at the front of b is 0
+--   passed starts n at k    the starts with each of the k behind the n-th at the offset
 --   TablesTo                tables that tell of the names below n where the values begin and end, and how many levels they have
---   ValuesRead              what reading the values gives
+--   ValuesRead              what reading the values gives, where the pattern's deepest level is that
 --   FileTold, FileRead      what reading a filling file for a pattern with that table of names gives
 --
 use mathlib.Core.Path.{_≡_}
-use mathlib.Core.Bool.{true, false}
+use mathlib.Core.Bool.{Bool, true, false}
 use mathlib.Core.List.{List, [], _∷_, map}
 use mathlib.Core.Logic.{_⊎_}
-use Prim.Native.Nat.{ℕ, suc, _+_, _-_, _<_, _≤_}
-use lib.ListN.{length, getD, drop}
+use Prim.Native.Nat.{ℕ, zero, suc, _+_, _-_, _/_, _%_, _<_, _≤_}
+use lib.ListN.{length, getD, drop, set}
 use Rattle.terms.specs.Lists.{range, keep}
 use Rattle.terms.specs.Term.{Term, Ground, gnil, gcons, asTerm}
 use Rattle.terms.specs.Filling.{Binding, valueOf}
 use Rattle.wire.specs.Vocabulary.{Vocabulary}
 use Rattle.wire.specs.TermBytes.{nameCount, levels, mostLevels}
+use Rattle.wire.specs.VocabularyLines.{byteAt}
 use Rattle.wire.specs.TermLines.{Due}
 use Rattle.wire.specs.Matching.{size}
 use Rattle.wire.specs.Parser.{Reading, accept, got, stop}
@@ -80,6 +83,13 @@ duesTo names n = map (dueFor names) (listedTo names n)
 abbrev pub valuesIn : Vocabulary → List ℕ → List ℕ → Reading (List Binding)
 valuesIn W names b = line22 b (listedTo names nameCount) (readValues W (duesTo names nameCount) (drop nameMapBytes b))
 
+abbrev pub Skips : List ℕ → ℕ → Bool → Type 0
+Skips b n r = r ≡ true → (n % 8 ≡ 0) × (byteAt b (n / 8) ≡ 0)
+
+abbrev pub passed : List ℕ → ℕ → ℕ → ℕ → List ℕ
+passed starts n at zero = starts
+passed starts n at (suc k) = set (passed starts n at k) (n + suc k) at
+
 pub record TablesTo (W : Vocabulary) (names : List ℕ) (n : ℕ) (bs : List Binding) (starts depths : List ℕ) : Type 0 where
   pub manyStarts : length starts ≡ nameCount + 1
   pub manyDepths : length depths ≡ nameCount
@@ -88,14 +98,14 @@ pub record TablesTo (W : Vocabulary) (names : List ℕ) (n : ℕ) (bs : List Bin
       (getD starts (m + 1) 0 ≡ getD starts m 0 + size W (valueOf bs m)) × (getD depths m 0 ≡ levels (asTerm (valueOf bs m)))
   pub absent : (m : ℕ) → m < n → listed names m ≡ false → (getD starts (m + 1) 0 ≡ getD starts m 0) × (getD depths m 0 ≡ 0)
 
-pub record ValuesRead (v b names starts depths : List ℕ) (r : FillingAnswer) : Type 0 where
-  pub answer : fillingNumbers r ≡ replyOf 4 (λ bs. []) (valuesIn (vocabularyIn v) names b)
+pub record ValuesRead (v b names : List ℕ) (deepest : ℕ) (starts depths : List ℕ) (r : FillingAnswer) : Type 0 where
+  pub answer : fillingNumbers r ≡ replyOf 4 (λ bs. deepest ∷ []) (valuesIn (vocabularyIn v) names b)
   pub tables : (bs : List Binding) → valuesIn (vocabularyIn v) names b ≡ accept bs → TablesTo (vocabularyIn v) names nameCount bs starts depths
 
-pub record FileTold (W : Vocabulary) (s : ℕ) (t : Term) (b starts depths : List ℕ) (r : FillingAnswer) : Type 0 where
-  pub answer : fillingNumbers r ≡ replyOf 4 (λ bs. []) (readFilling W s t b)
+pub record FileTold (W : Vocabulary) (s : ℕ) (t : Term) (b : List ℕ) (deepest : ℕ) (starts depths : List ℕ) (r : FillingAnswer) : Type 0 where
+  pub answer : fillingNumbers r ≡ replyOf 4 (λ bs. deepest ∷ []) (readFilling W s t b)
   pub tables : (bs : List Binding) → readFilling W s t b ≡ accept bs →
       ValuesIn (record { vocabulary = W; kind = s; pattern = t; values = bs }) starts depths
 
-abbrev pub FileRead : List ℕ → List ℕ → List ℕ → List ℕ → List ℕ → FillingAnswer → Type 0
-FileRead v b names starts depths r = (s : ℕ) (t : Term) → TableOf (vocabularyIn v) s t names → FileTold (vocabularyIn v) s t b starts depths r
+abbrev pub FileRead : List ℕ → List ℕ → List ℕ → ℕ → List ℕ → List ℕ → FillingAnswer → Type 0
+FileRead v b names deepest starts depths r = (s : ℕ) (t : Term) → TableOf (vocabularyIn v) s t names → FileTold (vocabularyIn v) s t b deepest starts depths r

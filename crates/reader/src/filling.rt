@@ -1,8 +1,10 @@
 // Document 02's filling file: the map of a pattern's names, and a complete term for each of them.
-ghost use Prim.Native.Nat.{_+_, _<_, _≤_};
+ghost use mathlib.Core.Path.{_≡_};
+ghost use Prim.Native.Nat.{_+_, _/_, _<_, _≤_};
 ghost use lib.ListN.{length};
+ghost use Rattle.namemaps.specs.Difference.{DifferenceAt};
 ghost use Rattle.signature.specs.Tables.{Tables};
-ghost use Rattle.reader.specs.Fillings.{FaultAt, ValueRead, EntryRead, ValuesRead, FileRead};
+ghost use Rattle.reader.specs.Fillings.{FaultAt, ValueRead, EntryRead, Skips, passed, ValuesRead, FileRead};
 use crate::cursor;
 use crate::frame;
 use crate::node;
@@ -18,8 +20,9 @@ pub enum FillingRefusal {
     Value(usize),
 }
 
+// The pattern's deepest level where all inputs are in order, or why they are refused.
 pub enum FillingAnswer {
-    Read,
+    Read(usize),
     Refused(FillingRefusal),
 }
 
@@ -113,14 +116,42 @@ fn read_entry<'a>(
     read_value(v, b, from, kind as u8, words, offsets, results, maps)
 }
 
+// Whether a name is the first of eight that have one byte in the map at the front of b, and the byte is 0.
+fn skips(b: &[u8], n: usize) -> bool
+    requires { ⌜ n / 8 < length (now b) ⌝ }
+    ensures { λ r. ⌜ Skips (now (b .entry)) n r ⌝ }
+{
+    if n % 8 != 0 {
+        return false;
+    }
+    b[n / 8] == 0
+}
+
+// Sets the eight starts behind the n-th to one offset.
+fn pass_eight(starts: &mut [usize; 65], n: usize, at: usize)
+    requires { ⌜ n + 8 ≤ 64 ⌝ }
+    ensures { λ r. ⌜ now (starts .exit) ≡ passed (now (starts .entry)) n at 8 ⌝ }
+{
+    starts[n + 1] = at;
+    starts[n + 2] = at;
+    starts[n + 3] = at;
+    starts[n + 4] = at;
+    starts[n + 5] = at;
+    starts[n + 6] = at;
+    starts[n + 7] = at;
+    starts[n + 8] = at;
+}
+
 // Reads a complete term for each name of the table, ascending, and sees that nothing follows the last. The value of name n
-// begins at the n-th start and ends at the next; its levels are noted too.
+// begins at the n-th start and ends at the next; its levels are noted too. The map names the same names, so that eight of them
+// are passed at once where none stands in it.
 fn read_values<'a>(
     v: &[u8],
     b: &[u8],
     names: &[u16; 64],
     starts: &mut [usize; 65],
     depths: &mut [u8; 64],
+    deepest: usize,
     words: usize,
     offsets: &'a [u16; 96],
     results: &'a [u8; 96],
@@ -128,13 +159,19 @@ fn read_values<'a>(
 ) -> FillingAnswer
     requires { ⌜ Tables (now v) words (now offsets) (now results) (now maps) ⌝ }
     requires { ⌜ 8 ≤ length (now b) ⌝ }
-    ensures { λ r. ⌜ ValuesRead (now (v .entry)) (now (b .entry)) (now (names .entry)) (now (starts .exit)) (now (depths .exit)) r ⌝ }
+    requires { ⌜ DifferenceAt (now b) (now names) 64 ⌝ }
+    ensures { λ r. ⌜ ValuesRead (now (v .entry)) (now (b .entry)) (now (names .entry)) deepest (now (starts .exit)) (now (depths .exit)) r ⌝ }
 {
     *starts = [8usize; 65];
     *depths = [0u8; 64];
     let mut at = 8usize;
     let mut n = 0usize;
     while n < 64 {
+        if skips(b, n) {
+            pass_eight(starts, n, at);
+            n += 8;
+            continue;
+        }
         match read_entry(v, b, at, names[n], words, offsets, results, maps) {
             Value::Fault(q) => {
                 return FillingAnswer::Refused(FillingRefusal::Value(q));
@@ -150,7 +187,7 @@ fn read_values<'a>(
     if at < b.len() {
         return FillingAnswer::Refused(FillingRefusal::Value(at));
     }
-    FillingAnswer::Read
+    FillingAnswer::Read(deepest)
 }
 
 // Reads a filling file for a pattern with that table of names.
@@ -160,13 +197,14 @@ pub(crate) fn read_file<'a>(
     names: &[u16; 64],
     starts: &mut [usize; 65],
     depths: &mut [u8; 64],
+    deepest: usize,
     words: usize,
     offsets: &'a [u16; 96],
     results: &'a [u8; 96],
     maps: &'a [u8; 96],
 ) -> FillingAnswer
     requires { ⌜ Tables (now v) words (now offsets) (now results) (now maps) ⌝ }
-    ensures { λ r. ⌜ FileRead (now (v .entry)) (now (b .entry)) (now (names .entry)) (now (starts .exit)) (now (depths .exit)) r ⌝ }
+    ensures { λ r. ⌜ FileRead (now (v .entry)) (now (b .entry)) (now (names .entry)) deepest (now (starts .exit)) (now (depths .exit)) r ⌝ }
 {
     if b.len() < 8 {
         return FillingAnswer::Refused(FillingRefusal::Names(0));
@@ -175,5 +213,16 @@ pub(crate) fn read_file<'a>(
     if n < 64 {
         return FillingAnswer::Refused(FillingRefusal::Names(n));
     }
-    read_values(v, b, names, starts, depths, words, offsets, results, maps)
+    read_values(
+        v,
+        b,
+        names,
+        starts,
+        depths,
+        deepest,
+        words,
+        offsets,
+        results,
+        maps,
+    )
 }

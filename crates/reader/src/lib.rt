@@ -144,12 +144,13 @@ fn read_pattern_filling<'a>(
     let mut names = [65535u16; 64];
     match whole::read_named(v, pattern, &mut names, words, offsets, results, maps) {
         Whole::Refused(why) => FillingAnswer::Refused(FillingRefusal::Pattern(why)),
-        Whole::Read(_) => filling::read_file(
+        Whole::Read(x) => filling::read_file(
             v,
             filling,
             &names,
             starts,
             depths,
+            x.deepest,
             words,
             offsets,
             results,
@@ -190,8 +191,9 @@ fn judge_filling(
     }
 }
 
-// Reads a vocabulary, a pattern and a filling file for it, in this order. Where all are in order the tables tell where the
-// value of each name begins and ends in the file, and how many levels it has; after any other answer they are blank.
+// Reads a vocabulary, a pattern and a filling file for it, in this order. Where all are in order the answer tells the
+// pattern's deepest level, and the tables tell where the value of each name begins and ends in the file, and how many levels
+// it has; after any other answer they are blank.
 pub fn read_filling(
     vocabulary: &[u8],
     pattern: &[u8],
@@ -202,7 +204,7 @@ pub fn read_filling(
     ensures { λ r. ⌜ FillingRead (now (vocabulary .entry)) (now (pattern .entry)) (now (filling .entry)) (now (starts .exit)) (now (depths .exit)) r ⌝ }
 {
     match judge_filling(vocabulary, pattern, filling, starts, depths) {
-        FillingAnswer::Read => FillingAnswer::Read,
+        FillingAnswer::Read(deepest) => FillingAnswer::Read(deepest),
         FillingAnswer::Refused(why) => {
             *starts = [0usize; 65];
             *depths = [0u8; 64];

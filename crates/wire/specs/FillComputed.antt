@@ -17,7 +17,7 @@
 --   readFilling W s t b        a filling file for the pattern t of kind s
 --   FillJudged                 inputs in order, or a refusal's number, input and place
 --   judgedFilling, fillPattern, fillVocabulary, fillJudged v p b   the inputs of fill, in the order in which they are judged
---   fillClear j                the reply that says whether the inputs are in order, with no values
+--   fillClear j                the reply that says whether the inputs are in order, with the pattern's deepest level
 --   ValuesIn x starts depths   tables that tell where the value of each name begins and ends in the filling file, and how many
 --                              levels it has
 --   large x                    the result passes a limit
@@ -133,7 +133,7 @@ abbrev pub fillJudged : List ℕ → List ℕ → List ℕ → FillJudged
 fillJudged v p b = fillVocabulary p b (readVocabulary v)
 
 abbrev pub fillClear : FillJudged → Reply
-fillClear (fillable x) = accepted []
+fillClear (fillable x) = accepted (deepest (x .pattern) ∷ [])
 fillClear (refusal n i q) = refused n i q
 
 -- The value of name n begins at the n-th start and ends at the next. A name that does not stand in the pattern has none.
