@@ -1,23 +1,25 @@
 -- Calls: the whole call from its parts.
 --
+--   Bytes, bytes-all            the bytes of the inputs
 --   promised                    what is computed keeps the promise
---   Found, found                inputs in order, with the tables of their values and the pattern's deepest level
 --   fill-refused                where the inputs are refused, so is fill, in the same way
---   ready, measurable, writable what measuring and writing ask for
---   fill-large, fill-short, fill-written    the answers then, by what was measured
+--   known                       where they are not, they are held, and the tables tell of the values
+--   fill-known                  the whole call then
+--   measurable, size-known, writable        what measuring and writing ask for
+--   fill-large, fill-short, fill-written    the answers for inputs that are read, by what was measured
 --
 use mathlib.Core.Path.{_≡_, refl, sym, ap, _∙_, subst, subst₂}
 use mathlib.Core.Bool.{Bool, true, false, cond}
 use mathlib.Core.List.{List, [], _∷_, _++_}
-use Prim.Native.Nat.{ℕ, _+_, _<_, _≤_}
+use Prim.Native.Nat.{ℕ, _+_, _-_, _<_, _≤_}
 use native.Mathlib.Omega.{arith}
 use lib.ListN.{length, getD, drop}
 use Rattle.wire.specs.Reply.{Reply, accepted, refused, IsBytes}
 use Rattle.wire.specs.TermBytes.{deepest, mostBytes}
 use Rattle.wire.specs.Effect.{Effect, HasEffect}
 use Rattle.wire.specs.VocabularyLines.{byteAt}
-use Rattle.wire.specs.Filled.{FillInputs, HoldsFillInputs, filledBytes, FillPromise}
-use Rattle.wire.specs.FillComputed.{FillJudged, fillable, refusal, fillJudged, fillClear, ValuesIn, large, filledWith, filled}
+use Rattle.wire.specs.Filled.{FillInputs, filledBytes, FillPromise}
+use Rattle.wire.specs.FillComputed.{FillJudged, fillable, refusal, fillJudged, fillClear, large, filledWith, filled}
 use Rattle.wire.proofs.Bytes.{bytes-of}
 use Rattle.wire.proofs.FillJudging.{fillable-held}
 use Rattle.wire.proofs.FillKeeps.{within-is, with-large, with-short, with-room, fill-keeps}
@@ -28,7 +30,7 @@ use Rattle.reader.specs.declared.filling.FillingRefusal.{FillingRefusal}
 use Rattle.reader.specs.declared.filling.FillingAnswer.{FillingAnswer}
 use Rattle.reader.specs.declared.filling.FillingAnswer.the-variants as G
 use Rattle.reader.proofs.Files.{filling-never}
-use Rattle.filler.specs.Ready.{Ready, Measurable, measured, MostLevels, Writable, WritesResult}
+use Rattle.filler.specs.Ready.{Known, FillsRead, Measurable, measured, MostLevels, Writable, WritesResult}
 use Rattle.filler.proofs.Reach.{measurable-wider, measurable-reach}
 
 -- The bytes of the three inputs.
@@ -44,24 +46,10 @@ bytes-all {v} {p} {b} hv hp hb = record { vocabulary = bytes-of v hv; pattern = 
 abbrev pub Shown : List ℕ → List ℕ → List ℕ → List ℕ → List ℕ → Reply → Type 0
 Shown v p b out after r = FillPromise v p b out after r × HasEffect (filled v p b out) r after
 
--- Inputs in order, the tables of their values, and the pattern's deepest level.
-pub record Found (v p b starts depths : List ℕ) (deep : ℕ) : Type 0 where
-  pub inputs : FillInputs
-  pub judged : fillJudged v p b ≡ fillable inputs
-  pub values : ValuesIn inputs starts depths
-  pub deepest : deep ≡ deepest (inputs .pattern)
-
 -- The first value of a reply.
 abbrev firstOf : Reply → ℕ
 firstOf (accepted l) = getD l 0 0
 firstOf (refused n i q) = 0
-
-pub found : {v p b starts depths : List ℕ} {deep : ℕ} {r : FillingAnswer} → FillingRead v p b starts depths r → r ≡ G.Read deep → Found v p b starts depths deep
-found {v} {p} {b} {starts} {depths} {deep} read e = go (fillJudged v p b) refl (sym (ap fillingNumbers e) ∙ read .answer)
-  where
-    go : (j : FillJudged) → fillJudged v p b ≡ j → accepted (deep ∷ []) ≡ fillClear j → Found v p b starts depths deep
-    go (fillable x) k h = record { inputs = x; judged = k; values = read .read x k; deepest = ap firstOf h }
-    go (refusal n i q) k h = absurd (not-accepted n i q (deep ∷ []) (sym h))
 
 module _ {v p b : List ℕ} (bytes : Bytes v p b) (out : List ℕ) where
   promised : (r : Reply) (after : List ℕ) → filled v p b out ≡ record { reply = r; after = after } → Shown v p b out after r
@@ -80,62 +68,83 @@ module _ {v p b : List ℕ} (bytes : Bytes v p b) (out : List ℕ) where
       go (fillable x) h = absurd (filling-never why (deepest (x .pattern) ∷ []) h)
       go (refusal n i q) h = ap (λ r. record { reply = r; after = out }) (sym h)
 
-  module _ {starts depths : List ℕ} {deep : ℕ} (f : Found v p b starts depths deep) where
-    abbrev x : FillInputs
-    x = f .inputs
+  module _ {starts depths : List ℕ} {deep : ℕ} {r : FillingAnswer} (read : FillingRead v p b starts depths r) (e : r ≡ G.Read deep) where
+    -- Inputs in order.
+    pub clear : (x : FillInputs) × (fillJudged v p b ≡ fillable x) × (deep ≡ deepest (x .pattern))
+    clear = go (fillJudged v p b) refl (sym (ap fillingNumbers e) ∙ read .answer)
+      where
+        go : (j : FillJudged) → fillJudged v p b ≡ j → accepted (deep ∷ []) ≡ fillClear j →
+            (x : FillInputs) × (fillJudged v p b ≡ fillable x) × (deep ≡ deepest (x .pattern))
+        go (fillable x) k h = (x, k, ap firstOf h)
+        go (refusal n i q) k h = absurd (not-accepted n i q (deep ∷ []) (sym h))
 
-    abbrev pub ready : Ready p b starts depths
-    ready = record {
-      vocabulary = v;
-      inputs = x;
-      held = fillable-held v p b out (bytes .vocabulary) (bytes .pattern) (bytes .filling) x (f .judged);
-      values = f .values;
+    abbrev pub known : Known p b starts depths deep
+    known = record {
+      ready = record {
+        vocabulary = v;
+        inputs = clear .0;
+        held = fillable-held v p b out (bytes .vocabulary) (bytes .pattern) (bytes .filling) (clear .0) (clear .1);
+        values = read .read (clear .0) (clear .1);
+      };
+      level = clear .2;
     }
 
-    -- A pattern has at most 32 levels, and a name is one of them.
-    abbrev pub measurable : {most reach : ℕ} → MostLevels depths most → reach ≡ 31 + most → Measurable p starts depths reach
-    measurable m e = measurable-wider (measurable-reach ready m (ready .held .pattern .limits .levels)) (omega arith)
+    pub fill-known : {after : List ℕ} {reply : Reply} → FillsRead p b starts depths deep out after reply → Shown v p b out after reply
+    fill-known {after} {reply} h =
+        let done = h known in
+        promised reply after
+        (ap (filledWith out) (clear .1) ∙ (λ i. record { reply = sym (done .reply) i; after = sym (done .after) i }))
 
-    -- What is measured.
-    abbrev pub length? : ℕ
-    length? = cond (large x) 4097 (length (filledBytes x))
+-- ---- inputs that are read
 
-    pub size-known : {most reach n : ℕ} → MostLevels depths most → reach ≡ 31 + most → ((a : Measurable p starts depths reach) → n ≡ measured a) → n ≡ length?
-    size-known m e h = h (measurable m e)
+module _ {p b starts depths : List ℕ} {deep : ℕ} (a : Known p b starts depths deep) (out : List ℕ) where
+  abbrev x : FillInputs
+  x = a .ready .inputs
 
-    -- The number that was measured tells whether the result is within the limits.
-    over : (n : ℕ) → n ≡ length? → mostBytes < n → large x ≡ true
-    over n e h = go (large x) refl e
-      where
-        go : (c : Bool) → large x ≡ c → n ≡ cond c 4097 (length (filledBytes x)) → large x ≡ true
-        go true k e = k
-        go false k e = let most = within-is (x .vocabulary) (x .kind) (x .pattern) (x .values) k .most in absurd (omega arith)
+  abbrev pub measurable : {most reach : ℕ} → MostLevels depths most → reach ≡ deep + most - 1 → Measurable p starts depths reach
+  measurable m e = measurable-wider (measurable-reach {d = deep} (a .ready) m (omega (arith, a .level))) (omega arith)
 
-    pub under : (n : ℕ) → n ≡ length? → n ≤ mostBytes → (large x ≡ false) × (n ≡ length (filledBytes x))
-    under n e h = go (large x) refl e
-      where
-        go : (c : Bool) → large x ≡ c → n ≡ cond c 4097 (length (filledBytes x)) → (large x ≡ false) × (n ≡ length (filledBytes x))
-        go true k e = absurd (omega arith)
-        go false k e = (k, e)
+  -- What is measured.
+  abbrev pub length? : ℕ
+  length? = cond (large x) 4097 (length (filledBytes x))
 
-    pub fill-large : (n : ℕ) → n ≡ length? → mostBytes < n → Shown v p b out out (refused 23 4 0)
-    fill-large n e h = promised (refused 23 4 0) out (ap (filledWith out) (f .judged) ∙ with-large out x (over n e h))
+  pub size-known : {most reach n : ℕ} → MostLevels depths most → reach ≡ deep + most - 1 → ((a : Measurable p starts depths reach) → n ≡ measured a) → n ≡ length?
+  size-known m e h = h (measurable m e)
 
-    pub fill-short : (n : ℕ) → n ≡ length? → n ≤ mostBytes → length out < n → Shown v p b out out (refused 20 3 n)
-    fill-short n e h short =
-        let k = under n e h in
-        subst (λ m. Shown v p b out out (refused 20 3 m)) (sym (k .1))
-        (promised (refused 20 3 (length (filledBytes x))) out
-        (ap (filledWith out) (f .judged) ∙ with-short out x (k .0) (subst (λ m. length out < m) (k .1) short)))
+  -- The number that was measured tells whether the result is within the limits.
+  over : (n : ℕ) → n ≡ length? → mostBytes < n → large x ≡ true
+  over n e h = go (large x) refl e
+    where
+      go : (c : Bool) → large x ≡ c → n ≡ cond c 4097 (length (filledBytes x)) → large x ≡ true
+      go true k e = k
+      go false k e = let most = within-is (x .vocabulary) (x .kind) (x .pattern) (x .values) k .most in absurd (omega arith)
 
-    abbrev pub writable : (n : ℕ) → n ≡ length? → n ≤ mostBytes → n ≤ length out → Writable p b starts (length out)
-    writable n e h room = record { depths = depths; ready = ready; fits = subst (λ m. m ≤ length out) (under n e h .1) room }
+  pub under : (n : ℕ) → n ≡ length? → n ≤ mostBytes → (large x ≡ false) × (n ≡ length (filledBytes x))
+  under n e h = go (large x) refl e
+    where
+      go : (c : Bool) → large x ≡ c → n ≡ cond c 4097 (length (filledBytes x)) → (large x ≡ false) × (n ≡ length (filledBytes x))
+      go true k e = absurd (omega arith)
+      go false k e = (k, e)
 
-    pub fill-written : (n : ℕ) → n ≡ length? → n ≤ mostBytes → n ≤ length out → (after : List ℕ) →
-        WritesResult p b starts out after → Shown v p b out after (accepted (n ∷ []))
-    fill-written n e h room after writes =
-        let k = under n e h in
-        let written = writes (writable n e h room) in
-        subst₂ (λ m l. Shown v p b out l (accepted (m ∷ []))) (sym (k .1)) (sym written)
-        (promised (accepted (length (filledBytes x) ∷ [])) (filledBytes x ++ drop (length (filledBytes x)) out)
-        (ap (filledWith out) (f .judged) ∙ with-room out x (k .0) (subst (λ m. m ≤ length out) (k .1) room)))
+  -- What filling gives, where it is computed so.
+  gives : {reply : Reply} {after : List ℕ} → filledWith out (fillable x) ≡ record { reply = reply; after = after } → HasEffect (filledWith out (fillable x)) reply after
+  gives e = record { reply = sym (ap (λ (r : Effect). r .reply) e); after = sym (ap (λ (r : Effect). r .after) e) }
+
+  pub fill-large : (n : ℕ) → n ≡ length? → mostBytes < n → HasEffect (filledWith out (fillable x)) (refused 23 4 0) out
+  fill-large n e h = gives (with-large out x (over n e h))
+
+  pub fill-short : (n : ℕ) → n ≡ length? → n ≤ mostBytes → length out < n → HasEffect (filledWith out (fillable x)) (refused 20 3 n) out
+  fill-short n e h short =
+      let k = under n e h in
+      subst (λ m. HasEffect (filledWith out (fillable x)) (refused 20 3 m) out) (sym (k .1))
+      (gives (with-short out x (k .0) (subst (λ m. length out < m) (k .1) short)))
+
+  abbrev pub writable : (n : ℕ) → n ≡ length? → n ≤ mostBytes → n ≤ length out → Writable p b starts (length out)
+  writable n e h room = record { depths = depths; ready = a .ready; fits = subst (λ m. m ≤ length out) (under n e h .1) room }
+
+  pub fill-written : (n : ℕ) → n ≡ length? → n ≤ mostBytes → n ≤ length out → (after : List ℕ) → WritesResult p b starts out after →
+      HasEffect (filledWith out (fillable x)) (accepted (n ∷ [])) after
+  fill-written n e h room after writes =
+      let k = under n e h in
+      subst₂ (λ m l. HasEffect (filledWith out (fillable x)) (accepted (m ∷ [])) l) (sym (k .1)) (sym (writes (writable n e h room)))
+      (gives (with-room out x (k .0) (subst (λ m. m ≤ length out) (k .1) room)))

@@ -1,6 +1,8 @@
 -- Ready: what measuring and writing the result of fill rest on, and what they give; no public contract cites it.
 --
 --   Ready p b starts depths            the pattern p and the filling file b are accepted, and the tables tell of the file's values
+--   Known p b starts depths deep       the same, and the pattern's deepest level is so deep
+--   FillsRead                          reply and slice are those of filling the pattern
 --   Measurable p starts depths reach   the same, of some filling file, and the result is no deeper than reach
 --   measured a                         the length of the result with its kind byte; 4,097 where the result passes a limit
 --   MostLevels depths r                no value has more levels than r, which is at least 1
@@ -15,15 +17,25 @@ use mathlib.Core.List.{List, _++_}
 use Prim.Native.Nat.{ℕ, suc, _+_, _-_, _<_, _≤_}
 use lib.ListN.{length, getD, take, drop}
 use Rattle.slices.specs.Written.{Written}
+use Rattle.wire.specs.Reply.{Reply}
 use Rattle.wire.specs.TermBytes.{nameCount, deepest, mostBytes}
 use Rattle.wire.specs.Filled.{FillInputs, HoldsFillInputs, filledTerm, filledBytes}
-use Rattle.wire.specs.FillComputed.{ValuesIn, large}
+use Rattle.wire.specs.Effect.{HasEffect}
+use Rattle.wire.specs.FillComputed.{fillable, ValuesIn, large, filledWith}
 
 pub record Ready (p b starts depths : List ℕ) : Type 0 where
   pub vocabulary : List ℕ
   pub inputs : FillInputs
   pub held : HoldsFillInputs vocabulary p b inputs
   pub values : ValuesIn inputs starts depths
+
+pub record Known (p b starts depths : List ℕ) (deep : ℕ) : Type 0 where
+  pub ready : Ready p b starts depths
+  pub level : deep ≡ deepest (ready .inputs .pattern)
+
+abbrev pub FillsRead : List ℕ → List ℕ → List ℕ → List ℕ → ℕ → List ℕ → List ℕ → Reply → Type 0
+FillsRead p b starts depths deep before after r =
+    (a : Known p b starts depths deep) → HasEffect (filledWith before (fillable (a .ready .inputs))) r after
 
 pub record Measurable (p starts depths : List ℕ) (reach : ℕ) : Type 0 where
   pub filling : List ℕ
