@@ -208,8 +208,8 @@ void pheasantry_list(const uint8_t *vocabulary, size_t vocabulary_length,
  *   stay as they were. If it is complete, pheasantry_match of the pattern with it says yes, and the table
  *   has the parts that were filled in.
  * Refused: 1 to 15 and 20 to 23, of which 20 is the last to be checked. A call with an out_length of 0
- *   measures: where the inputs are in order it is refused with 20, and reply[2] is the length that out
- *   has to have, at most 4,096.
+ *   measures: where the inputs are in order and the result is within the limits it is refused with 20,
+ *   and reply[2] is the length that out has to have, at most 4,096.
  */
 void pheasantry_fill(const uint8_t *vocabulary, size_t vocabulary_length,
                      const uint8_t *pattern, size_t pattern_length,

@@ -17,7 +17,7 @@ use Rattle.wire.specs.VocabularyLines.{byteAt}
 use Rattle.wire.specs.TermBytes.{nameCount}
 use Rattle.namemaps.specs.Difference.{DifferenceAt}
 use Rattle.reader.specs.Names.{listed}
-use Rattle.reader.specs.Fillings.{Skips, passed}
+use Rattle.reader.specs.Fillings.{Skips, startsPassed}
 use Rattle.reader.proofs.Tabling.{ValuesTo, values-absent}
 
 pub no-difference : {b names : List ℕ} {n : ℕ} → DifferenceAt b names n → nameCount ≤ n → DifferenceAt b names nameCount
@@ -43,17 +43,17 @@ skip-room n below first = omega arith
 
 module _ {v b names : List ℕ} {n at : ℕ} {starts depths : List ℕ} (x : ValuesTo v b names n at starts depths) where
   values-pass : (k : ℕ) → n + k ≤ nameCount → ((m : ℕ) → n ≤ m → m < n + k → listed names m ≡ false) →
-      ValuesTo v b names (n + k) at (passed starts n at k) depths
+      ValuesTo v b names (n + k) at (startsPassed starts n at k) depths
   values-pass zero h none = subst (λ m. ValuesTo v b names m at starts depths) (let e : n ≡ n + 0 = omega arith in e) x
   values-pass (suc k) h none =
       let y = values-pass k (omega arith) (λ m low high. none m low (omega arith)) in
       let same : set depths (n + k) 0 ≡ depths = ap (set depths (n + k)) (sym (y .ahead (n + k) (omega arith) (omega arith))) ∙ set-getD depths (n + k) 0 in
-      subst (λ m. ValuesTo v b names m at (set (passed starts n at k) m at) depths) (let e : n + k + 1 ≡ n + suc k = omega arith in e)
-      (subst (ValuesTo v b names (n + k + 1) at (set (passed starts n at k) (n + k + 1) at)) same
+      subst (λ m. ValuesTo v b names m at (set (startsPassed starts n at k) m at) depths) (let e : n + k + 1 ≡ n + suc k = omega arith in e)
+      (subst (ValuesTo v b names (n + k + 1) at (set (startsPassed starts n at k) (n + k + 1) at)) same
       (values-absent y (omega arith) (none (n + k) (omega arith) (omega arith))))
 
   pub values-skip : {starts′ : List ℕ} {r : Bool} → DifferenceAt b names nameCount → n < nameCount → Skips b n r → r ≡ true →
-      starts′ ≡ passed starts n at 8 → ValuesTo v b names (n + 8) at starts′ depths
+      starts′ ≡ startsPassed starts n at 8 → ValuesTo v b names (n + 8) at starts′ depths
   values-skip d below s e same =
       subst (λ l. ValuesTo v b names (n + 8) at l depths) (sym same)
       (values-pass 8 (skip-room n below (s e .0)) (none-listed d below (s e .0) (s e .1)))

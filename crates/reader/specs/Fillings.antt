@@ -11,7 +11,7 @@
 --   dueFor names n, duesTo names n    the value that is due for the name n, and those for the names below it
 --   valuesIn W names b      the values in the file b, for all names of the table
 --   Skips b n r             where r is true, n is the first of eight names whose byte in the map at the front of b is 0
---   passed starts n at k    the starts with each of the k behind the n-th at the offset
+--   startsPassed starts n at k    the starts with each of the k behind the n-th at the offset
 --   TablesTo                tables that tell of the names below n where the values begin and end, and how many levels they have
 --   ValuesRead              what reading the values gives, where the pattern's deepest level is that
 --   FileTold, FileRead      what reading a filling file for a pattern with that table of names gives
@@ -86,9 +86,9 @@ valuesIn W names b = line22 b (listedTo names nameCount) (readValues W (duesTo n
 abbrev pub Skips : List ℕ → ℕ → Bool → Type 0
 Skips b n r = r ≡ true → (n % 8 ≡ 0) × (byteAt b (n / 8) ≡ 0)
 
-abbrev pub passed : List ℕ → ℕ → ℕ → ℕ → List ℕ
-passed starts n at zero = starts
-passed starts n at (suc k) = set (passed starts n at k) (n + suc k) at
+abbrev pub startsPassed : List ℕ → ℕ → ℕ → ℕ → List ℕ
+startsPassed starts n at zero = starts
+startsPassed starts n at (suc k) = set (startsPassed starts n at k) (n + suc k) at
 
 pub record TablesTo (W : Vocabulary) (names : List ℕ) (n : ℕ) (bs : List Binding) (starts depths : List ℕ) : Type 0 where
   pub manyStarts : length starts ≡ nameCount + 1

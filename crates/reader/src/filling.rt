@@ -4,7 +4,7 @@ ghost use Prim.Native.Nat.{_+_, _/_, _<_, _≤_};
 ghost use lib.ListN.{length};
 ghost use Rattle.namemaps.specs.Difference.{DifferenceAt};
 ghost use Rattle.signature.specs.Tables.{Tables};
-ghost use Rattle.reader.specs.Fillings.{FaultAt, ValueRead, EntryRead, Skips, passed, ValuesRead, FileRead};
+ghost use Rattle.reader.specs.Fillings.{FaultAt, ValueRead, EntryRead, Skips, startsPassed, ValuesRead, FileRead};
 use crate::cursor;
 use crate::frame;
 use crate::node;
@@ -130,7 +130,7 @@ fn skips(b: &[u8], n: usize) -> bool
 // Sets the eight starts behind the n-th to one offset.
 fn pass_eight(starts: &mut [usize; 65], n: usize, at: usize)
     requires { ⌜ n + 8 ≤ 64 ⌝ }
-    ensures { λ r. ⌜ now (starts .exit) ≡ passed (now (starts .entry)) n at 8 ⌝ }
+    ensures { λ r. ⌜ now (starts .exit) ≡ startsPassed (now (starts .entry)) n at 8 ⌝ }
 {
     starts[n + 1] = at;
     starts[n + 2] = at;

@@ -30,7 +30,7 @@ use Rattle.wire.specs.TermBytes.{nameCount, encodeAt, GoodTerm, Limits, 
 use Rattle.wire.specs.Matching.{Inputs, HoldsInputs, size, cutOut, spanIn, yes}
 use Rattle.wire.specs.MatchComputed.{matched}
 use Rattle.wire.specs.FillingFile.{nameMapBytes, writeValue, HoldsFilling}
-use Rattle.wire.specs.Filled.{FillInputs, HoldsFillInputs, filledTerm, filledBytes, valueFrom, valueSpan, MatchesBack}
+use Rattle.wire.specs.Filled.{FillInputs, HoldsFillInputs, filledTerm, filledBytes, valueSpanFrom, valueSpan, MatchesBack}
 use Rattle.wire.specs.Laws.{FilledMatches}
 use Rattle.wire.proofs.TermBytes.{term-bytes}
 use Rattle.wire.proofs.Spans.{Covers, covers-cut}
@@ -40,7 +40,7 @@ use Rattle.wire.proofs.FilledTerms.{filled-is-good, complete-without-op
 -- ---- the parts in the file
 
 value-covers : (W : Vocabulary) (b : List ℕ) (bs : List Binding) (n at : ℕ) → occurs n (keysOf bs) ≡ true →
-    drop at b ≡ writeRow (writeValue W) bs → Covers W b (valueFrom W bs n at) (valueOf bs n)
+    drop at b ≡ writeRow (writeValue W) bs → Covers W b (valueSpanFrom W bs n at) (valueOf bs n)
 value-covers W b [] n at o e = absurd (false≢true o)
 value-covers W b (c ∷ bs) n at o e = go (eqb n (c .name)) o (λ o′. value-covers W b bs n (at + size W (c .value)) o′ rest)
   where
@@ -50,16 +50,16 @@ value-covers W b (c ∷ bs) n at o e = go (eqb n (c .name)) o (λ o′. value-co
         ∙ drop-at (writeValue W c) (writeRow (writeValue W) bs) (size W (c .value)) refl
 
     go : (d : Bool) → (d || occurs n (keysOf bs)) ≡ true →
-        (occurs n (keysOf bs) ≡ true → Covers W b (valueFrom W bs n (at + size W (c .value))) (valueOf bs n)) →
-        Covers W b (cond d (record { offset = at; bytes = size W (c .value) }) (valueFrom W bs n (at + size W (c .value))))
+        (occurs n (keysOf bs) ≡ true → Covers W b (valueSpanFrom W bs n (at + size W (c .value))) (valueOf bs n)) →
+        Covers W b (cond d (record { offset = at; bytes = size W (c .value) }) (valueSpanFrom W bs n (at + size W (c .value))))
         (cond d (c .value) (valueOf bs n))
     go true q below = record { behind = writeRow (writeValue W) bs; stands = e; long = refl }
     go false q below = below q
 
 given-bytes : (W : Vocabulary) (s : ℕ) (t : Term) (b : List ℕ) (bs : List Binding) → HoldsFilling W s t b bs →
-    (n : ℕ) → n < nameCount → occurs n (names t) ≡ true → cutOut b (valueFrom W bs n nameMapBytes) ≡ encodeAt W (asTerm (valueOf bs n))
+    (n : ℕ) → n < nameCount → occurs n (names t) ≡ true → cutOut b (valueSpanFrom W bs n nameMapBytes) ≡ encodeAt W (asTerm (valueOf bs n))
 given-bytes W s t b bs h n low o =
-    covers-cut W b (valueFrom W bs n nameMapBytes) (valueOf bs n)
+    covers-cut W b (valueSpanFrom W bs n nameMapBytes) (valueOf bs n)
     (value-covers W b bs n nameMapBytes key (ap (drop nameMapBytes) (h .written)))
   where
     key : occurs n (keysOf bs) ≡ true

@@ -56,7 +56,7 @@ valuesEnding W s t b = ending (readValues W (valuesDue W s t) (drop nameMapBytes
 
 -- A step keeps the ending.
 step-ends : (W : Vocabulary) {x y : State} → FullStep W x y → endingAt W x ≡ endingAt W y
-step-ends W (FullStep.fullWord {d = d} {ds = ds} f l r o w e k) =
+step-ends W (FullStep.onFullWord {d = d} {ds = ds} f l r o w e k) =
     ap ending
     (values-node W d ds (f ∷ l) o
     ∙ ap (λ x. andThen x (λ f r. andThen (readValues W (behind W d ds f) r) (put W f))) (full-got W (d .sort) f l r w e k))
@@ -65,7 +65,7 @@ step-ends W (FullStep.fullWord {d = d} {ds = ds} f l r o w e k) =
 -- A step takes bytes, and counts them.
 step-places : (W : Vocabulary) {x y : State} → FullStep W x y →
     (y .at + length (y .rest) ≡ x .at + length (x .rest)) × (length (y .rest) < length (x .rest))
-step-places W (FullStep.fullWord f l r o w e k) = let p = map-got l (mapOf W f) r k in (omega arith, omega arith)
+step-places W (FullStep.onFullWord f l r o w e k) = let p = map-got l (mapOf W f) r k in (omega arith, omega arith)
 
 module _ (W : Vocabulary) (s : ℕ) (t : Term) (b : List ℕ) where
   record OnPath (x : State) : Type 0 where

@@ -66,7 +66,7 @@ module _ (W : Vocabulary) (k f : ℕ) (l : List ℕ) where
 
 data ByteFault (W : Vocabulary) (d : Due) (at b : ℕ) (l : List ℕ) : ℕ → Type 0 where
   deep : mostLevels < d .level → ByteFault W d at b l at
-  noWord : (Word? W b → ⊥) → ByteFault W d at b l at
+  notAWord : (Word? W b → ⊥) → ByteFault W d at b l at
   otherKind : Word? W b → (word W b .result ≡ d .sort → ⊥) → ByteFault W d at b l at
   endsInMap : (r : List ℕ) → Word? W b → readMap l ≡ mapMissing r → ByteFault W d at b l (at + suc (length l))
   otherMap : (m : ℕ) (r : List ℕ) → Word? W b → readMap l ≡ mapGot m r → (m ≡ mapOf W b → ⊥) → ByteFault W d at b l (at + 1)
@@ -75,7 +75,7 @@ byte-fault : (W : Vocabulary) (d : Due) (ds : List Due) (seen : List Occurrence)
     FaultAt W d ds seen at (b ∷ l) q → ByteFault W d at b l q
 byte-fault W d ds seen at b l (ValueFault.ends e) = let z : _≡_ {A = ℕ} 0 1 = cc in absurd (omega arith)
 byte-fault W d ds seen at b l (ValueFault.deep f l′ e h) = deep h
-byte-fault W d ds seen at b l (ValueFault.noWord f l′ e h) = let p : f ≡ b = cc in noWord (rw p at h)
+byte-fault W d ds seen at b l (ValueFault.notAWord f l′ e h) = let p : f ≡ b = cc in notAWord (rw p at h)
 byte-fault W d ds seen at b l (ValueFault.otherKind f l′ e h k) = let p : f ≡ b = cc in otherKind (rw p at h) (rw p at k)
 byte-fault W d ds seen at b l (ValueFault.endsInMap f l′ r e h k) =
     let p : f ≡ b = cc in let q : l′ ≡ l = cc in endsInMap r (rw p at h) (rw q at k)
@@ -85,7 +85,7 @@ byte-fault W d ds seen at b l (ValueFault.otherMap f m l′ r e h k n) =
 -- No fault stands before the state.
 fault-behind : (W : Vocabulary) (d : Due) (at b : ℕ) (l : List ℕ) {q : ℕ} → ByteFault W d at b l q → at ≤ q
 fault-behind W d at b l (deep h) = omega arith
-fault-behind W d at b l (noWord h) = omega arith
+fault-behind W d at b l (notAWord h) = omega arith
 fault-behind W d at b l (otherKind h k) = omega arith
 fault-behind W d at b l (endsInMap r h k) = omega arith
 fault-behind W d at b l (otherMap m r h k n) = omega arith
@@ -108,7 +108,7 @@ stuck-empty W d ds seen at = record {
     first : {q : ℕ} → FaultAt W d ds seen at [] q → at ≤ q
     first (ValueFault.ends e) = omega arith
     first (ValueFault.deep f l′ e h) = omega arith
-    first (ValueFault.noWord f l′ e h) = omega arith
+    first (ValueFault.notAWord f l′ e h) = omega arith
     first (ValueFault.otherKind f l′ e h k) = omega arith
     first (ValueFault.endsInMap f l′ r e h k) = omega arith
     first (ValueFault.otherMap f m l′ r e h k n) = omega arith
@@ -150,7 +150,7 @@ module _ (W : Vocabulary) (d : Due) (ds : List Due) (seen : List Occurrence) (at
         where
           first : {q : ℕ} → ByteFault W d at b l q → at + suc (length l) ≤ q
           first (deep h) = absurd (omega arith)
-          first (noWord h) = absurd (h w)
+          first (notAWord h) = absurd (h w)
           first (otherKind h n) = absurd (n e)
           first (endsInMap r′ h k′) = omega arith
           first (otherMap m r′ h k′ n) = let z : _≡_ {A = ℕ} 0 1 = cc in absurd (omega arith)
@@ -167,17 +167,17 @@ module _ (W : Vocabulary) (d : Due) (ds : List Due) (seen : List Occurrence) (at
         where
           first : {q : ℕ} → ByteFault W d at b l q → at + 1 ≤ q
           first (deep h) = absurd (omega arith)
-          first (noWord h) = absurd (h w)
+          first (notAWord h) = absurd (h w)
           first (otherKind h n) = absurd (n e)
           first (endsInMap r′ h k′) = omega arith
           first (otherMap m′ r′ h k′ n′) = omega arith
 
       moves-word : (r : List ℕ) → readMap l ≡ mapGot (mapOf W b) r → Moves W d ds seen at (b ∷ l)
-      moves-word r k = record { next = _; step = FullStep.fullWord b l r o w e k; clear = λ q h. clear (byte-fault W d ds seen at b l h) }
+      moves-word r k = record { next = _; step = FullStep.onFullWord b l r o w e k; clear = λ q h. clear (byte-fault W d ds seen at b l h) }
         where
           clear : {q : ℕ} → ByteFault W d at b l q → ⊥
           clear (deep h) = omega arith
-          clear (noWord h) = h w
+          clear (notAWord h) = h w
           clear (otherKind h n) = n e
           clear (endsInMap r′ h k′) = let z : _≡_ {A = ℕ} 0 1 = cc in omega arith
           clear (otherMap m r′ h k′ n) = let p : m ≡ mapOf W b = cc in n p
@@ -195,7 +195,7 @@ module _ (W : Vocabulary) (d : Due) (ds : List Due) (seen : List Occurrence) (at
     look-word true false p q =
         inl (stuck-stray (ap₂ _&&_ p q) (ValueFault.otherKind b l refl (ltb-true _ _ p) (eqb-false _ _ q)))
     look-word false u p q =
-        inl (stuck-stray (ap₂ _&&_ p q) (ValueFault.noWord b l refl (λ h. omega (arith, ltb-false b (length (W .words)) p))))
+        inl (stuck-stray (ap₂ _&&_ p q) (ValueFault.notAWord b l refl (λ h. omega (arith, ltb-false b (length (W .words)) p))))
 
 -- What there is at a state where a term is due.
 pub look : (W : Vocabulary) (d : Due) (ds : List Due) (seen : List Occurrence) (at : ℕ) (rest : List ℕ) →

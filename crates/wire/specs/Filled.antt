@@ -4,7 +4,7 @@
 --   HoldsFillInputs v p b x  the bytes v, p and b are accepted: they write these inputs
 --   filledTerm x             the pattern with each name replaced
 --   filledBytes x            its bytes
---   valueFrom, valueSpan x n where the value of the name n stands in the filling file; 0 and 0 where it has none
+--   valueSpanFrom, valueSpan x n    where the value of the name n stands in the filling file; 0 and 0 where it has none
 --   FillUnder, FillRefusal   the number, input and place that the refusal list decides on: lines 1 to 15, 21, 22, 23 and 20
 --   MatchesBack v p b x m    match says yes to the situation m, with the parts that the file gave
 --   Result v p b x m after   what stands in the first m bytes of the lent slice
@@ -51,12 +51,12 @@ abbrev pub filledBytes : FillInputs → List ℕ
 filledBytes x = encodeTerm (x .vocabulary) (x .kind) (filledTerm x)
 
 -- The values stand behind the map, each directly behind the one before it.
-abbrev pub valueFrom : Vocabulary → List Binding → ℕ → ℕ → Span
-valueFrom W [] n at = noSpan
-valueFrom W (b ∷ bs) n at = cond (eqb n (b .name)) (record { offset = at; bytes = size W (b .value) }) (valueFrom W bs n (at + size W (b .value)))
+abbrev pub valueSpanFrom : Vocabulary → List Binding → ℕ → ℕ → Span
+valueSpanFrom W [] n at = noSpan
+valueSpanFrom W (b ∷ bs) n at = cond (eqb n (b .name)) (record { offset = at; bytes = size W (b .value) }) (valueSpanFrom W bs n (at + size W (b .value)))
 
 abbrev pub valueSpan : FillInputs → ℕ → Span
-valueSpan x n = valueFrom (x .vocabulary) (x .values) n nameMapBytes
+valueSpan x n = valueSpanFrom (x .vocabulary) (x .values) n nameMapBytes
 
 -- "After vocabulary and pattern come 21 ..; then 22 ..; 23 .., and then 20. 21 to 23 have input 4."
 pub data FillUnder (p b out : List ℕ) (W : Vocabulary) : ℕ → ℕ → ℕ → Type 0 where

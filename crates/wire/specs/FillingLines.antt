@@ -42,7 +42,7 @@ valuesDue W s t = map (λ n. record { sort = sortIn (occurrences (signature W) t
 
 -- "A term is complete if .. every written map equals its word's place map."
 pub data FullStep (W : Vocabulary) : State → State → Type 0 where
-  fullWord : {d : Due} {ds : List Due} {seen : List Occurrence} {at : ℕ} (f : ℕ) (l r : List ℕ) →
+  onFullWord : {d : Due} {ds : List Due} {seen : List Occurrence} {at : ℕ} (f : ℕ) (l r : List ℕ) →
       d .level ≤ mostLevels → Word? W f → word W f .result ≡ d .sort → readMap l ≡ mapGot (mapOf W f) r →
       FullStep W
       (record { due = d ∷ ds; seen = seen; at = at; rest = f ∷ l })
@@ -63,7 +63,7 @@ pub data ValueFault (W : Vocabulary) (x : State) (d : Due) : ℕ → Type 0 wher
   -- Level 33 would begin.
   deep : (b : ℕ) (l : List ℕ) → x .rest ≡ b ∷ l → mostLevels < d .level → ValueFault W x d (x .at)
   -- A name, a 255 or any other byte that is no word.
-  noWord : (b : ℕ) (l : List ℕ) → x .rest ≡ b ∷ l → (Word? W b → ⊥) → ValueFault W x d (x .at)
+  notAWord : (b : ℕ) (l : List ℕ) → x .rest ≡ b ∷ l → (Word? W b → ⊥) → ValueFault W x d (x .at)
   -- A word of another kind.
   otherKind : (f : ℕ) (l : List ℕ) → x .rest ≡ f ∷ l → Word? W f → (word W f .result ≡ d .sort → ⊥) → ValueFault W x d (x .at)
   -- Its map is missing.
