@@ -30,9 +30,9 @@
  *     call. Inputs are only read, and may overlap each other.
  *   - Nothing is allocated, kept or freed.
  *   - 16 KiB of stack are enough for every call. Measured by bindings/c/stack.c, on 32 levels, terms
- *     of 4,096 bytes, 96 words of 16 kinds and listings of 12 MB: pheasantry_list took at most 12,952
- *     bytes, the others at most 1,768, and the dynamic linker some 3,200 bytes more where it had to
- *     look up a function of the C library during the call.
+ *     of 4,096 bytes, 96 words of 16 kinds and listings of 12 MB: pheasantry_list took at most 13,096
+ *     bytes, pheasantry_fill 4,872 and the others at most 4,552, of which the dynamic linker takes some
+ *     2,800 where it has to look up a function of the C library during the call.
  *
  * Threads
  *   There is no global state. Calls may run at the same time, as long as nothing writes the memory
