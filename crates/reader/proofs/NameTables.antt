@@ -13,7 +13,7 @@ use lib.Dec.{eqb}
 use lib.ListN.{length, getD}
 use borrow.Author.Tests.{lt-ltb, le-ltb, eqb-true, eqb-false, ne-eqb}
 use Rattle.terms.specs.Lists.{All, occurs}
-use Rattle.terms.specs.Term.{Term, Occurrence, occurrences, Consistent, WellSorted}
+use Rattle.terms.specs.Term.{Term, Occurrence, occurrences, Consistent, WellSorted, sortIn}
 use Rattle.terms.specs.Term.{names as namesOf}
 use Rattle.terms.proofs.All.{all-implies}
 use Rattle.terms.proofs.Occurs.{all-other}
@@ -21,7 +21,6 @@ use Rattle.terms.proofs.Term.{names-occurrences, occurrences-sorts}
 use Rattle.wire.specs.Reply.{Kinded, kinded}
 use Rattle.wire.specs.Vocabulary.{Vocabulary, InOrder, signature}
 use Rattle.wire.specs.TermBytes.{nameCount, mostLevels}
-use Rattle.wire.specs.FillingLines.{sortIn}
 use Rattle.wire.specs.Parser.{accept, refuse, Got, got, stop, Read, clash, line15, readTerm}
 use Rattle.wire.specs.CheckComputed.{checkedTerm}
 use Rattle.wire.specs.Scan.{Scanned, tallied}
@@ -30,7 +29,7 @@ use Rattle.wire.proofs.Scan.{scan-reads}
 use Rattle.wire.proofs.Seen.{Agree, agree-clash, clash-agree}
 use Rattle.wire.proofs.Words.{length-symbols, arguments-word, word-in-order}
 use Rattle.wire.proofs.VocabulariesInverse.{accept-same}
-use Rattle.wire.proofs.FillingValues.{sort-in, sorts-in}
+use Rattle.terms.proofs.Sorts.{sort-in, sorts-in}
 use Rattle.reader.specs.Names.{clashing, Named, listed, TableOf}
 use Rattle.reader.specs.Terms.{Ends}
 use Rattle.reader.specs.Whole.{toldBy, told, wholeTold, WholeRead}

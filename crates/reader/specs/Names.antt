@@ -12,11 +12,10 @@ use Prim.Native.Nat.{ℕ, _<_}
 use lib.Dec.{eqb, ltb}
 use lib.ListN.{getD}
 use Rattle.terms.specs.Lists.{occurs}
-use Rattle.terms.specs.Term.{Term, Occurrence, occurrences}
+use Rattle.terms.specs.Term.{Term, Occurrence, occurrences, sortIn}
 use Rattle.terms.specs.Term.{names as namesOf}
 use Rattle.wire.specs.Vocabulary.{Vocabulary, signature}
 use Rattle.wire.specs.TermBytes.{nameCount}
-use Rattle.wire.specs.FillingLines.{sortIn}
 use Rattle.wire.specs.Parser.{clash}
 
 -- A name that has not stood yet has the entry 65535.

@@ -18,6 +18,7 @@ pub mod Matcher
 pub mod Filling
 -- On substitutions.
 pub mod Variables
+pub mod Sorts
 pub mod Substitution
 pub mod Replacing
 -- On listings.

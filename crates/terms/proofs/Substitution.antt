@@ -10,24 +10,22 @@
 --   instance-fits        what a substitution that keeps sorts gives the variables of a pattern is a filling
 --
 use mathlib.Core.Path.{_≡_, refl, sym, _∙_, ap, ap₂}
-use mathlib.Core.Bool.{Bool, true, false, cond, _||_, false≢true}
-use mathlib.Core.List.{List, [], _∷_, map}
+use mathlib.Core.Bool.{true, _||_}
+use mathlib.Core.List.{List, [], _∷_}
 use mathlib.Core.Logic.{_↔_}
 use Prim.Native.Nat.{ℕ, _+_, _<_}
 use native.Mathlib.Nat.{zero-add, add-zero}
-use lib.Dec.{eqb}
 use lib.ListN.{length, getD, drop}
 use lib.Seq.{drop-drop, getD-drop}
-use borrow.Author.Tests.{eqb-true}
 use Rattle.terms.specs.Lists.{All, occurs}
 use Rattle.terms.specs.Signature.{Signature, arguments}
-use Rattle.terms.specs.Term.{Term, any, var, app, Terms, nil, cons, Ground, gapp, Grounds, gnil, gcons, Sorted, SortedAll, SortedG, SortedGs, Occurrence, occurrences, Consistent, WellSorted, names, openSorts, openings}
+use Rattle.terms.specs.Term.{Term, any, var, app, Terms, nil, cons, Ground, gapp, Grounds, gnil, gcons, Sorted, SortedAll, SortedG, SortedGs, occurrences, WellSorted, names, openSorts, openings, sortIn}
 use Rattle.terms.specs.Filling.{Filling, noGround, valueOf, fillFrom, fillAll, fill, Fits}
 use Rattle.terms.specs.Laws.{openAt, Gives, SortsAddNothing, MatchingIsFitting}
 use Rattle.terms.specs.Substitution.{Var, name, place, Tm, tvar, tapp, Tms, tnil, tcons, Substitution, carry, carryAll, asTm, asTms, withVariablesFrom, withVariablesAll, withVariables}
 use Rattle.terms.specs.Instance.{sortOf, SortedT, SortedTs, KeepsSorts, Instance}
+use Rattle.terms.proofs.Sorts.{sorts-in}
 use Rattle.terms.proofs.All.{all-implies, all-both, all-append}
-use Rattle.terms.proofs.Occurs.{all-occurs}
 use Rattle.terms.proofs.Term.{occurrences-named}
 use Rattle.terms.proofs.Fill.{sorted-each-at}
 use Rattle.terms.proofs.Filling.{each-choice-has-a-filling}
@@ -152,31 +150,10 @@ mutual
   ground-values-all v (tcons t ts) h =
       all-append (λ x. IsGround (v x)) (vars t) (varsAll ts) (ground-values v t (cc)) (ground-values-all v ts (cc))
 
--- The sort of the first occurrence of n.
-abbrev firstSort : List Occurrence → ℕ → ℕ
-firstSort [] n = 0
-firstSort (o ∷ l) n = cond (eqb n (o .name)) (o .sort) (firstSort l n)
-
-first-sort : (n s : ℕ) (l : List Occurrence) → occurs n (map (λ o. o .name) l) ≡ true → All (λ o. n ≡ o .name → s ≡ o .sort) l → firstSort l n ≡ s
-first-sort n s [] h a = absurd (false≢true h)
-first-sort n s (o ∷ l) h a = go (eqb n (o .name)) refl h (λ k. first-sort n s l k (a .1))
-  where
-    go : (b : Bool) → eqb n (o .name) ≡ b → (b || occurs n (map (λ o′. o′ .name) l)) ≡ true → (occurs n (map (λ o′. o′ .name) l) ≡ true → firstSort l n ≡ s)
-        → cond b (o .sort) (firstSort l n) ≡ s
-    go true e k below = sym (a .0 (eqb-true n (o .name) e))
-    go false e k below = below k
-
-first-sorts : (l : List Occurrence) → Consistent l → All (λ o. firstSort l (o .name) ≡ o .sort) l
-first-sorts l h =
-    all-implies (λ o. (occurs (o .name) (map (λ o′. o′ .name) l) ≡ true) × All (λ o′. o .name ≡ o′ .name → o .sort ≡ o′ .sort) l)
-    (λ o. firstSort l (o .name) ≡ o .sort) (λ o k. first-sort (o .name) (o .sort) l (k .0) (k .1)) l
-    (all-both (λ o. occurs (o .name) (map (λ o′. o′ .name) l) ≡ true) (λ o. All (λ o′. o .name ≡ o′ .name → o .sort ≡ o′ .sort) l) l
-    (all-occurs (λ o. o .name) l) h)
-
 module _ (S : Signature) (p : Term) (s : ℕ) (g : Ground) (w : WellSorted S p s) (σ : Substitution) (keeps : KeepsSorts S σ) (e : carry (σ .value) (withVariables S p s) ≡ asTm g) where
   -- The value of each variable and of each open place.
   abbrev chosenName : ℕ → Ground
-  chosenName n = toGround (σ .value (name n (firstSort (occurrences S p s) n)))
+  chosenName n = toGround (σ .value (name n (sortIn (occurrences S p s) n)))
 
   abbrev chosenPlace : ℕ → Ground
   chosenPlace i = toGround (σ .value (place i (getD (openSorts S p s) i 0)))
@@ -190,10 +167,10 @@ module _ (S : Signature) (p : Term) (s : ℕ) (g : Ground) (w : WellSorted S p s
   -- The choice gives each occurrence of a name what the substitution gives it.
   name-value : All (λ o. asTm (chosenName (o .name)) ≡ σ .value (name (o .name) (o .sort))) (occurrences S p s)
   name-value =
-      all-implies (λ o. IsGround (σ .value (name (o .name) (o .sort))) × (firstSort (occurrences S p s) (o .name) ≡ o .sort))
+      all-implies (λ o. IsGround (σ .value (name (o .name) (o .sort))) × (sortIn (occurrences S p s) (o .name) ≡ o .sort))
       (λ o. asTm (chosenName (o .name)) ≡ σ .value (name (o .name) (o .sort))) (λ o h. rw (h .1) (h .0)) (occurrences S p s)
-      (all-both (λ o. IsGround (σ .value (name (o .name) (o .sort)))) (λ o. firstSort (occurrences S p s) (o .name) ≡ o .sort) (occurrences S p s)
-      (names-all (λ x. IsGround (σ .value x)) S p s 0 values-ground) (first-sorts (occurrences S p s) (w .consistent)))
+      (all-both (λ o. IsGround (σ .value (name (o .name) (o .sort)))) (λ o. sortIn (occurrences S p s) (o .name) ≡ o .sort) (occurrences S p s)
+      (names-all (λ x. IsGround (σ .value x)) S p s 0 values-ground) (sorts-in (occurrences S p s) (w .consistent)))
 
   place-value : (i : ℕ) → i < length (openSorts S p s) → asTm (chosenPlace i) ≡ σ .value (place i (getD (openSorts S p s) i 0))
   place-value i b = rw zero-add at (places-all (λ x. IsGround (σ .value x)) S p s 0 (w .sorted) values-ground i b)

@@ -7,6 +7,7 @@
 --   SortedG S g s, SortedGs S gs ks        g is a ground term of sort s, gs are ground terms of the sorts ks
 --   Occurrence                             a variable and the sort due where it stands
 --   occurrences S t s, occurrencesAll S ts ks   the occurrences of variables, from left to right
+--   sortIn l n                             the sort at which the variable n stands, by its first occurrence in l
 --   Consistent l                           one variable, one sort
 --   WellSorted S t s                       document 01's patterns of kind s: Sorted, and its variables Consistent
 --   names t, namesAll ts                   the variables, an entry an occurrence, from left to right
@@ -15,8 +16,10 @@
 --   openings t, openingsAll ts             how many open places there are
 --
 use mathlib.Core.Path.{_≡_}
+use mathlib.Core.Bool.{cond}
 use mathlib.Core.List.{List, [], _∷_, _++_}
 use Prim.Native.Nat.{ℕ, _+_, _<_}
+use lib.Dec.{eqb}
 use lib.ListN.{length}
 use Rattle.terms.specs.Lists.{All, NoneTwice}
 use Rattle.terms.specs.Signature.{Signature, result, arguments}
@@ -86,6 +89,10 @@ abbrev mutual
   occurrencesAll S nil ks = []
   occurrencesAll S (cons t ts) [] = []
   occurrencesAll S (cons t ts) (k ∷ ks) = occurrences S t k ++ occurrencesAll S ts ks
+
+abbrev pub sortIn : List Occurrence → ℕ → ℕ
+sortIn [] n = 0
+sortIn (o ∷ l) n = cond (eqb n (o .name)) (o .sort) (sortIn l n)
 
 -- Document 01: "It may stand several times, always at places of one kind."
 abbrev pub Consistent : List Occurrence → Type 0

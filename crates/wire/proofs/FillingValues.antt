@@ -3,32 +3,30 @@
 --   valuesOf bs             the values of the bindings bs
 --   bindings-parts, bindings-joined, bindings-back    names and values put together, and taken apart
 --   row-values              the values are written as those terms
---   sort-in, sorts-in       the kind at which a name stands is that of one of its occurrences, and of each where they agree
 --   dueOf l n               what is due for the name n, whose occurrences l tells
 --   values-good, good-sorted, good-fits    bindings of the pattern's names are a good filling exactly where their values
 --                           are of the kinds due, and fit
 --
 use mathlib.Core.Path.{_≡_, refl, sym, ap, subst, _∙_}
-use mathlib.Core.Bool.{Bool, true, false, _||_, cond, false≢true}
+use mathlib.Core.Bool.{true, false, _||_}
 use mathlib.Core.List.{List, [], _∷_, _++_, map}
 use Prim.Native.Nat.{ℕ, _<_, _≤_}
 use native.Mathlib.Omega.{arith}
-use lib.Dec.{eqb}
-use borrow.Author.Tests.{eqb-true}
 use Rattle.terms.specs.Lists.{All, occurs, NoneTwice, range}
 use Rattle.terms.specs.Signature.{Signature}
-use Rattle.terms.specs.Term.{Term, Ground, Grounds, gnil, gcons, SortedG, SortedGs, asTerm, asTerms, Occurrence, occurrences, Consistent, names}
+use Rattle.terms.specs.Term.{Term, Ground, Grounds, gnil, gcons, SortedG, SortedGs, asTerm, asTerms, Occurrence, occurrences, names, sortIn}
 use Rattle.terms.specs.Filling.{Binding, valueOf}
 use Rattle.terms.proofs.All.{all-implies, all-both, all-always, all-keep}
 use Rattle.terms.proofs.Binding.{keysOf, given, given-values}
-use Rattle.terms.proofs.Occurs.{occurs-all, all-occurs}
+use Rattle.terms.proofs.Occurs.{occurs-all}
 use Rattle.terms.proofs.Term.{names-occurrences, occurrences-named}
+use Rattle.terms.proofs.Sorts.{sort-in, sorts-in}
 use Rattle.wire.specs.Row.{writeRow}
 use Rattle.wire.specs.Vocabulary.{Vocabulary, signature}
 use Rattle.wire.specs.TermBytes.{nameCount, encodeAt, encodeAll, GoodTerm, levels, mostLevels}
 use Rattle.wire.specs.TermLines.{Due}
 use Rattle.wire.specs.FillingFile.{ascending, writeValue, GoodFilling}
-use Rattle.wire.specs.FillingLines.{sortIn, valuesDue}
+use Rattle.wire.specs.FillingLines.{valuesDue}
 use Rattle.wire.specs.FillComputed.{bindings}
 use Rattle.wire.proofs.GroundBytes.{joined}
 use Rattle.wire.proofs.FullTerms.{sortsDue, FitsDue}
@@ -63,25 +61,6 @@ module _ (d : ℕ → Due) where
   bindings-joined (gcons g gs) hs (n ∷ ns) ms f = ap {B = List Binding} (λ l. record { name = n; value = g } ∷ l) (bindings-joined gs hs ns ms (f .1))
 
 -- ---- the kinds at which names stand
-
--- What holds of every occurrence of a name and its kind holds of the name's first.
-pub sort-in : (P : ℕ → ℕ → Type 0) (n : ℕ) (l : List Occurrence) → occurs n (map (λ o. o .name) l) ≡ true →
-    All (λ o. P (o .name) (o .sort)) l → P n (sortIn l n)
-sort-in P n [] h a = absurd (false≢true h)
-sort-in P n (o ∷ l) h a = go (eqb n (o .name)) refl h (λ k. sort-in P n l k (a .1))
-  where
-    go : (b : Bool) → eqb n (o .name) ≡ b → (b || occurs n (map (λ o. o .name) l)) ≡ true →
-        (occurs n (map (λ o. o .name) l) ≡ true → P n (sortIn l n)) → P n (cond b (o .sort) (sortIn l n))
-    go true e k below = subst (λ m. P m (o .sort)) (sym (eqb-true n (o .name) e)) (a .0)
-    go false e k below = below k
-
--- Of a consistent list it is the kind of each.
-pub sorts-in : (l : List Occurrence) → Consistent l → All (λ o. sortIn l (o .name) ≡ o .sort) l
-sorts-in l c =
-    all-implies (λ o. (occurs (o .name) (map (λ o. o .name) l) ≡ true) × All (λ o′. o .name ≡ o′ .name → o .sort ≡ o′ .sort) l)
-    (λ o. sortIn l (o .name) ≡ o .sort) (λ o k. sym (sort-in (λ n s. o .name ≡ n → o .sort ≡ s) (o .name) l (k .0) (k .1) refl)) l
-    (all-both (λ o. occurs (o .name) (map (λ o. o .name) l) ≡ true) (λ o. All (λ o′. o .name ≡ o′ .name → o .sort ≡ o′ .sort) l) l
-    (all-occurs (λ o. o .name) l) c)
 
 module _ (W : Vocabulary) (s : ℕ) (t : Term) (good : GoodTerm W s t) (P : ℕ → ℕ → Type 0) where
   abbrev seen : List Occurrence

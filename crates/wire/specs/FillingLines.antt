@@ -2,7 +2,6 @@
 --
 --   nameStands b n          the bit of name n stands in the map at the front of b
 --   Differs b t n           the map and the set of names in the pattern t differ at the name n
---   sortIn l n              the kind at which the name n stands, by its first occurrence in l
 --   valuesDue W s t         what is due behind the map: a term of its kind for each name of the pattern, ascending
 --   FullStep W x y          the byte at state x begins a word with all its places written, which is in order: then state y
 --   valuesStart W s t b     the state behind the map of the file b
@@ -11,13 +10,12 @@
 --   FillingLine W s t b n q line n, of 21 and 22, fits the file b for the pattern t of kind s at the place q
 --
 use mathlib.Core.Path.{_≡_}
-use mathlib.Core.Bool.{Bool, false, cond}
+use mathlib.Core.Bool.{Bool, false}
 use mathlib.Core.List.{List, [], _∷_, _++_, map}
 use Prim.Native.Nat.{ℕ, suc, _+_, _/_, _%_, _<_, _≤_}
-use lib.Dec.{eqb}
 use lib.ListN.{length, getD, drop}
 use Rattle.terms.specs.Lists.{occurs}
-use Rattle.terms.specs.Term.{Term, Occurrence, occurrences, names}
+use Rattle.terms.specs.Term.{Term, Occurrence, occurrences, sortIn, names}
 use Rattle.wire.specs.Map.{mapBytes, mapGot, mapMissing, readMap, flagsIn, flags, slots}
 use Rattle.wire.specs.Vocabulary.{Vocabulary, signature, word, mapOf}
 use Rattle.wire.specs.TermBytes.{nameCount, mostLevels}
@@ -31,10 +29,6 @@ nameStands b n = getD (flagsIn 8 (byteAt b (n / 8))) (n % 8) false
 
 abbrev pub Differs : List ℕ → Term → ℕ → Type 0
 Differs b t n = (n < nameCount) × (nameStands b n ≡ occurs n (names t) → ⊥)
-
-abbrev pub sortIn : List Occurrence → ℕ → ℕ
-sortIn [] n = 0
-sortIn (o ∷ l) n = cond (eqb n (o .name)) (o .sort) (sortIn l n)
 
 -- "for each standing bit in ascending order, one complete term", "of its name's kind", with "levels of its own".
 abbrev pub valuesDue : Vocabulary → ℕ → Term → List Due
