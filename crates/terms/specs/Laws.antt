@@ -14,10 +14,17 @@
 --   StrikeOut                   each entry has a ground term that fits it and nothing else
 --   EntriesAreLinearPatterns    each entry is a linear pattern of the sort
 --   ListingRepresents           the entries represent the non-instances (source 000, Definition 2.1)
+--   DisjointSharesNothing       over inhabited sorts, terms share no ground term exactly where they are disjoint
+--   OnePatternBook              the entries of a book of one pattern are its own, with their names opened
+--   PatternsOfSort S s ps       ps are linear patterns of sort s
+--   BookPartition               every ground term fits some pattern of a book or, by one filling, exactly one entry, not both
+--   BookStrikeOut               each entry of a book has a ground term that fits it, no pattern and no other entry
+--   BookEntriesArePatterns      each entry of a book is a pattern of the sort, without names
+--   BookRepresents              the entries of a book represent what its patterns leave (source 000, problem P′)
 --
 use mathlib.Core.Path.{_≡_}
 use mathlib.Core.Bool.{true}
-use mathlib.Core.List.{List, _∷_, map}
+use mathlib.Core.List.{List, [], _∷_, map}
 use mathlib.Core.Logic.{_↔_}
 use Prim.Native.Nat.{ℕ, _<_}
 use lib.ListN.{length, getD}
@@ -30,6 +37,7 @@ use Rattle.terms.specs.Replacing.{replace, Applies}
 use Rattle.terms.specs.Instance.{SortedT, Instance, Represents}
 use Rattle.terms.specs.Inhabited.{Inhabited}
 use Rattle.terms.specs.Listing.{listing, FitsExactlyOne, Needed}
+use Rattle.terms.specs.Book.{nameless, Shares, disjoint, bookListing, FitsEither, NeededBeside, RepresentsAll}
 
 -- ---- fillings
 
@@ -109,3 +117,37 @@ abbrev pub ListingRepresents : Type 0
 ListingRepresents =
     (S : Signature) (p : Term) (s : ℕ) → Sorted S p s → Linear p →
     Represents S s (withVariables S p s) (map (λ e. withVariables S e s) (listing S p))
+
+-- ---- books
+
+-- "shares no situation".
+abbrev pub DisjointSharesNothing : Type 0
+DisjointSharesNothing =
+    (S : Signature) (s : ℕ) (e p : Term) → WellFormed S → Inhabited S → s < S .sorts → Sorted S e s → Linear e → Sorted S p s → Linear p →
+    (disjoint e p ≡ true) ↔ (Shares S s e p → ⊥)
+
+abbrev pub OnePatternBook : Type 0
+OnePatternBook = (S : Signature) (p : Term) → bookListing S (p ∷ []) ≡ map nameless (listing S p)
+
+abbrev pub PatternsOfSort : Signature → ℕ → List Term → Type 0
+PatternsOfSort S s ps = All (λ p. Sorted S p s × Linear p) ps
+
+-- No sort has to be inhabited for this.
+abbrev pub BookPartition : Type 0
+BookPartition =
+    (S : Signature) (ps : List Term) (s : ℕ) → PatternsOfSort S s ps → (g : Ground) → SortedG S g s →
+    FitsEither S ps (bookListing S ps) s g
+
+abbrev pub BookStrikeOut : Type 0
+BookStrikeOut =
+    (S : Signature) (ps : List Term) (s : ℕ) → WellFormed S → Inhabited S → s < S .sorts → PatternsOfSort S s ps →
+    (i : ℕ) → i < length (bookListing S ps) → NeededBeside S ps (bookListing S ps) s i
+
+abbrev pub BookEntriesArePatterns : Type 0
+BookEntriesArePatterns =
+    (S : Signature) (ps : List Term) (s : ℕ) → PatternsOfSort S s ps → All (λ e. Sorted S e s × (names e ≡ [])) (bookListing S ps)
+
+abbrev pub BookRepresents : Type 0
+BookRepresents =
+    (S : Signature) (ps : List Term) (s : ℕ) → PatternsOfSort S s ps →
+    RepresentsAll S s (map (λ p. withVariables S p s) ps) (map (λ e. withVariables S e s) (bookListing S ps))

@@ -9,6 +9,7 @@ pub mod Replacing
 pub mod Instance
 pub mod Inhabited
 pub mod Listing
+pub mod Book
 -- Ways to compute it, each with the law that fixes it:
 pub mod Matcher
 pub mod Emptiness

@@ -8,10 +8,11 @@
 --   range from n     from, from + 1, .., n numbers in all
 --   keep test l      the elements of l that pass the test, in their order
 --   orElse o p       the first of two things that may be missing
+--   Reordered l m    l has the elements of m, each as often as m has it, in some order
 --
 use mathlib.Core.Path.{_≡_}
 use mathlib.Core.Bool.{Bool, false, cond, not, _||_}
-use mathlib.Core.List.{List, [], _∷_}
+use mathlib.Core.List.{List, [], _∷_, _++_}
 use mathlib.Core.Option.{Option, some, none}
 use Prim.Native.Nat.{ℕ, zero, suc}
 use lib.Dec.{eqb}
@@ -46,3 +47,8 @@ range from (suc n) = from ∷ range (suc from) n
 abbrev pub orElse : {A : Type 0} → Option A → Option A → Option A
 orElse (some x) o = some x
 orElse none o = o
+
+-- The first element of m stands somewhere in l, between k and r; without it, l has those behind the first.
+pub data Reordered {A : Type 0} : List A → List A → Type 0 where
+  empty : Reordered [] []
+  moved : (x : A) (k r m l : List A) → l ≡ k ++ (x ∷ r) → Reordered (k ++ r) m → Reordered l (x ∷ m)
