@@ -66,6 +66,10 @@ pub all-map : {A B : Type 0} (P : B → Type 0) (f : A → B) (l : List A) → A
 all-map P f [] a = tt
 all-map P f (x ∷ l) a = (a .0, all-map P f l (a .1))
 
+pub all-maps : {A B C : Type 0} (P : C → Type 0) (f : A → C) (h : B → C) (l : List A) (m : List B) →
+    All (λ x. P (f x)) l → All (λ y. P (h y)) m → All P (map f l ++ map h m)
+all-maps P f h l m a b = all-append P (map f l) (map h m) (all-map P f l a) (all-map P h m b)
+
 pub all-unmap : {A B : Type 0} (P : B → Type 0) (f : A → B) (l : List A) → All P (map f l) → All (λ x. P (f x)) l
 all-unmap P f [] a = tt
 all-unmap P f (x ∷ l) a = (a .0, all-unmap P f l (a .1))

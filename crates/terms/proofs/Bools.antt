@@ -1,6 +1,6 @@
 -- Bools: laws of tests: what a conjunction and a disjunction say of their parts, and equality of numbers.
 use mathlib.Core.Path.{_≡_, refl, sym, ap}
-use mathlib.Core.Bool.{Bool, true, false, _&&_, _||_, true≢false, false≢true}
+use mathlib.Core.Bool.{Bool, true, false, not, _&&_, _||_, and-false, true≢false, false≢true}
 use Prim.Native.Nat.{ℕ}
 use lib.Dec.{eqb}
 use borrow.Author.Tests.{eq-eqb, ne-eqb, eqb-true, eqb-false}
@@ -35,6 +35,16 @@ and-where true true false h = refl
 and-where true false false h = refl
 and-where false true false h = refl
 and-where false false false h = refl
+
+-- The second of one pair and the first of the other change places.
+pub and-swap : (a b c d : Bool) → ((a && b) && (c && d)) ≡ ((a && c) && (b && d))
+and-swap true true c d = refl
+and-swap true false c d = sym (and-false c)
+and-swap false b c d = refl
+
+pub not-or : (a b : Bool) → not (a || b) ≡ (not a && not b)
+not-or true b = refl
+not-or false b = refl
 
 pub or-parts : (a b : Bool) → (a || b) ≡ false → (a ≡ false) × (b ≡ false)
 or-parts true b e = absurd (true≢false e)

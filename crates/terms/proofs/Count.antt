@@ -1,12 +1,14 @@
 -- Count: how many elements of a list pass a test.
 --
 --   bit b            1 for true, 0 for false
+--   unless b n       0 where b holds, else n
 --   count t l        how many elements of l pass the test t
+--   anyPasses t l    some element of l passes the test t
 --   OnlyOne P n      P holds of exactly one index below n
 --   Implies p q      whatever passes p passes q
 --
 use mathlib.Core.Path.{_≡_, refl, sym, _∙_, ap, ap₂}
-use mathlib.Core.Bool.{Bool, true, false, cond, _&&_, true≢false, false≢true}
+use mathlib.Core.Bool.{Bool, true, false, cond, _&&_, _||_, true≢false, false≢true}
 use mathlib.Core.List.{List, [], _∷_, _++_, map}
 use Prim.Native.Nat.{ℕ, zero, suc, _+_, _<_, _≤_}
 use native.Mathlib.Omega.{arith}
@@ -14,11 +16,35 @@ use lib.Dec.{eqb}
 use lib.ListN.{length, getD}
 use borrow.Author.Tests.{ne-eqb, eqb-true, eqb-false}
 use Rattle.terms.specs.Lists.{occurs, keep, range}
+use Rattle.terms.proofs.Bools.{or-left, or-right}
 use Rattle.terms.proofs.Occurs.{occurs-cases}
 
 abbrev pub bit : Bool → ℕ
 bit true = 1
 bit false = 0
+
+abbrev pub unless : Bool → ℕ → ℕ
+unless true n = 0
+unless false n = n
+
+pub unless-zero : (b : Bool) → unless b 0 ≡ 0
+unless-zero true = refl
+unless-zero false = refl
+
+pub unless-add : (b : Bool) (m n : ℕ) → unless b m + unless b n ≡ unless b (m + n)
+unless-add true m n = refl
+unless-add false m n = refl
+
+pub unless-or : (a b : Bool) (n : ℕ) → unless b (unless a n) ≡ unless (a || b) n
+unless-or true b n = unless-zero b
+unless-or false b n = refl
+
+-- What completes a && b to a is a, where b does not hold.
+pub bit-unless : (a b : Bool) (n : ℕ) → bit (a && b) + n ≡ bit a → n ≡ unless b (bit a)
+bit-unless true true n e = omega arith
+bit-unless true false n e = omega arith
+bit-unless false true n e = omega arith
+bit-unless false false n e = omega arith
 
 abbrev pub OnlyOne : (ℕ → Type 0) → ℕ → Type 0
 OnlyOne P n = (i : ℕ) × (i < n) × P i × ((j : ℕ) → j < n → P j → j ≡ i)
@@ -68,8 +94,14 @@ module _ {A : Type 0} where
       go true e = omega arith
       go false e = omega arith
 
+  -- A count that completes c to d completes b && c to b && d where b stands beside the test.
+  pub count-beside : (b c d : Bool) (t u : A → Bool) (l : List A) → ((x : A) → u x ≡ (b && t x)) →
+      (b ≡ true → bit c + count t l ≡ bit d) → bit (b && c) + count u l ≡ bit (b && d)
+  count-beside true c d t u l same e = omega (arith, e refl, count-same u t l same)
+  count-beside false c d t u l same e = omega (arith, count-never u l same)
+
   -- What is counted 0 times passes nowhere.
-  count-zero : (t : A → Bool) (d : A) (l : List A) → count t l ≡ 0 → (i : ℕ) → i < length l → t (getD l i d) ≡ true → ⊥
+  pub count-zero : (t : A → Bool) (d : A) (l : List A) → count t l ≡ 0 → (i : ℕ) → i < length l → t (getD l i d) ≡ true → ⊥
   count-zero t d [] z i h e = omega arith
   count-zero t d (x ∷ l) z zero h e = omega (arith, count-pass t x l e)
   count-zero t d (x ∷ l) z (suc i) h e = count-zero t d l (omega arith) i (omega arith) e
@@ -95,6 +127,24 @@ module _ {A : Type 0} where
           let r = rest (omega (arith, count-fail t x l e)) in
           (suc (r .0), omega (arith, r .1), r .2, later e (r .0) (r .3))
 
+  abbrev pub anyPasses : (A → Bool) → List A → Bool
+  anyPasses t [] = false
+  anyPasses t (x ∷ l) = t x || anyPasses t l
+
+  pub any-passes-at : (t : A → Bool) (d : A) (l : List A) → anyPasses t l ≡ true → (i : ℕ) × (i < length l) × (t (getD l i d) ≡ true)
+  any-passes-at t d [] e = absurd (false≢true e)
+  any-passes-at t d (x ∷ l) e = go (t x) refl e (any-passes-at t d l)
+    where
+      go : (b : Bool) → t x ≡ b → (b || anyPasses t l) ≡ true → (anyPasses t l ≡ true → (i : ℕ) × (i < length l) × (t (getD l i d) ≡ true)) →
+          (i : ℕ) × (i < length (x ∷ l)) × (t (getD (x ∷ l) i d) ≡ true)
+      go true h o rest = (0, omega arith, h)
+      go false h o rest = let r = rest o in (suc (r .0), omega (arith, r .1), r .2)
+
+  pub passes-at-any : (t : A → Bool) (d : A) (l : List A) (i : ℕ) → i < length l → t (getD l i d) ≡ true → anyPasses t l ≡ true
+  passes-at-any t d [] i b e = absurd (omega arith)
+  passes-at-any t d (x ∷ l) zero b e = or-left (t x) (anyPasses t l) e
+  passes-at-any t d (x ∷ l) (suc i) b e = or-right (t x) (anyPasses t l) (passes-at-any t d l i (omega arith) e)
+
   pub count-le : (t : A → Bool) (l : List A) → count t l ≤ length l
   count-le t [] = omega arith
   count-le t (x ∷ l) = go (count-le t l) (t x) refl
@@ -113,6 +163,10 @@ module _ {A : Type 0} where
 pub count-map : {A B : Type 0} (t : B → Bool) (f : A → B) (l : List A) → count t (map f l) ≡ count (λ x. t (f x)) l
 count-map t f [] = refl
 count-map t f (x ∷ l) = ap (λ n. bit (t (f x)) + n) (count-map t f l)
+
+pub count-maps : {A B C : Type 0} (t : C → Bool) (f : A → C) (h : B → C) (l : List A) (m : List B) →
+    count t (map f l ++ map h m) ≡ count (λ x. t (f x)) l + count (λ y. t (h y)) m
+count-maps t f h l m = count-append t (map f l) (map h m) ∙ ap₂ _+_ (count-map t f l) (count-map t h m)
 
 -- A wider test that passes one element more counts one more at least.
 pub count-raise : (p q : ℕ → Bool) (l : List ℕ) (k : ℕ) → Implies p q → occurs k l ≡ true → p k ≡ false → q k ≡ true → count p l < count q l

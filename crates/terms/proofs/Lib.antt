@@ -1,4 +1,4 @@
--- The proofs of what specs/ states: Theorems has all of them, and Incident uses them.
+-- The proofs of what specs/ states: Theorems has all of them, Incident uses them, and BookExample computes some.
 -- On lists and tests.
 pub mod Bools
 pub mod All
@@ -27,8 +27,15 @@ pub mod Fit
 pub mod Partition
 pub mod StrikeOut
 pub mod Represents
+-- On books.
+pub mod Nameless
+pub mod Sharing
+pub mod Cut
+pub mod Book
+pub mod BookRepresents
 -- On empty sorts.
 pub mod Inhabited
 -- All of it.
 pub mod Theorems
 pub mod Incident
+pub mod BookExample

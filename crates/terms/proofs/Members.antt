@@ -1,10 +1,24 @@
--- Members: the elements of a mapped list, by their indices or as elements of the list.
+-- Members: the elements of a mapped list, by their indices or as elements of the list; and what holds of each element.
 use mathlib.Core.Path.{_≡_, refl}
 use mathlib.Core.List.{List, [], _∷_, map, List·Memᴰ, List·Memᴰ·head, List·Memᴰ·tail, List·Memᴰ·not-nil, List·Memᴰ·cases-cons}
 use mathlib.Core.Logic.{_⊎_, inl, inr}
 use Prim.Native.Nat.{ℕ, zero, suc, _<_}
 use native.Mathlib.Omega.{arith}
 use lib.ListN.{length, getD}
+use Rattle.terms.specs.Lists.{All}
+
+module _ {A : Type 0} (P : A → Type 0) where
+  pub all-mem : (a : A) (l : List A) → All P l → List·Memᴰ a l → P a
+  all-mem a [] h m = absurd (List·Memᴰ·not-nil m)
+  all-mem a (x ∷ l) h m = go (all-mem a l (h .1)) (List·Memᴰ·cases-cons m)
+    where
+      go : (List·Memᴰ a l → P a) → (a ≡ x) ⊎ List·Memᴰ a l → P a
+      go below (inl e) = rw e (h .0)
+      go below (inr m′) = below m′
+
+  pub mem-all : (l : List A) → ((a : A) → List·Memᴰ a l → P a) → All P l
+  mem-all [] h = tt
+  mem-all (x ∷ l) h = (h x (List·Memᴰ·head refl), mem-all l (λ a m. h a (List·Memᴰ·tail m)))
 
 module _ {A B : Type 0} (f : A → B) where
   pub mem-map-at : (d : A) (l : List A) (i : ℕ) → i < length l → List·Memᴰ (f (getD l i d)) (map f l)

@@ -1,7 +1,11 @@
 -- Partition: every ground term of the sort is counted once among the pattern and its entries.
-use mathlib.Core.Path.{_≡_, refl, sym, _∙_, ap₂, subst}
-use mathlib.Core.Bool.{Bool, true, false, not, _&&_}
-use mathlib.Core.List.{List, [], _∷_, map}
+--
+--   counted-once         the count, which needs no pattern to be linear
+--   counted-fits-one     of linear terms, a ground term that is counted once fits exactly one, by one filling
+--
+use mathlib.Core.Path.{_≡_, refl, sym, _∙_, ap, subst}
+use mathlib.Core.Bool.{Bool, true, false, not, _&&_, and-true}
+use mathlib.Core.List.{List, [], _∷_}
 use Prim.Native.Nat.{ℕ, _+_, _<_}
 use native.Mathlib.Omega.{arith}
 use lib.Dec.{eqb}
@@ -10,10 +14,10 @@ use borrow.Author.Tests.{eq-eqb, eqb-true}
 use Rattle.terms.specs.Lists.{range}
 use Rattle.terms.specs.Signature.{Signature, result, arguments}
 use Rattle.terms.specs.Term.{Term, any, var, app, Terms, nil, cons, Ground, gapp, Grounds, gnil, gcons, Sorted, SortedAll, SortedG, SortedGs, Linear}
-use Rattle.terms.specs.Listing.{others, bare, openEvery, listing, listingAll}
-use Rattle.terms.specs.Laws.{withEntries, Partition}
+use Rattle.terms.specs.Listing.{others, bare, openEvery, listing, listingAll, FitsExactlyOne}
+use Rattle.terms.specs.Laws.{withEntries, Partition, PatternsOfSort}
 use Rattle.terms.proofs.Bools.{eqb-sym, and-always, and-where}
-use Rattle.terms.proofs.Count.{bit, count, count-append, count-map, count-same, count-never, count-keep, count-range, count-one}
+use Rattle.terms.proofs.Count.{bit, count, count-same, count-never, count-beside, count-keep, count-range, count-one, count-maps}
 use Rattle.terms.proofs.All.{all-at}
 use Rattle.terms.proofs.Fit.{fit, fitAll, open-fits, fit-once, fits-fit}
 use Rattle.terms.proofs.Entries.{open-every-all-open, entries-are-linear-patterns}
@@ -50,11 +54,9 @@ count-app S f ts k gs a below e rest = rw (parts, eqb-sym f k) (go (eqb k f) ref
   where
     parts : count (λ e. fit e (gapp k gs)) (listing S (app f ts)) ≡ bit (not (eqb k f)) + count (λ es. eqb f k && fitAll es gs) (listingAll S ts)
     parts =
-        count-append (λ e. fit e (gapp k gs)) (map (bare S) (others S f)) (map (app f) (listingAll S ts)) ∙
-        ap₂ (λ m n. m + n)
-        (count-map (λ e. fit e (gapp k gs)) (bare S) (others S f) ∙
-        count-same _ _ (others S f) (λ h. opened-fits S h k gs a) ∙ count-others S f k below e)
-        (count-map (λ e. fit e (gapp k gs)) (app f) (listingAll S ts))
+        count-maps (λ e. fit e (gapp k gs)) (bare S) (app f) (others S f) (listingAll S ts) ∙
+        ap (λ n. n + count (λ es. eqb f k && fitAll es gs) (listingAll S ts))
+        (count-same _ _ (others S f) (λ h. opened-fits S h k gs a) ∙ count-others S f k below e)
 
     go : (b : Bool) → eqb k f ≡ b → bit (b && fitAll ts gs) + (bit (not b) + count (λ es. b && fitAll es gs) (listingAll S ts)) ≡ 1
     go true d = omega (arith, rest (eqb-true k f d))
@@ -65,24 +67,19 @@ count-cons : (S : Signature) (t : Term) (ts : Terms) (ks : List ℕ) (g : Ground
     bit (fit t g) + count (λ e. fit e g) (listing S t) ≡ 1 →
     bit (fitAll ts gs) + count (λ es. fitAll es gs) (listingAll S ts) ≡ 1 →
     bit (fitAll (cons t ts) (gcons g gs)) + count (λ es. fitAll es (gcons g gs)) (listingAll S (cons t ts)) ≡ 1
-count-cons S t ts ks g gs h a one rest = rw parts (go (fit t g) one)
+count-cons S t ts ks g gs h a one rest =
+    let places = count-beside (fit t g) (fitAll ts gs) true (λ es. fitAll es gs) (λ es. fit t g && fitAll es gs) (listingAll S ts) (λ es. refl) (λ e. rest) in
+    rw parts (omega (arith, places, ap bit (and-true (fit t g))))
   where
     parts : count (λ es. fitAll es (gcons g gs)) (listingAll S (cons t ts)) ≡
         count (λ e. fit e g) (listing S t) + count (λ es. fit t g && fitAll es gs) (listingAll S ts)
     parts =
-        count-append (λ es. fitAll es (gcons g gs)) (map (λ e. cons e (openEvery ts)) (listing S t)) (map (cons t) (listingAll S ts)) ∙
-        ap₂ (λ m n. m + n)
-        (count-map (λ es. fitAll es (gcons g gs)) (λ e. cons e (openEvery ts)) (listing S t) ∙
-        count-same _ _ (listing S t) (λ e. and-always (fit e g) _ (rw (open-every-all-open S ts ks h) (open-fits S gs ks a))))
-        (count-map (λ es. fitAll es (gcons g gs)) (cons t) (listingAll S ts))
-
-    go : (b : Bool) → bit b + count (λ e. fit e g) (listing S t) ≡ 1 →
-        bit (b && fitAll ts gs) + (count (λ e. fit e g) (listing S t) + count (λ es. b && fitAll es gs) (listingAll S ts)) ≡ 1
-    go true o = omega arith
-    go false o = omega (arith, count-never (λ (es : Terms). false) (listingAll S ts) (λ es. refl))
+        count-maps (λ es. fitAll es (gcons g gs)) (λ e. cons e (openEvery ts)) (cons t) (listing S t) (listingAll S ts) ∙
+        ap (λ n. n + count (λ es. fit t g && fitAll es gs) (listingAll S ts))
+        (count-same _ _ (listing S t) (λ e. and-always (fit e g) _ (rw (open-every-all-open S ts ks h) (open-fits S gs ks a))))
 
 mutual
-  counted-once : (S : Signature) (p : Term) (s : ℕ) (g : Ground) → Sorted S p s → SortedG S g s →
+  pub counted-once : (S : Signature) (p : Term) (s : ℕ) (g : Ground) → Sorted S p s → SortedG S g s →
       bit (fit p g) + count (λ e. fit e g) (listing S p) ≡ 1
   counted-once S any s g h a = refl
   counted-once S (var n) s g h a = refl
@@ -100,13 +97,18 @@ mutual
   counted-once-all S (cons t ts) (k ∷ ks) (gcons g gs) h a =
       count-cons S t ts ks g gs (h .1) (a .1) (counted-once S t k g (h .0) (a .0)) (counted-once-all S ts ks gs (h .1) (a .1))
 
-pub partition : Partition
-partition S p s h u g k =
-    let one = count-one (λ e. fit e g) any (withEntries S p) (counted-once S p s g h k) in
-    let entry = all-at (λ e. Sorted S e s × Linear e) any (withEntries S p) ((h, u), entries-are-linear-patterns S p s h u) (one .0) (one .1) in
+pub counted-fits-one : (S : Signature) (l : List Term) (s : ℕ) → PatternsOfSort S s l → (g : Ground) → SortedG S g s →
+    count (λ e. fit e g) l ≡ 1 → FitsExactlyOne S l s g
+counted-fits-one S l s a g k c =
+    let one = count-one (λ e. fit e g) any l c in
+    let entry = all-at (λ e. Sorted S e s × Linear e) any l a (one .0) (one .1) in
     record {
       index = one .0;
       below = one .1;
-      once = fit-once S (getD (withEntries S p) (one .0) any) s g (entry .0) (entry .1) k (one .2);
-      only = λ j b f. one .3 j b (fits-fit S (getD (withEntries S p) j any) s g f);
+      once = fit-once S (getD l (one .0) any) s g (entry .0) (entry .1) k (one .2);
+      only = λ j b f. one .3 j b (fits-fit S (getD l j any) s g f);
     }
+
+pub partition : Partition
+partition S p s h u g k =
+    counted-fits-one S (withEntries S p) s ((h, u), entries-are-linear-patterns S p s h u) g k (counted-once S p s g h k)

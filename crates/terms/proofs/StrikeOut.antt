@@ -1,6 +1,7 @@
 -- StrikeOut: over inhabited sorts each entry has a ground term that fits it and nothing else.
 --
---   instance      a pattern of a sort of the signature has a ground term that fits it
+--   instance        a pattern of a sort of the signature has a ground term with its symbols
+--   instance-at     each of some linear patterns of the sort has a ground term that fits it
 --
 use mathlib.Core.Path.{_≡_, refl, subst}
 use mathlib.Core.Bool.{true}
@@ -14,7 +15,7 @@ use Rattle.terms.specs.Term.{Term, any, var, app, Terms, nil, cons, Grou
 use Rattle.terms.specs.Filling.{Fits}
 use Rattle.terms.specs.Inhabited.{Inhabited}
 use Rattle.terms.specs.Listing.{listing}
-use Rattle.terms.specs.Laws.{StrikeOut}
+use Rattle.terms.specs.Laws.{StrikeOut, PatternsOfSort}
 use Rattle.terms.proofs.Bools.{eqb-refl, and-both}
 use Rattle.terms.proofs.Signature.{symbol-sorts}
 use Rattle.terms.proofs.All.{all-at}
@@ -23,7 +24,7 @@ use Rattle.terms.proofs.Entries.{entries-are-linear-patterns}
 use Rattle.terms.proofs.Partition.{partition}
 
 mutual
-  instance : (S : Signature) (t : Term) (s : ℕ) → WellFormed S → Inhabited S → s < S .sorts → Sorted S t s →
+  pub instance : (S : Signature) (t : Term) (s : ℕ) → WellFormed S → Inhabited S → s < S .sorts → Sorted S t s →
       (g : Ground) × SortedG S g s × (fit t g ≡ true)
   instance S any s wf full b h = let w = full s b in (w .0, w .1, refl)
   instance S (var n) s wf full b h = let w = full s b in (w .0, w .1, refl)
@@ -41,6 +42,13 @@ mutual
       let v = instance-all S ts ks wf full (b .1) (h .1) in
       (gcons (w .0) (v .0), (w .1, v .1), and-both _ _ (w .2) (v .2))
 
+pub instance-at : (S : Signature) (l : List Term) (s : ℕ) → WellFormed S → Inhabited S → s < S .sorts → PatternsOfSort S s l →
+    (i : ℕ) → i < length l → (g : Ground) × SortedG S g s × Fits S (getD l i any) s g
+instance-at S l s wf full b a i below =
+    let entry = all-at (λ e. Sorted S e s × Linear e) any l a i below in
+    let w = instance S (getD l i any) s wf full b (entry .0) in
+    (w .0, w .1, fit-fits S (getD l i any) s (w .0) (entry .1) (w .1) (w .2))
+
 -- A pattern that has an entry has a symbol at its root, so its sort is one of the signature's.
 listed-sort : (S : Signature) (p : Term) (s i : ℕ) → WellFormed S → Sorted S p s → i < length (listing S p) → s < S .sorts
 listed-sort S any s i wf h b = absurd (omega arith)
@@ -49,16 +57,13 @@ listed-sort S (app f ts) s i wf h b = subst (λ k. k < S .sorts) (h .1) (symbol-
 
 pub strike-out : StrikeOut
 strike-out S p s wf full h u i b =
-    let entry = all-at (λ e. Sorted S e s × Linear e) any (listing S p) (entries-are-linear-patterns S p s h u) i b in
-    let w = instance S (getD (listing S p) i any) s wf full (listed-sort S p s i wf h b) (entry .0) in
-    let fits : Fits S (getD (listing S p) i any) s (w .0) =
-    fit-fits S (getD (listing S p) i any) s (w .0) (entry .1) (w .1) (w .2) in
+    let w = instance-at S (listing S p) s wf full (listed-sort S p s i wf h b) (entries-are-linear-patterns S p s h u) i b in
     let one = partition S p s h u (w .0) (w .1) in
-    let here : suc i ≡ one .index = one .only (suc i) (omega arith) fits in
+    let here : suc i ≡ one .index = one .only (suc i) (omega arith) (w .2) in
     record {
       situation = w .0;
       sorted = w .1;
-      fits = fits;
+      fits = w .2;
       notPattern = λ e. omega (arith, one .only 0 (omega arith) e);
       only = λ j k e. omega (arith, one .only (suc j) (omega arith) e);
     }

@@ -12,9 +12,15 @@
 --   partition                     every ground term fits exactly one of a linear pattern and its entries, by exactly one filling
 --   strike-out                    over inhabited sorts each entry has a ground term that fits it and nothing else
 --   listing-represents            the entries represent the non-instances of a linear pattern
+--   disjoint-shares-nothing       over inhabited sorts, terms share no ground term exactly where they are disjoint
+--   one-pattern-book              the entries of a book of one pattern are its own, with their names opened
+--   book-entries-are-patterns     each entry of a book is a pattern of the sort, without names
+--   book-partition                every ground term fits some pattern of a book or, by one filling, exactly one entry, not both
+--   book-strike-out               over inhabited sorts each entry of a book has a ground term that fits it, no pattern and no other entry
+--   book-represents               the entries of a book represent what its patterns leave
 --   first-empty-is-exact          the lowest sort without a ground term is found, and none where there is no such sort
 --
-use Rattle.terms.specs.Laws.{EachChoiceHasAFilling, EqualWhereTheyAgree, OneFilling, SortsAddNothing, MatchingIsFitting, ReplacingIsSubstitution, ReplacingIsFilling, Partition, StrikeOut, EntriesAreLinearPatterns, ListingRepresents}
+use Rattle.terms.specs.Laws.{EachChoiceHasAFilling, EqualWhereTheyAgree, OneFilling, SortsAddNothing, MatchingIsFitting, ReplacingIsSubstitution, ReplacingIsFilling, Partition, StrikeOut, EntriesAreLinearPatterns, ListingRepresents, DisjointSharesNothing, OnePatternBook, BookPartition, BookStrikeOut, BookEntriesArePatterns, BookRepresents}
 use Rattle.terms.specs.Matcher.{MatcherIsExact}
 use Rattle.terms.specs.Emptiness.{FirstEmptyIsExact}
 
@@ -53,6 +59,24 @@ strike-out = Rattle.terms.proofs.StrikeOut.strike-out
 
 pub listing-represents : ListingRepresents
 listing-represents = Rattle.terms.proofs.Represents.listing-represents
+
+pub disjoint-shares-nothing : DisjointSharesNothing
+disjoint-shares-nothing = Rattle.terms.proofs.Sharing.disjoint-shares-nothing
+
+pub one-pattern-book : OnePatternBook
+one-pattern-book = Rattle.terms.proofs.Book.one-pattern-book
+
+pub book-entries-are-patterns : BookEntriesArePatterns
+book-entries-are-patterns = Rattle.terms.proofs.Book.book-entries-are-patterns
+
+pub book-partition : BookPartition
+book-partition = Rattle.terms.proofs.Book.book-partition
+
+pub book-strike-out : BookStrikeOut
+book-strike-out = Rattle.terms.proofs.Book.book-strike-out
+
+pub book-represents : BookRepresents
+book-represents = Rattle.terms.proofs.BookRepresents.book-represents
 
 pub first-empty-is-exact : FirstEmptyIsExact
 first-empty-is-exact = Rattle.terms.proofs.Inhabited.first-empty-is-exact
