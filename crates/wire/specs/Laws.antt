@@ -15,6 +15,9 @@
 --   CompleteWithoutOpenPlace  .. which is complete exactly where the pattern has no open place and is no 255
 --   FillInputsAreOne          the bytes of fill's inputs write one vocabulary, one pattern and one filling only
 --   PatternIsOne              the bytes of list's inputs write one vocabulary and one pattern only
+--   BooksInverse              a book is accepted exactly where it is the writing of a good one
+--   BookIsOne                 the bytes of list_book's inputs write one vocabulary and one book only
+--   BookRefusals              a book that is read is refused by its lines
 --   RefusesBy Line r          the reading r refuses with a number exactly where its line decides, and some line fits
 --                             exactly where it accepts nothing
 --   VocabularyRefusals, TermRefusals, SituationRefusals, LinearRefusals, FillingRefusals    what is read is refused by
@@ -24,6 +27,8 @@
 --                             what is lent
 --   VocabularyKeeps, TermKeeps, MatchKeeps, PartKeeps, ListKeeps, FillKeeps, PrintKeeps    what is computed keeps the
 --                             promises
+--   BookFixed                 list_book's promise fixes the reply, and the lent slice where the reply is a refusal
+--   BookKeeps                 what is computed of a book's listing keeps the promise
 --   FilledMatches             what match computes for a complete result of fill: yes, and the parts that the file gave
 --   InputsPromise v p s r     what judging the inputs of match is to give
 --   JudgeKeeps                what is computed of judging them does
@@ -62,6 +67,9 @@ use Rattle.wire.specs.Leftovers.{HoldsPattern, entriesBytes, ListPromise
 use Rattle.wire.specs.FillingFile.{GoodFilling, HoldsFilling}
 use Rattle.wire.specs.FillingLines.{FillingLine}
 use Rattle.wire.specs.Filled.{FillInputs, HoldsFillInputs, filledTerm, filledBytes, valueSpan, FillPromise}
+use Rattle.wire.specs.BookBytes.{HoldsBook}
+use Rattle.wire.specs.BookLines.{BookLine}
+use Rattle.wire.specs.BookLeftovers.{BookPromise}
 use Rattle.wire.specs.Text.{decimal}
 use Rattle.wire.specs.Printing.{vocabularyPart, patternPart, PrintPromise}
 use Rattle.wire.specs.Parser.{Reading, accept, refuse, got, readVocabulary, readAny}
@@ -70,6 +78,7 @@ use Rattle.wire.specs.SituationComputed.{someOpen, firstGap, checkedSitu
 use Rattle.wire.specs.MatchComputed.{judged, clearReply, matched, partSpan, partOf}
 use Rattle.wire.specs.ListComputed.{checkedLinear, listed, readEntries}
 use Rattle.wire.specs.FillComputed.{readFilling, filled}
+use Rattle.wire.specs.BookComputed.{Book, readBook, bookListed}
 use Rattle.wire.specs.PrintComputed.{printedFrom, printed}
 
 -- ---- writing and reading
@@ -144,6 +153,21 @@ PatternIsOne =
     (v p : List ℕ) (W W′ : Vocabulary) (s s′ : ℕ) (t t′ : Term) → IsBytes v → IsBytes p →
     HoldsPattern v p W s t → HoldsPattern v p W′ s′ t′ → (W ≡ W′) × (s ≡ s′) × (t ≡ t′)
 
+-- ---- books
+
+abbrev pub BooksInverse : Type 0
+BooksInverse =
+    (W : Vocabulary) (b : List ℕ) (s : ℕ) (ts : List Term) → InOrder W → IsBytes b →
+    (readBook W b ≡ accept (record { kind = s; patterns = ts })) ↔ HoldsBook W b s ts
+
+abbrev pub BookIsOne : Type 0
+BookIsOne =
+    (v b : List ℕ) (W W′ : Vocabulary) (s s′ : ℕ) (ts ts′ : List Term) → IsBytes v → IsBytes b →
+    HoldsVocabulary v W → HoldsBook W b s ts → HoldsVocabulary v W′ → HoldsBook W′ b s′ ts′ → (W ≡ W′) × (s ≡ s′) × (ts ≡ ts′)
+
+abbrev pub BookRefusals : Type 0
+BookRefusals = (W : Vocabulary) (b : List ℕ) → InOrder W → IsBytes b → (n q : ℕ) → (readBook W b ≡ refuse n q) ↔ BookLine W b n q
+
 -- ---- refusals
 
 pub record RefusesBy {A : Type 0} (Line : ℕ → ℕ → Type 0) (reading : Reading A) : Type 0 where
@@ -201,6 +225,11 @@ FillFixed =
     (v p b before after after′ : List ℕ) (r r′ : Reply) → FillPromise v p b before after r → FillPromise v p b before after′ r′ →
     (r ≡ r′) × (after ≡ after′)
 
+abbrev pub BookFixed : Type 0
+BookFixed =
+    (v b before after after′ : List ℕ) (r r′ : Reply) → BookPromise v b before after r → BookPromise v b before after′ r′ →
+    (r ≡ r′) × ((n i q : ℕ) → r ≡ refused n i q → after ≡ after′)
+
 abbrev pub PrintFixed : Type 0
 PrintFixed = (v p text text′ : List ℕ) → PrintPromise v p text → PrintPromise v p text′ → text ≡ text′
 
@@ -242,6 +271,10 @@ abbrev pub FillKeeps : Type 0
 FillKeeps =
     (v p b out : List ℕ) → IsBytes v → IsBytes p → IsBytes b →
     FillPromise v p b out (filled v p b out .after) (filled v p b out .reply)
+
+abbrev pub BookKeeps : Type 0
+BookKeeps =
+    (v b out : List ℕ) → IsBytes v → IsBytes b → BookPromise v b out (bookListed v b out .after) (bookListed v b out .reply)
 
 abbrev pub FilledMatches : Type 0
 FilledMatches =

@@ -7,6 +7,7 @@ pub mod Row
 pub mod Vocabulary
 pub mod TermBytes
 pub mod FillingFile
+pub mod BookBytes
 -- .. the refusal list ..
 pub mod Refusals
 pub mod VocabularyLines
@@ -14,11 +15,13 @@ pub mod TermLines
 pub mod SituationLines
 pub mod PatternLines
 pub mod FillingLines
+pub mod BookLines
 -- .. and the promises.
 pub mod Checking
 pub mod Matching
 pub mod Leftovers
 pub mod Filled
+pub mod BookLeftovers
 pub mod Text
 pub mod Printing
 -- Ways to compute the replies, which laws fix:
@@ -30,6 +33,7 @@ pub mod Scan
 pub mod MatchComputed
 pub mod ListComputed
 pub mod FillComputed
+pub mod BookComputed
 pub mod EntryBytes
 pub mod EntryMaps
 pub mod EntrySizes
