@@ -37,6 +37,7 @@ pub mod BookComputed
 pub mod EntryBytes
 pub mod EntryMaps
 pub mod EntrySizes
+pub mod EntryAgainst
 pub mod PrintComputed
 -- Where an entry of a listing ends, without the vocabulary:
 pub mod EntryCut
