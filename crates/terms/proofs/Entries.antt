@@ -16,7 +16,7 @@ use Rattle.terms.proofs.Bools.{and-parts}
 use Rattle.terms.proofs.All.{all-always, all-implies, all-both, all-append, all-left, all-right, all-keep, all-maps, all-range}
 use Rattle.terms.proofs.Occurs.{none-twice-front}
 
-open-sorted : (S : Signature) (ks : List ℕ) → SortedAll S (allOpen ks) ks
+pub open-sorted : (S : Signature) (ks : List ℕ) → SortedAll S (allOpen ks) ks
 open-sorted S [] = tt
 open-sorted S (k ∷ ks) = (tt, open-sorted S ks)
 
@@ -28,7 +28,7 @@ open-every-all-open S (cons t ts) [] h = absurd h
 open-every-all-open S (cons t ts) (k ∷ ks) h = ap (cons any) (open-every-all-open S ts ks (h .1))
 
 -- Each of the other symbols, with every place open, is of the sort.
-others-sorted : (S : Signature) (f s : ℕ) → result S f ≡ s → All (λ h. Sorted S (bare S h) s) (others S f)
+pub others-sorted : (S : Signature) (f s : ℕ) → result S f ≡ s → All (λ h. Sorted S (bare S h) s) (others S f)
 others-sorted S f s e = all-implies _ _ one (others S f) (all-keep _ _ (range 0 n) (all-range 0 n))
   where
     n : ℕ
@@ -60,11 +60,11 @@ mutual
       (all-implies (λ es. SortedAll S es ks) (λ es. SortedAll S (cons t es) (k ∷ ks)) (λ es a. (h .0, a)) (listingAll S ts)
       (entries-sorted-all S ts ks (h .1)))
 
-open-names : (ks : List ℕ) → namesAll (allOpen ks) ≡ []
+pub open-names : (ks : List ℕ) → namesAll (allOpen ks) ≡ []
 open-names [] = refl
 open-names (k ∷ ks) = open-names ks
 
-open-every-names : (ts : Terms) → namesAll (openEvery ts) ≡ []
+pub open-every-names : (ts : Terms) → namesAll (openEvery ts) ≡ []
 open-every-names nil = refl
 open-every-names (cons t ts) = open-every-names ts
 

@@ -33,6 +33,8 @@ pub mod Sharing
 pub mod Cut
 pub mod Book
 pub mod BookRepresents
+pub mod Fresh
+pub mod CutEach
 -- On empty sorts.
 pub mod Inhabited
 -- All of it.

@@ -4,6 +4,7 @@
 --   spotsWritten W l            the entries at the spots l, each by itself
 --   bytesOf l                   some bytes one behind the other
 --   above-snoc, above-bytes     terms above others, and their bytes
+--   opened-bytes                a word with every place open
 --   spots-bytes-append          the entries at spots one behind the other
 --   entries-bytes               the entries of a pattern, whose kind byte stands before its root
 --
@@ -73,7 +74,7 @@ written-none (true ∷ ps) (k ∷ ks) = omega (arith, written-none ps ks)
 -- ---- one entry
 
 -- Another word with every place open is its number and the map 0.
-opened-bytes : (W : Vocabulary) (h : ℕ) → encodeAt W (bare (signature W) h) ≡ h ∷ writeMap 0
+pub opened-bytes : (W : Vocabulary) (h : ℕ) → encodeAt W (bare (signature W) h) ≡ h ∷ writeMap 0
 opened-bytes W h =
     ap₂ (λ m l. h ∷ (writeMap m ++ l)) (written-none (flags (mapOf W h)) (arguments (signature W) h)) (open-bytes W (arguments (signature W) h))
 

@@ -11,11 +11,11 @@ use Rattle.terms.proofs.All.{all-always, all-implies, all-append, all-map}
 use Rattle.wire.specs.TermBytes.{levels, levelsAll, deepest}
 
 -- Open places take no level.
-open-levels : (ks : List ℕ) → levelsAll (allOpen ks) ≡ 0
+pub open-levels : (ks : List ℕ) → levelsAll (allOpen ks) ≡ 0
 open-levels [] = refl
 open-levels (k ∷ ks) = omega (arith, open-levels ks)
 
-open-every-levels : (ts : Terms) → levelsAll (openEvery ts) ≡ 0
+pub open-every-levels : (ts : Terms) → levelsAll (openEvery ts) ≡ 0
 open-every-levels nil = refl
 open-every-levels (cons t ts) = omega (arith, open-every-levels ts)
 

@@ -64,6 +64,12 @@ pub mod EntrySizes
 pub mod EntryMaps
 pub mod EntryWalk
 pub mod EntryCut
+-- On books.
+pub mod AgainstMaps
+pub mod AgainstBytes
+pub mod AgainstSizes
+pub mod AgainstCount
+pub mod AgainstGood
 -- On filling.
 pub mod FullReading
 pub mod FullTerms

@@ -31,6 +31,7 @@
 --   entries-by-spots         the entries of a pattern are those at its words, from left to right
 --   spots-by-bits            the words of a term, by the bits of its written map
 --   pattern-count, pattern-length   one pass over a good pattern counts its entries and their bytes
+--   cut-by-bytes             the leftovers of an entry against a pattern, as both are walked from left to right
 --   list-keeps               what is computed of list's reply and lent slice keeps what list promises
 --   filled-matches           what match computes for a complete result of fill: yes, and the parts that the file gave
 --   decimal-is-exact         a number in decimal is of digits that stand for it, with no needless zero in front
@@ -43,6 +44,7 @@ use Rattle.wire.specs.Laws.{InOrderIsWellFormed, VocabulariesInverse, Te
 use Rattle.wire.specs.EntryBytes.{EntriesBySpots}
 use Rattle.wire.specs.EntryMaps.{SpotsByBits}
 use Rattle.wire.specs.EntrySizes.{PatternCount, PatternLength}
+use Rattle.wire.specs.EntryAgainst.{CutByBytes}
 use Rattle.wire.specs.Starred.{StarredHold}
 
 pub in-order-is-well-formed : InOrderIsWellFormed
@@ -155,6 +157,9 @@ pattern-count = Rattle.wire.proofs.EntrySizes.pattern-count
 
 pub pattern-length : PatternLength
 pattern-length = Rattle.wire.proofs.EntrySizes.pattern-length
+
+pub cut-by-bytes : CutByBytes
+cut-by-bytes = Rattle.wire.proofs.AgainstBytes.cut-by-bytes
 
 pub list-keeps : ListKeeps
 list-keeps = Rattle.wire.proofs.Leftovers.list-keeps
