@@ -29,12 +29,12 @@ pub mod StrikeOut
 pub mod Represents
 -- On books.
 pub mod Nameless
+pub mod Fresh
 pub mod Sharing
+pub mod CutEach
 pub mod Cut
 pub mod Book
 pub mod BookRepresents
-pub mod Fresh
-pub mod CutEach
 -- On empty sorts.
 pub mod Inhabited
 -- All of it.

@@ -19,6 +19,7 @@ use Rattle.terms.specs.Laws.{DisjointSharesNothing}
 use Rattle.terms.proofs.Bools.{and-parts, and-both, and-swap, not-or, or-parts}
 use Rattle.terms.proofs.Fit.{fit, fitAll, fit-fits, fits-fit}
 use Rattle.terms.proofs.StrikeOut.{instance}
+use Rattle.terms.proofs.Fresh.{meeting-words}
 use Rattle.terms.proofs.Nameless.{none-parts, none-append, fit-nameless, nameless-entry}
 
 -- The symbols of two terms and of a ground term, where a, b, c and d are what is said of their places.
@@ -67,12 +68,9 @@ module _ (S : Signature) (e p : Term) (s : ℕ) (g : Ground) (h : Sorted S e s) 
 
 pub same-symbol : (S : Signature) (f q : ℕ) (es ps : Terms) → disjoint (app f es) (app q ps) ≡ false → SortedAll S ps (arguments S q) →
     SortedAll S ps (arguments S f) × (disjointAll es ps ≡ false)
-same-symbol S f q es ps d = go (eqb f q) refl d
-  where
-    go : (b : Bool) → eqb f q ≡ b → (not b || disjointAll es ps) ≡ false → SortedAll S ps (arguments S q) →
-        SortedAll S ps (arguments S f) × (disjointAll es ps ≡ false)
-    go true e d k = (subst (λ n. SortedAll S ps (arguments S n)) (sym (eqb-true f q e)) k, d)
-    go false e d k = absurd (true≢false d)
+same-symbol S f q es ps d k =
+    let meet = meeting-words f q es ps d in
+    (subst (λ n. SortedAll S ps (arguments S n)) (sym (meet .0)) k, meet .1)
 
 mutual
   pub both-sorted : (S : Signature) (e p : Term) (s : ℕ) → Sorted S e s → Sorted S p s → disjoint e p ≡ false →
