@@ -15,7 +15,8 @@ use Rattle.wire.specs.TermBytes.{nameCount, encodeAt}
 use Rattle.wire.specs.Matching.{tableLength, Span, noSpan, spanIn, cutOut, yes, MatchPromise, PartPromise}
 use Rattle.wire.specs.Leftovers.{entriesBytes, listingBytes, ListPromise}
 use Rattle.wire.specs.Filled.{filledBytes, FillPromise}
-use Rattle.wire.specs.Laws.{VocabularyFixed, TermFixed, MatchFixed, PartFixed, ListFixed, FillFixed, PrintFixed}
+use Rattle.wire.specs.BookLeftovers.{BookPromise}
+use Rattle.wire.specs.Laws.{VocabularyFixed, TermFixed, MatchFixed, PartFixed, ListFixed, FillFixed, BookFixed, PrintFixed}
 use Rattle.wire.proofs.Matching.{not-accepted, no-not-yes}
 
 -- ---- the checks
@@ -152,6 +153,19 @@ pub fill-fixed : FillFixed
 fill-fixed v p b before after after′ r r′ m m′ =
     let same = fill-reply v p b before after after′ r r′ m m′ in
     (same, fill-slice v p b before after after′ r m (subst (FillPromise v p b before after′) (sym same) m′))
+
+-- ---- list_book
+
+-- Where the reply is accepted, the slice is fixed but for the order of the entries.
+module _ (v b before after after′ : List ℕ) where
+  book-reply : (r r′ : Reply) → BookPromise v b before after r → BookPromise v b before after′ r′ → r ≡ r′
+  book-reply (accepted values) r′ m m′ = sym (m′ .answered values .1 (m .answered values .0 refl))
+  book-reply (refused n i q) r′ m m′ = sym (m′ .refuses n i q .1 (m .refuses n i q .0 refl))
+
+pub book-fixed : BookFixed
+book-fixed v b before after after′ r r′ m m′ =
+    let same = book-reply v b before after after′ r r′ m m′ in
+    (same, λ n i q e. m .kept n i q e ∙ sym (m′ .kept n i q (sym same ∙ e)))
 
 -- ---- the program's text
 

@@ -108,19 +108,19 @@ pattern-listed v p out W s t bv bp h =
 -- ---- an answer
 
 -- Where the entries are written, they are as many and as long as answered.
-record Answer (out : List ℕ) (n : ℕ) (b : List ℕ) (n′ m : ℕ) (after : List ℕ) : Type 0 where
-  count : n ≡ n′
-  size : length b ≡ m
-  written : after ≡ b ++ drop (length b) out
+pub record Answer (out : List ℕ) (n : ℕ) (b : List ℕ) (n′ m : ℕ) (after : List ℕ) : Type 0 where
+  pub count : n ≡ n′
+  pub size : length b ≡ m
+  pub written : after ≡ b ++ drop (length b) out
 
 -- The lent slice and the reply by the test for room.
-abbrev intoIf : Bool → List ℕ → ℕ → List ℕ → Effect
+abbrev pub intoIf : Bool → List ℕ → ℕ → List ℕ → Effect
 intoIf c out n b =
     cond c
     (record { reply = accepted (n ∷ length b ∷ []); after = b ++ drop (length b) out })
     (record { reply = refused 20 3 (length b); after = out })
 
-answer-of : (out : List ℕ) (n : ℕ) (b : List ℕ) (n′ m : ℕ) → listedInto out n b .reply ≡ accepted (n′ ∷ m ∷ []) →
+pub answer-of : (out : List ℕ) (n : ℕ) (b : List ℕ) (n′ m : ℕ) → listedInto out n b .reply ≡ accepted (n′ ∷ m ∷ []) →
     Answer out n b n′ m (listedInto out n b .after)
 answer-of out n b n′ m e = go (leb (length b) (length out)) refl e
   where

@@ -70,6 +70,9 @@ pub mod AgainstBytes
 pub mod AgainstSizes
 pub mod AgainstCount
 pub mod AgainstGood
+pub mod BookLevels
+pub mod BookLimits
+pub mod BookLeftovers
 -- On filling.
 pub mod FullReading
 pub mod FullTerms

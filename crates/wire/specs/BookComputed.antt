@@ -13,8 +13,8 @@
 --   afterLast b g              line 15, once the patterns of the book b are read as g
 --   readBook W b               a book
 --   someLong W s l             some entry of l has more bytes than a pattern may have
---   passes W s l               the entries l pass a limit
---   firstPast W s i l ts       the first of the patterns ts, counted from i, behind which what is left of the entries l passes one
+--   passes W s room l          the entries l have more bytes than there is room for, or one of them more than a pattern may have
+--   firstPast W s room i l ts  the first of the patterns ts, counted from i, behind which this holds of what is left of the entries l
 --   BookJudged                 the inputs of list_book as they are read, or a refusal's number, input and place
 --   judgedBook, judgedUnder, bookJudged v b    these inputs, in the order in which they are judged
 --   bookClear j                the reply that says whether the inputs are in order
@@ -91,14 +91,14 @@ abbrev pub someLong : Vocabulary → ℕ → List Term → Bool
 someLong W s [] = false
 someLong W s (e ∷ l) = ltb mostBytes (length (encodeTerm W s e)) || someLong W s l
 
-abbrev pub passes : Vocabulary → ℕ → List Term → Bool
-passes W s l = ltb mostListed (length (patternsBytes W s l)) || someLong W s l
+abbrev pub passes : Vocabulary → ℕ → ℕ → List Term → Bool
+passes W s room l = ltb room (length (patternsBytes W s l)) || someLong W s l
 
-abbrev pub firstPast : Vocabulary → ℕ → ℕ → List Term → List Term → Option ℕ
-firstPast W s i l [] = none
-firstPast W s i l (t ∷ ts) =
+abbrev pub firstPast : Vocabulary → ℕ → ℕ → ℕ → List Term → List Term → Option ℕ
+firstPast W s room i l [] = none
+firstPast W s room i l (t ∷ ts) =
     let left : List Term = against (signature W) t l in
-    cond (passes W s left) (some i) (firstPast W s (suc i) left ts)
+    cond (passes W s room left) (some i) (firstPast W s room (suc i) left ts)
 
 pub data BookJudged : Type 0 where
   listable : Vocabulary → Book → BookJudged
@@ -127,7 +127,7 @@ bookInto W out x none =
 
 abbrev pub bookWith : List ℕ → BookJudged → Effect
 bookWith out (unlistable n i q) = record { reply = refused n i q; after = out }
-bookWith out (listable W x) = bookInto W out x (firstPast W (x .kind) 0 (any ∷ []) (x .patterns))
+bookWith out (listable W x) = bookInto W out x (firstPast W (x .kind) mostListed 0 (any ∷ []) (x .patterns))
 
 abbrev pub bookListed : List ℕ → List ℕ → List ℕ → Effect
 bookListed v b out = bookWith out (bookJudged v b)

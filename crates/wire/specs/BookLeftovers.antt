@@ -4,7 +4,7 @@
 --   PassesLimit W s l          the entries l pass it, or one of them has more bytes than a pattern may have
 --   bookEntries W ts           the entries of the book of the patterns ts
 --   FirstPast W s ts i         pattern i is the first behind which the entries that are left pass a limit
---   WithinLimits W s ts        there is no such pattern
+--   WithinLimits W s ts        behind no pattern do they pass one
 --   bookLength W s ts          how many bytes the entries have
 --   BookEntries W s ts n m after   what holds of the n entries in the first m bytes of the lent slice
 --   BookUnder, BookRefusal     the number, input and place that the refusal list decides on
@@ -44,7 +44,7 @@ pub record FirstPast (W : Vocabulary) (s : ℕ) (ts : List Term) (i : ℕ) : Typ
   pub first : (j : ℕ) → j < i → PassesLimit W s (bookEntries W (take (suc j) ts)) → ⊥
 
 abbrev pub WithinLimits : Vocabulary → ℕ → List Term → Type 0
-WithinLimits W s ts = (i : ℕ) → FirstPast W s ts i → ⊥
+WithinLimits W s ts = (i : ℕ) → i < length ts → PassesLimit W s (bookEntries W (take (suc i) ts)) → ⊥
 
 abbrev pub bookLength : Vocabulary → ℕ → List Term → ℕ
 bookLength W s ts = length (patternsBytes W s (bookEntries W ts))
