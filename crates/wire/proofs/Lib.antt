@@ -40,7 +40,9 @@ pub mod ScanGap
 pub mod Scan
 pub mod NodeLines
 pub mod ScanPath
+pub mod LinesRead
 pub mod TermRefusals
+pub mod CutLines
 pub mod SituationRefusals
 -- On matching.
 pub mod GroundBytes

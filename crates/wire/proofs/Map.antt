@@ -8,6 +8,7 @@
 use mathlib.Core.Path.{_≡_, refl, sym, ap, ap₂, subst, _∙_}
 use mathlib.Core.Bool.{Bool, true, false, not, cond, false≢true}
 use mathlib.Core.List.{List, [], _∷_, _++_, map}
+use mathlib.Core.Logic.{_⊎_, inl, inr}
 use Prim.Native.Nat.{ℕ, zero, suc, _+_, _*_, _/_, _%_, _^_, _<_}
 use native.Mathlib.Nat.{pow-suc}
 use native.Mathlib.Omega.{arith}
@@ -85,6 +86,24 @@ map-got l m r e = omega (arith, ap length (write-read-map l m r e))
 pub map-missing : (l r : List ℕ) → readMap l ≡ mapMissing r → length r ≡ 0
 map-missing [] r e = let h : [] ≡ r = cc in sym (ap length h)
 map-missing (m ∷ l) r e = let z : _≡_ {A = ℕ} 0 1 = cc in absurd (omega arith)
+
+pub map-short : (l r : List ℕ) → readMap l ≡ mapMissing r → length l < mapBytes
+map-short [] r e = omega arith
+map-short (m ∷ l) r e = let z : _≡_ {A = ℕ} 0 1 = cc in absurd (omega arith)
+
+-- With bytes x behind it a map is read all the same; a map that is read with them is read without them, or a byte of it is missing.
+pub map-longer : (l x : List ℕ) (m : ℕ) (r : List ℕ) → readMap l ≡ mapGot m r → readMap (l ++ x) ≡ mapGot m (r ++ x)
+map-longer [] x m r e = let z : _≡_ {A = ℕ} 0 1 = cc in absurd (omega arith)
+map-longer (b ∷ l) x m r e = let p : b ≡ m = cc in let q : l ≡ r = cc in ap₂ (λ m r. mapGot m (r ++ x)) p q
+
+pub map-cut : (l x : List ℕ) (m : ℕ) (r : List ℕ) → readMap (l ++ x) ≡ mapGot m r →
+    ((r′ : List ℕ) × (readMap l ≡ mapGot m r′) × (r ≡ r′ ++ x)) ⊎ ((r′ : List ℕ) × (readMap l ≡ mapMissing r′))
+map-cut [] x m r e = inr ([], refl)
+map-cut (b ∷ l) x m r e = let p : b ≡ m = cc in inl (l, ap (λ m. mapGot m l) p, cc)
+
+pub map-cut-missing : (l x r : List ℕ) → readMap (l ++ x) ≡ mapMissing r → (r′ : List ℕ) × (readMap l ≡ mapMissing r′)
+map-cut-missing [] x r e = ([], refl)
+map-cut-missing (b ∷ l) x r e = let z : _≡_ {A = ℕ} 0 1 = cc in absurd (omega arith)
 
 -- A map that is read off bytes has no bit past the last place.
 pub read-map-lt : (m : ℕ) (r : List ℕ) → IsBytes (writeMap m ++ r) → m < 2 ^ mapBits

@@ -24,7 +24,8 @@ use Rattle.wire.proofs.Front.{term-front}
 use Rattle.wire.proofs.Gaps.{first-gap-is-exact}
 use Rattle.wire.proofs.Limits.{limits-are-a-test}
 use Rattle.wire.proofs.TermsInverse.{terms-inverse}
-use Rattle.wire.proofs.TermRefusals.{node-rank, term-refusals}
+use Rattle.wire.proofs.LinesRead.{node-rank}
+use Rattle.wire.proofs.TermRefusals.{term-refusals}
 
 -- Of one line the earlier place comes first.
 pub sooner-place : (n q r : ℕ) → q ≤ r → Sooner n q n r
