@@ -108,14 +108,14 @@ Ends W s l = LineIn W s l 9 (suc (length l))
 
 module _ (W : Vocabulary) (inOrder : InOrder W) (s : ℕ) (l x : List ℕ) where
   -- The cut bytes lead to the state y too, which has r left of them.
-  abbrev CutTo : State → Type 0
+  abbrev pub CutTo : State → Type 0
   CutTo y = (r : List ℕ) × (y .rest ≡ r ++ x) × LeadsTo W s l (withRest y r)
 
   -- They end where another byte is due, no later than at q.
-  abbrev EndsBy : ℕ → Type 0
+  abbrev pub EndsBy : ℕ → Type 0
   EndsBy q = Ends W s l × (suc (length l) ≤ q)
 
-  ends-by : (y : State) (d : Due) (ds : List Due) (n q : ℕ) → LeadsTo W s l y → y .due ≡ d ∷ ds → NodeLine W y d 9 n →
+  pub ends-by : (y : State) (d : Due) (ds : List Due) (n q : ℕ) → LeadsTo W s l y → y .due ≡ d ∷ ds → NodeLine W y d 9 n →
       n ≡ y .at + length (y .rest) → n ≤ q → EndsBy q
   ends-by y d ds n q p e h same late =
       let o = leads-to-path W inOrder s l p in (

@@ -1,5 +1,5 @@
 -- EntriesRead: whole patterns written one behind the other are read as these patterns, and what is read is written so.
-use mathlib.Core.Path.{_≡_, refl, ap, subst, _∙_}
+use mathlib.Core.Path.{_≡_, refl, ap, _∙_}
 use mathlib.Core.Bool.{true}
 use mathlib.Core.List.{List, [], _∷_, _++_}
 use Prim.Native.Nat.{ℕ, _≤_, _<_}
@@ -8,7 +8,6 @@ use lib.Dec.{ltb}
 use lib.ListN.{length, length-append}
 use borrow.Author.Tests.{ltb-true, lt-ltb}
 use Rattle.terms.specs.Lists.{All}
-use Rattle.terms.specs.Term.{Consistent}
 use Rattle.wire.specs.Reply.{IsBytes, Kinded, kinded}
 use Rattle.wire.specs.Vocabulary.{Vocabulary, InOrder}
 use Rattle.wire.specs.TermBytes.{encodeRoot, encodeTerm, GoodTerm, deepest}
@@ -21,7 +20,7 @@ use Rattle.wire.proofs.Inverse.{ReadOff, Inverse, inverse-whole, invers
 use Rattle.wire.proofs.Row.{alike-inverse}
 use Rattle.wire.proofs.Levels.{deepest-bytes}
 use Rattle.wire.proofs.WriteRead.{read-root}
-use Rattle.wire.proofs.ReadWrite.{Reads, term-reads}
+use Rattle.wire.proofs.ReadWrite.{Reads, term-reads, read-good}
 
 abbrev pub GoodKinded : Vocabulary → Kinded → Type 0
 GoodKinded W k = GoodTerm W (k .kind) (k .term)
@@ -49,14 +48,7 @@ module _ (W : Vocabulary) (inOrder : InOrder W) where
       go : s < W .kinds → (x : Got Read) → Reads W (length l) true s [] l x →
           ReadOff written (GoodKinded W) (s ∷ l) (andThen x (λ a r. got (kinded s (a .term)) r))
       go low (stop n r) h = tt
-      go low (got a r) h = (
-        record {
-          kind = low;
-          sorted = record { sorted = h .sorted; consistent = subst Consistent (h .came) (h .agrees tt) };
-          named = h .named;
-        },
-        ap {B = List ℕ} (λ z. s ∷ z) (h .bytes),
-      )
+      go low (got a r) h = (read-good W (length l) s l a r low h, ap {B = List ℕ} (λ z. s ∷ z) (h .bytes))
 
   entry-inverse : Inverse (readEntry W) written (GoodKinded W)
   entry-inverse = record { written = read-entry; read = entry-read }

@@ -75,6 +75,8 @@ pub mod AgainstGood
 pub mod BookLevels
 pub mod BookLimits
 pub mod BookLeftovers
+pub mod FrontReading
+pub mod FrontLines
 -- On filling.
 pub mod FullReading
 pub mod FullTerms

@@ -87,6 +87,10 @@ pub map-missing : (l r : List ℕ) → readMap l ≡ mapMissing r → length r �
 map-missing [] r e = let h : [] ≡ r = cc in sym (ap length h)
 map-missing (m ∷ l) r e = let z : _≡_ {A = ℕ} 0 1 = cc in absurd (omega arith)
 
+pub map-lacks : (l : List ℕ) → length l < mapBytes → (r : List ℕ) × (readMap l ≡ mapMissing r)
+map-lacks [] h = ([], refl)
+map-lacks (m ∷ l) h = absurd (omega arith)
+
 pub map-short : (l r : List ℕ) → readMap l ≡ mapMissing r → length l < mapBytes
 map-short [] r e = omega arith
 map-short (m ∷ l) r e = let z : _≡_ {A = ℕ} 0 1 = cc in absurd (omega arith)

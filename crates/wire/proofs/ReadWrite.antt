@@ -4,6 +4,7 @@
 --   HasRead, HasReadAll, Reads, ReadsAll    what it means to have read a term, or terms
 --   slots-read                the terms of a word's places
 --   term-reads                any term
+--   read-good                 at the root it is a good one
 --
 use mathlib.Core.Path.{_≡_, refl, sym, ap, subst, _∙_}
 use mathlib.Core.Bool.{Bool, true, false, not, true≢false}
@@ -17,7 +18,7 @@ use Rattle.terms.proofs.All.{all-append}
 use Rattle.wire.specs.Reply.{IsBytes}
 use Rattle.wire.specs.Map.{mapBits, writeMap, flags, number, Slot, isOpen}
 use Rattle.wire.specs.Vocabulary.{Vocabulary, InOrder, signature, word, mapOf}
-use Rattle.wire.specs.TermBytes.{nameByte, writtenMap, encodeAt, encodeAll, encodeRoot, levelsAll, deepest, nameCount, wholeByte}
+use Rattle.wire.specs.TermBytes.{nameByte, writtenMap, encodeAt, encodeAll, encodeRoot, GoodTerm, levelsAll, deepest, nameCount, wholeByte}
 use Rattle.wire.specs.Parser.{Got, got, stop, andThen, Node, wordHere, nameHere, wholeHere, fault, node, Read, ReadAll, withFirst, readSlots, fromNode, readTerm}
 use Rattle.wire.proofs.Bytes.{rest-bytes}
 use Rattle.wire.proofs.Map.{number-flags, length-flagsIn, read-map-lt, sorts, Marked, sorts-slots, written-marked}
@@ -213,3 +214,12 @@ term-reads W inOrder zero root s seen l b = limit-reads W root s seen l
 term-reads W inOrder (suc left) root s seen l b =
     node-reads W inOrder left root s seen l b (readTerm W left false) (λ z seen′ m c. term-reads W inOrder left false z seen′ m c)
     (node W root s seen l) (node-stands W root s seen l)
+
+-- What is read at the root, where no name stood before, is a good term.
+pub read-good : (W : Vocabulary) (left s : ℕ) (l : List ℕ) (a : Read) (r : List ℕ) → s < W .kinds → HasRead W left true s [] l a r →
+    GoodTerm W s (a .term)
+read-good W left s l a r below h = record {
+  kind = below;
+  sorted = record { sorted = h .sorted; consistent = subst Consistent (h .came) (h .agrees tt) };
+  named = h .named;
+}

@@ -5,14 +5,14 @@ use mathlib.Core.List.{List, [], _∷_, append-nil}
 use Prim.Native.Nat.{ℕ, _≤_, _<_}
 use lib.Dec.{ltb}
 use borrow.Author.Tests.{ltb-true, lt-ltb}
-use Rattle.terms.specs.Term.{Term, Consistent}
+use Rattle.terms.specs.Term.{Term}
 use Rattle.wire.specs.Parser.{Reading, accept, refuse, Got, got, stop, Read, readTerm, line15, readWhole}
 use Rattle.wire.specs.Reply.{IsBytes, Kinded}
 use Rattle.wire.specs.Vocabulary.{Vocabulary, InOrder}
 use Rattle.wire.specs.TermBytes.{encodeRoot, encodeTerm, GoodTerm, deepest}
 use Rattle.wire.proofs.Cond.{choice}
 use Rattle.wire.proofs.WriteRead.{read-root}
-use Rattle.wire.proofs.ReadWrite.{Reads, term-reads}
+use Rattle.wire.proofs.ReadWrite.{Reads, term-reads, read-good}
 
 -- The bytes b write the term of k, which is good and fits the levels.
 pub record Writes (W : Vocabulary) (left : ℕ) (b : List ℕ) (k : Kinded) : Type 0 where
@@ -44,11 +44,7 @@ line15-writes : (W : Vocabulary) (left s : ℕ) (l : List ℕ) → s < W .kinds 
 line15-writes W left s l h (stop n r) g = tt
 line15-writes W left s l h (got a (c ∷ r)) g = tt
 line15-writes W left s l h (got a []) g = record {
-  good = record {
-    kind = h;
-    sorted = record { sorted = g .sorted; consistent = subst Consistent (g .came) (g .agrees tt) };
-    named = g .named;
-  };
+  good = read-good W left s l a [] h g;
   bytes = ap {B = List ℕ} (λ z. s ∷ z) (g .bytes ∙ append-nil (encodeRoot W (a .term)));
   fits = g .deep;
 }
