@@ -77,6 +77,10 @@ pub mod BookLimits
 pub mod BookLeftovers
 pub mod FrontReading
 pub mod FrontLines
+pub mod BookPatterns
+pub mod BookRows
+pub mod BooksInverse
+pub mod BookRefusals
 -- On filling.
 pub mod FullReading
 pub mod FullTerms

@@ -2,6 +2,7 @@
 --
 --   namesOf, placed-names     the names of a term, with their places
 --   repeated-is-exact         the byte that is found is the earliest
+--   repeated-inside           it is one of the term's bytes
 --   unrepeated-is-linear      none is found exactly where no name stands twice
 --
 use mathlib.Core.Path.{_≡_, refl, sym, ap, ap₂, _∙_, subst}
@@ -9,16 +10,17 @@ use mathlib.Core.Bool.{Bool, true, false, cond, _||_}
 use mathlib.Core.List.{List, [], _∷_, _++_, map}
 use mathlib.Core.Logic.{_↔_}
 use mathlib.Core.Option.{some, none, Option·none-ne-some}
-use Prim.Native.Nat.{ℕ, zero, suc, _+_, _<_}
+use Prim.Native.Nat.{ℕ, zero, suc, _+_, _<_, _≤_}
 use native.Mathlib.Omega.{arith}
 use lib.Dec.{eqb}
-use lib.ListN.{length, getD, take}
+use lib.ListN.{length, getD, take, length-append}
 use Rattle.terms.specs.Lists.{All, occurs, NoneTwice}
 use Rattle.terms.specs.Term.{Term, any, var, app, Terms, nil, cons, names, namesAll, Linear}
+use Rattle.terms.proofs.All.{all-append, all-at}
 use Rattle.terms.proofs.Bools.{eqb-sym, or-parts, or-neither}
 use Rattle.wire.specs.Map.{mapBytes}
 use Rattle.wire.specs.Vocabulary.{Vocabulary}
-use Rattle.wire.specs.TermBytes.{encodeAt}
+use Rattle.wire.specs.TermBytes.{encodeAt, encodeAll, encodeRoot, encodeTerm}
 use Rattle.wire.specs.PatternLines.{Sighting, sightingsFrom, sightingsAll, sightings, noSighting, RepeatedAt}
 use Rattle.wire.specs.ListComputed.{repeatedIn}
 use Rattle.wire.proofs.Cond.{cond-true, cond-false}
@@ -43,6 +45,29 @@ mutual
   placed-names-all W (cons t ts) at =
       names-append (sightingsFrom W t at) (sightingsAll W ts (at + length (encodeAt W t)))
       ∙ ap₂ (λ l m. l ++ m) (placed-names W t at) (placed-names-all W ts (at + length (encodeAt W t)))
+
+-- A name's byte is one of the term's.
+module _ (W : Vocabulary) (end : ℕ) where
+  abbrev Before : Sighting → Type 0
+  Before o = o .offset < end
+
+  mutual
+    placed-before : (t : Term) (at : ℕ) → at + length (encodeAt W t) ≤ end → All Before (sightingsFrom W t at)
+    placed-before any at h = tt
+    placed-before (var n) at h = (omega arith, tt)
+    placed-before (app f ts) at h = placed-before-all ts (at + 1 + mapBytes) (omega arith)
+
+    placed-before-all : (ts : Terms) (at : ℕ) → at + length (encodeAll W ts) ≤ end → All Before (sightingsAll W ts at)
+    placed-before-all nil at h = tt
+    placed-before-all (cons t ts) at h =
+        let size = length-append (encodeAt W t) (encodeAll W ts) in
+        all-append Before (sightingsFrom W t at) (sightingsAll W ts (at + length (encodeAt W t))) (placed-before t at (omega arith))
+        (placed-before-all ts (at + length (encodeAt W t)) (omega arith))
+
+root-longer : (W : Vocabulary) (t : Term) → length (encodeAt W t) ≤ length (encodeRoot W t)
+root-longer W any = omega arith
+root-longer W (var n) = omega arith
+root-longer W (app f ts) = omega arith
 
 -- ---- names that stood before, here or among `seen`
 
@@ -114,6 +139,12 @@ repeated-is-exact l q = (
       }),
   (λ r. repeated-found [] l q (r .index) (r .below) (r .here) (or-false _ ∙ r .again) (λ j k. or-false _ ∙ r .first j k)),
 )
+
+pub repeated-inside : (W : Vocabulary) (s : ℕ) (t : Term) (q : ℕ) → RepeatedAt (sightings W t) q → q < length (encodeTerm W s t)
+repeated-inside W s t q r =
+    let all = placed-before W (length (encodeTerm W s t)) t 1 (omega (arith, root-longer W t)) in
+    let inside = all-at (Before W (length (encodeTerm W s t))) noSighting (sightings W t) all (r .index) (r .below) in
+    omega (arith, r .here)
 
 -- ---- no name stands twice
 

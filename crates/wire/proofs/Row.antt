@@ -5,13 +5,14 @@
 --   row-inverse, alike-inverse  the reader of a row is inverse to the row's writer
 --   behindRow s l               the state behind the row l
 --   row-last, row-stopped       the first things of a row are read, then one more, or the next is refused
+--   StopsBehind, row-stops      where a row stops, the first things of it are read and the next is refused
 --   Same n x g h                the bytes x behind those that are read change nothing, and n bytes are left
 --   then-same, row-same         the same of what is read on behind, and of a row
 --
 use mathlib.Core.Path.{_≡_, refl, sym, ap, subst, _∙_}
 use mathlib.Core.List.{List, [], _∷_, _++_, append-assoc}
 use mathlib.Core.Logic.{_↔_}
-use Prim.Native.Nat.{ℕ, zero, suc, _+_, _*_, _≤_}
+use Prim.Native.Nat.{ℕ, zero, suc, _+_, _*_, _≤_, _<_}
 use native.Mathlib.Nat.{zero-add, suc-add}
 use native.Mathlib.Omega.{arith}
 use lib.ListN.{length}
@@ -106,6 +107,33 @@ module _ {S A : Type 0} (reader : S → List ℕ → Got A) (next : S → A → 
 
     pub row-stopped : (j m : ℕ) (r′ : List ℕ) → reader (behindRow s l) r ≡ stop m r′ → readRow reader next s (w + suc j) b ≡ stop m r′
     row-stopped = subst (Next s w b) read (row-next s w b) .1
+
+  -- Where a row stops, its first things are read, and the next one is refused.
+  pub record StopsBehind (s : S) (n : ℕ) (b : List ℕ) (m : ℕ) (r : List ℕ) : Type 0 where
+    pub before : List A
+    pub rest : List ℕ
+    pub fewer : length before < n
+    pub read : readRow reader next s (length before) b ≡ got before rest
+    pub stops : reader (behindRow s before) rest ≡ stop m r
+
+  abbrev Stopped : S → ℕ → List ℕ → Got (List A) → Type 0
+  Stopped s n b (got l r) = Unit {0}
+  Stopped s n b (stop m r) = StopsBehind s n b m r
+
+  row-stopped-of : (s : S) (n : ℕ) (b : List ℕ) → Stopped s n b (readRow reader next s n b)
+  row-stopped-of =
+      row-by (λ s b g. reader s b ≡ g) Stopped (λ s b. refl) (λ s b. tt)
+      (λ s n b m r e. record { before = []; rest = b; fewer = omega arith; read = refl; stops = e }) more
+    where
+      more : (s : S) (n : ℕ) (b : List ℕ) (a : A) (r : List ℕ) → reader s b ≡ got a r →
+          (g : Got (List A)) → Stopped (next s a) n r g → Stopped s (suc n) b (andThen g (λ rest r′. got (a ∷ rest) r′))
+      more s n b a r e (got l r′) h = tt
+      more s n b a r e (stop m r′) h =
+          let few = h .fewer in
+          record { before = a ∷ h .before; rest = h .rest; fewer = omega arith; read = rw (e, h .read); stops = h .stops }
+
+  pub row-stops : (s : S) (n : ℕ) (b : List ℕ) (m : ℕ) (r : List ℕ) → readRow reader next s n b ≡ stop m r → StopsBehind s n b m r
+  row-stops s n b m r e = subst (Stopped s n b) e (row-stopped-of s n b)
 
 -- ---- rows of things that are read alike
 
