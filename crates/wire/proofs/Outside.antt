@@ -27,3 +27,10 @@ inside-outside low high n h k = or-neither (ltb n low) (ltb high n) (le-ltb n lo
 pub no-outside : (low high n : ℕ) → low ≤ n → n ≤ high → Outside low high n → ⊥
 no-outside low high n h l (inl o) = omega arith
 no-outside low high n h l (inr o) = omega arith
+
+pub outside-tested : (low high n : ℕ) → Outside low high n → outside low high n ≡ true
+outside-tested low high n o = go (outside low high n) refl
+  where
+    go : (t : Bool) → outside low high n ≡ t → outside low high n ≡ true
+    go true e = e
+    go false e = let h = outside-false low high n e in absurd (no-outside low high n (h .0) (h .1) o)

@@ -28,6 +28,9 @@
 --   fill-inputs-are-one      the bytes of fill's inputs write one vocabulary, one pattern and one filling only
 --   fillings-inverse         a filling file is accepted for a pattern exactly where it is the writing of a good filling
 --   pattern-is-one           the bytes of list's inputs write one vocabulary and one pattern only
+--   books-inverse            a book is accepted exactly where it is the writing of a good one
+--   book-is-one              the bytes of list_book's inputs write one vocabulary and one book only
+--   book-refusals            a book is refused exactly by its lines
 --   entries-by-spots         the entries of a pattern are those at its words, from left to right
 --   spots-by-bits            the words of a term, by the bits of its written map
 --   pattern-count, pattern-length   one pass over a good pattern counts its entries and their bytes
@@ -40,7 +43,7 @@
 --   more-alters-nothing      the program's text for the bytes that it takes is the text for all bytes of the input
 --   starred-hold             every starred case has the reply that document 01 gives
 --
-use Rattle.wire.specs.Laws.{InOrderIsWellFormed, VocabulariesInverse, TermsInverse, LimitsAreATest, CompleteIsGround, NoGapIsComplete, FullMapMeansNoOpenPlace, EntriesAreGood, VocabularyRefusals, TermRefusals, FirstGapIsExact, SituationRefusals, VocabularyFixed, TermFixed, MatchFixed, PartFixed, ListFixed, FillFixed, PrintFixed, VocabularyKeeps, TermKeeps, MatchKeeps, PartKeeps, JudgeKeeps, PartIsTable, EntriesInverse, FilledIsGood, CompleteWithoutOpenPlace, FillInputsAreOne, PatternIsOne, LinearRefusals, ListKeeps, FillKeeps, FilledMatches, DecimalIsExact, PrintKeeps, AcceptedIsShort, MoreAltersNothing, FillingsInverse, FillingRefusals}
+use Rattle.wire.specs.Laws.{InOrderIsWellFormed, VocabulariesInverse, TermsInverse, LimitsAreATest, CompleteIsGround, NoGapIsComplete, FullMapMeansNoOpenPlace, EntriesAreGood, VocabularyRefusals, TermRefusals, FirstGapIsExact, SituationRefusals, VocabularyFixed, TermFixed, MatchFixed, PartFixed, ListFixed, FillFixed, PrintFixed, VocabularyKeeps, TermKeeps, MatchKeeps, PartKeeps, JudgeKeeps, PartIsTable, EntriesInverse, FilledIsGood, CompleteWithoutOpenPlace, FillInputsAreOne, PatternIsOne, LinearRefusals, ListKeeps, FillKeeps, FilledMatches, DecimalIsExact, PrintKeeps, AcceptedIsShort, MoreAltersNothing, FillingsInverse, FillingRefusals, BooksInverse, BookIsOne, BookRefusals}
 use Rattle.wire.specs.EntryBytes.{EntriesBySpots}
 use Rattle.wire.specs.EntryMaps.{SpotsByBits}
 use Rattle.wire.specs.EntrySizes.{PatternCount, PatternLength}
@@ -145,6 +148,15 @@ fillings-inverse = Rattle.wire.proofs.FillingsInverse.fillings-inverse
 
 pub pattern-is-one : PatternIsOne
 pattern-is-one = Rattle.wire.proofs.Leftovers.pattern-is-one
+
+pub books-inverse : BooksInverse
+books-inverse = Rattle.wire.proofs.BooksInverse.books-inverse
+
+pub book-is-one : BookIsOne
+book-is-one = Rattle.wire.proofs.BooksInverse.book-is-one
+
+pub book-refusals : BookRefusals
+book-refusals = Rattle.wire.proofs.BookRefusals.book-refusals
 
 pub entries-by-spots : EntriesBySpots
 entries-by-spots = Rattle.wire.proofs.EntryBytes.entries-bytes
