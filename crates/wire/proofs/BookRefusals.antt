@@ -1,18 +1,19 @@
 -- BookRefusals: a book is refused by line 24, then by lines 7 to 14, 18 and 25 for each pattern in turn, then by line 15.
 --
---   Begun at a row            the patterns that are read begin the book
---   stop-line, line-stop      where a pattern is refused the book is, and by which of its lines
+--   offset-begins             the place of the bytes that are left
+--   before-kind               the kind of the patterns before the next
+--   stop-line, line-stop      where the next pattern is refused the book is, by one of its lines
+--   book-line, line-book      what is given is a line's, and what is a line's is given
 --   book-refusals             a number is given exactly where its line is the one
 --
-use mathlib.Core.Path.{_≡_, refl, sym, ap, ap₂, _∙_, subst}
-use mathlib.Core.Bool.{Bool, true, false}
+use mathlib.Core.Path.{_≡_, refl, sym, ap, _∙_, subst}
 use mathlib.Core.List.{List, [], _∷_, _++_}
 use mathlib.Core.Option.{Option, some, none, Option·none-ne-some}
 use Prim.Native.Nat.{ℕ, suc, _+_, _-_, _≤_, _<_}
 use native.Mathlib.Omega.{arith}
 use lib.ListN.{length, length-append, length-map}
 use Rattle.terms.specs.Term.{Term}
-use Rattle.wire.specs.Reply.{IsBytes, Kinded, kinded, outside, Outside}
+use Rattle.wire.specs.Reply.{IsBytes, Kinded, kinded, outside}
 use Rattle.wire.specs.Vocabulary.{Vocabulary, InOrder}
 use Rattle.wire.specs.BookBytes.{mostPatterns, patternsBytes}
 use Rattle.wire.specs.BookLines.{Begun, begins, BookLine}

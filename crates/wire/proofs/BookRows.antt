@@ -22,7 +22,7 @@ use Rattle.wire.specs.Vocabulary.{Vocabulary, InOrder}
 use Rattle.wire.specs.TermBytes.{encodeTerm}
 use Rattle.wire.specs.BookBytes.{patternsBytes, Listable}
 use Rattle.wire.specs.Parser.{Got, got, readRow}
-use Rattle.wire.specs.BookComputed.{readPattern, kindBehind, Book, bookOf}
+use Rattle.wire.specs.BookComputed.{readPattern, kindBehind, bookOf}
 use Rattle.wire.proofs.Inverse.{ReadOff, Inverse}
 use Rattle.wire.proofs.Row.{GoodRow, row-inverse, behindRow}
 use Rattle.wire.proofs.FrontReading.{frontBytes}

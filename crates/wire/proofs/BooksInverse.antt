@@ -4,14 +4,13 @@
 --   books-inverse, book-is-one   the two laws
 --
 use mathlib.Core.Path.{_≡_, refl, sym, ap, ap₂, _∙_, subst}
-use mathlib.Core.Bool.{Bool, true, false}
-use mathlib.Core.List.{List, [], _∷_, _++_, append-nil}
+use mathlib.Core.List.{List, [], _∷_, append-nil}
 use Prim.Native.Nat.{ℕ, _≤_}
 use native.Mathlib.Omega.{arith}
 use lib.ListN.{length}
 use Rattle.terms.specs.Term.{Term}
 use Rattle.wire.specs.Reply.{IsBytes, Kinded, outside}
-use Rattle.wire.specs.Vocabulary.{Vocabulary, InOrder, HoldsVocabulary}
+use Rattle.wire.specs.Vocabulary.{Vocabulary, InOrder}
 use Rattle.wire.specs.BookBytes.{mostPatterns, patternsBytes, encodeBook, HoldsBook}
 use Rattle.wire.specs.Parser.{Reading, accept, refuse, Got, got, stop}
 use Rattle.wire.specs.BookComputed.{Book, bookOf, afterLast, readBook}
@@ -19,7 +18,7 @@ use Rattle.wire.specs.Laws.{BooksInverse, BookIsOne}
 use Rattle.wire.proofs.Cond.{cond-false, choice}
 use Rattle.wire.proofs.Outside.{outside-false, inside-outside}
 use Rattle.wire.proofs.VocabulariesInverse.{accept-same, vocabulary-is-one}
-use Rattle.wire.proofs.BookRows.{readPatterns, book-of, ofKind, PatternsRead, read-patterns, patterns-read, patterns-count}
+use Rattle.wire.proofs.BookRows.{readPatterns, book-of, read-patterns, patterns-read, patterns-count}
 
 -- Where the count is in order, the patterns are read.
 pub counted : (W : Vocabulary) (c : ℕ) (l : List ℕ) → 1 ≤ c → c ≤ mostPatterns → readBook W (c ∷ l) ≡ afterLast (c ∷ l) (readPatterns W c l)

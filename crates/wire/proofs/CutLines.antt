@@ -1,7 +1,11 @@
 -- CutLines: the lines 9 to 14 that fit a term's bytes, with bytes x behind them and without.
 --
 --   withRest y r              the state y with r as its rest
+--   leads-longer              a state to which the cut bytes lead, with x behind its rest
 --   line-longer               a line that fits the cut bytes fits the whole ones, unless it says that the cut ones end
+--   Ends W s l                the bytes l end where another one is due
+--   EndsBy q, ends-by         .. and that is no later than q
+--   CutTo y, leads-cut        a state to which the whole bytes lead is one of the cut ones, or these end before it
 --   line-cut                  a line that fits the whole bytes fits the cut ones, or these end before its place
 --
 use mathlib.Core.Path.{_≡_, refl, sym, ap, _∙_, subst}
@@ -69,7 +73,7 @@ module _ (W : Vocabulary) (x : List ℕ) where
 -- ---- from the whole bytes to the cut ones
 
 module _ (W : Vocabulary) (x : List ℕ) where
-  -- What is due there is the same; a line that asks for bytes behind the cut ones finds that these end.
+  -- A line at a state of both says the same of the cut bytes, unless it asks for one behind them: then line 9 does.
   node-cut : (y : State) (d : Due) {n q : ℕ} → NodeLine W y d n q → (r : List ℕ) → y .rest ≡ r ++ x →
       NodeLine W (withRest y r) d n q ⊎ (NodeLine W (withRest y r) d 9 (y .at + length r) × (y .at + length r ≤ q))
   node-cut y d h [] same =
@@ -102,16 +106,14 @@ module _ (W : Vocabulary) (x : List ℕ) where
       go h n (inl c) = inl (NodeLine.stray b m r (c .0) refl h (c .1) n)
       go h n (inr c) = inr (NodeLine.endsInMap b r (c .0) refl h (c .1), omega (arith, map-short r (c .0) (c .1)))
 
--- The bytes l end where another one is due.
 abbrev pub Ends : Vocabulary → ℕ → List ℕ → Type 0
 Ends W s l = LineIn W s l 9 (suc (length l))
 
 module _ (W : Vocabulary) (inOrder : InOrder W) (s : ℕ) (l x : List ℕ) where
-  -- The cut bytes lead to the state y too, which has r left of them.
+  -- Of the cut bytes r are left there.
   abbrev pub CutTo : State → Type 0
   CutTo y = (r : List ℕ) × (y .rest ≡ r ++ x) × LeadsTo W s l (withRest y r)
 
-  -- They end where another byte is due, no later than at q.
   abbrev pub EndsBy : ℕ → Type 0
   EndsBy q = Ends W s l × (suc (length l) ≤ q)
 
@@ -154,7 +156,6 @@ module _ (W : Vocabulary) (inOrder : InOrder W) (s : ℕ) (l x : List ℕ) where
       let first : b ≡ wholeByte = cc in
       inl (r, cc, next (first-known first p) (onWhole r o h))
 
-  -- The cut bytes lead to a state to which the whole ones lead, or end before it.
   pub leads-cut : {y : State} → LeadsTo W s (l ++ x) y → CutTo y ⊎ EndsBy (y .at)
   leads-cut here = inl (l, refl, here)
   leads-cut (next {x = y} {y = z} p q) = go (leads-cut p)

@@ -22,22 +22,14 @@ use Rattle.wire.specs.FillingFile.{nameMapBytes, ascending}
 use Rattle.wire.specs.FillingLines.{Differs, valuesDue, FullTo, FillingLine, short, differs, value, more}
 use Rattle.wire.specs.FillComputed.{bindings, unlike, readValues, line22, line21, readFilling}
 use Rattle.wire.proofs.Cond.{cond-true, cond-false}
-use Rattle.wire.proofs.Refusals.{refuses-one, refuses-none}
+use Rattle.wire.proofs.Refusals.{sooner-place, refuses-one, refuses-none}
 use Rattle.wire.proofs.NameMaps.{unlike-none, unlike-some}
 use Rattle.wire.proofs.FillingPath.{ending-stop, ending-got, valuesEnding, ends-stuck, ends-done, fault-stops, EndsStuck, EndsDone, path-ends}
-
--- Of one number the earlier place comes first.
-no-later : (n q r : ℕ) → q ≤ r → Sooner n q n r
-no-later n q r h = go (ltb q r) refl
-  where
-    go : (b : Bool) → ltb q r ≡ b → Sooner n q n r
-    go true e = inr (refl, inl (ltb-true q r e))
-    go false e = inr (refl, inr (omega (arith, ltb-false q r e), omega arith))
 
 module _ (W : Vocabulary) (s : ℕ) (t : Term) (b : List ℕ) where
   -- A short map comes before every other line.
   short-first : length b < nameMapBytes → {m r : ℕ} → FillingLine W s t b m r → Sooner 21 0 m r
-  short-first o (short h) = no-later 21 0 0 (omega arith)
+  short-first o (short h) = sooner-place 21 0 0 (omega arith)
   short-first o (differs n h d l) = absurd (omega arith)
   short-first o (value x d ds q p e h) = inl (omega arith)
   short-first o (more x c r p e h) = inl (omega arith)
@@ -56,7 +48,7 @@ module _ (W : Vocabulary) (s : ℕ) (t : Term) (b : List ℕ) where
       where
         go : (c : Bool) → ltb n′ n ≡ c → Sooner 21 n 21 n′
         go true e = absurd (l n′ (ltb-true n′ n e) d′)
-        go false e = no-later 21 n n′ (ltb-false n′ n e)
+        go false e = sooner-place 21 n n′ (ltb-false n′ n e)
     differs-first n d l (value x d′ ds q p e h) = inl (omega arith)
     differs-first n d l (more x c r p e h) = inl (omega arith)
 
@@ -86,7 +78,7 @@ module _ (W : Vocabulary) (s : ℕ) (t : Term) (b : List ℕ) where
             let k = fault-stops W s t b x d ds q p e h in
             let a : k .from ≡ from = cc (k .stops, stops) in
             let c : place ≤ q = omega (arith, counted, ap length a, k .placed, k .sooner) in
-            no-later 22 place q c
+            sooner-place 22 place q c
         stuck-first (more x c r p e h) =
             let z : _≡_ {A = ℕ} 0 1 = cc (ends-done W s t b x p e .0, stops) in absurd (omega arith)
 
@@ -127,7 +119,7 @@ module _ (W : Vocabulary) (s : ℕ) (t : Term) (b : List ℕ) where
           (read21 none alike ∙ ap (line22 b (ascending t)) (a .1) ∙ ap (refuse 22) o)
           (record {
             fits = more _ c r p refl refl;
-            first = λ m q h. done-lines seen at (c ∷ r) p (Sooner 22 at) (λ c′ r′ e. no-later 22 at at (omega arith)) h;
+            first = λ m q h. done-lines seen at (c ∷ r) p (Sooner 22 at) (λ c′ r′ e. sooner-place 22 at at (omega arith)) h;
           })
 
       refuses-values : RefusesBy (FillingLine W s t b) (readFilling W s t b)

@@ -1,8 +1,7 @@
 -- FrontLines: a pattern that begins some bytes is refused by lines 7 to 14, where a 4,097th byte is due by line 7.
 --
---   earlier-later             what is before a byte and number is before all that are not before these
 --   front-once                one number at one place decides
---   nine-place                line 9 names the end of the bytes
+--   every-line                the lines of some bytes, by those of the bytes in the window
 --   FrontJudged W b g         the lines decide on what is read of the front of b as g
 --   front-judged              they do
 --   front-stops, stops-front  a number is given exactly where it decides
@@ -14,10 +13,9 @@ use mathlib.Core.Logic.{_⊎_, inl, inr}
 use Prim.Native.Nat.{ℕ, suc, _+_, _≤_, _<_}
 use native.Mathlib.Omega.{arith}
 use lib.Dec.{eqb, ltb}
-use lib.ListN.{length, take, drop, length-append, length-drop}
-use lib.Seq.{take-all}
+use lib.ListN.{length, drop, length-append}
 use borrow.Author.Tests.{ltb-true, ltb-false, eqb-true, eqb-false, ne-eqb}
-use Rattle.wire.specs.Map.{mapBytes, mapMissing, readMap}
+use Rattle.wire.specs.Map.{mapBytes}
 use Rattle.wire.specs.Reply.{Kinded}
 use Rattle.wire.specs.Vocabulary.{Vocabulary, InOrder}
 use Rattle.wire.specs.TermBytes.{leastBytes, mostBytes}
@@ -25,37 +23,17 @@ use Rattle.wire.specs.Refusals.{Earlier}
 use Rattle.wire.specs.TermLines.{Due, State, Word?, LeadsTo, NodeLine}
 use Rattle.wire.specs.BookLines.{FrontLine, FrontDecides}
 use Rattle.wire.specs.Parser.{Got, got, stop, Read}
-use Rattle.wire.specs.BookComputed.{behindWindow, frontOf, readFront}
-use Rattle.wire.proofs.Cond.{cond-true, cond-false, choice}
+use Rattle.wire.specs.BookComputed.{frontOf, readFront}
+use Rattle.wire.proofs.Cond.{cond-false, choice}
+use Rattle.wire.proofs.Refusals.{earlier-later, no-later, earlier-byte, earlier-once}
 use Rattle.wire.proofs.Map.{map-lacks, map-short}
 use Rattle.wire.proofs.ScanPath.{leads-to-path}
-use Rattle.wire.proofs.LinesRead.{node-number, LineIn, StopsAt, EndsAt, LinesJudged, lines-judged}
+use Rattle.wire.proofs.LinesRead.{node-number, NoMap, nine-ends, LineIn, nine-place, StopsAt, EndsAt, LinesJudged, lines-judged}
 use Rattle.wire.proofs.TermRefusals.{same-bytes}
 use Rattle.wire.proofs.CutLines.{withRest, leads-longer, line-longer, Ends, CutTo, EndsBy, ends-by, leads-cut, line-cut}
 use Rattle.wire.proofs.FrontReading.{window, window-splits, window-length, window-full, inWindow}
 
 -- ---- one decides
-
-pub earlier-later : (n q m r m′ r′ : ℕ) → Earlier n q m r → r ≤ r′ → m ≤ m′ → Earlier n q m′ r′
-earlier-later n q m r m′ r′ (inl h) p o = inl (omega arith)
-earlier-later n q m r m′ r′ (inr h) p o = go (ltb q r′) refl
-  where
-    go : (t : Bool) → ltb q r′ ≡ t → Earlier n q m′ r′
-    go true e = inl (ltb-true q r′ e)
-    go false e = inr (omega (arith, ltb-false q r′ e), omega arith)
-
-no-later : (n q m r : ℕ) → q ≤ r → n ≤ m → Earlier n q m r
-no-later n q m r p o = earlier-later n q n q m r (inr (refl, omega arith)) p o
-
-earlier-byte : (n q m r : ℕ) → Earlier n q m r → q ≤ r
-earlier-byte n q m r (inl h) = omega arith
-earlier-byte n q m r (inr h) = omega arith
-
-earlier-once : (n q m r : ℕ) → Earlier n q m r → Earlier m r n q → (n ≡ m) × (q ≡ r)
-earlier-once n q m r (inl h) (inl k) = absurd (omega arith)
-earlier-once n q m r (inl h) (inr k) = absurd (omega arith)
-earlier-once n q m r (inr h) (inl k) = absurd (omega arith)
-earlier-once n q m r (inr h) (inr k) = (omega arith, omega arith)
 
 -- The place of a line is told by its number and its byte.
 abbrev placeOf : ℕ → ℕ → ℕ
@@ -73,33 +51,6 @@ pub front-once : (W : Vocabulary) (b : List ℕ) (n q m r : ℕ) → FrontDecide
 front-once W b n q m r x y =
     let same = earlier-once n (x .at) m (y .at) (x .first m (y .at) r (y .fits)) (y .first n (x .at) q (x .fits)) in
     (same .0, line-place W b (x .fits) ∙ ap₂ placeOf (same .0) (same .1) ∙ sym (line-place W b (y .fits)))
-
--- ---- where line 9 fits
-
--- The bytes of a word f end before its map does.
-record NoMap (W : Vocabulary) (y : State) : Type 0 where
-  word : ℕ
-  behind : List ℕ
-  left : List ℕ
-  bytes : y .rest ≡ word ∷ behind
-  known : Word? W word
-  missing : readMap behind ≡ mapMissing left
-
--- What line 9 says.
-abbrev NoByte : Vocabulary → State → ℕ → Type 0
-NoByte W y q = (q ≡ y .at + length (y .rest)) × ((y .rest ≡ []) ⊎ NoMap W y)
-
-nine-ends : (W : Vocabulary) (y : State) (d : Due) {n q : ℕ} → NodeLine W y d n q → n ≡ 9 → NoByte W y q
-nine-ends W y d (NodeLine.ends e) z = (omega (arith, ap length e), inl e)
-nine-ends W y d (NodeLine.endsInMap f l r e h k) z = (refl, inr (record { word = f; behind = l; left = r; bytes = e; known = h; missing = k }))
-nine-ends W y d (NodeLine.deep b l e h) z = absurd (omega arith)
-nine-ends W y d (NodeLine.unknown b l e h k n) z = absurd (omega arith)
-nine-ends W y d (NodeLine.differs f l e h k) z = absurd (omega arith)
-nine-ends W y d (NodeLine.clashes b n l e h k) z = absurd (omega arith)
-nine-ends W y d (NodeLine.stray f m l r e h k n) z = absurd (omega arith)
-
-pub nine-place : (W : Vocabulary) → InOrder W → (s : ℕ) (l : List ℕ) (q : ℕ) → LineIn W s l 9 q → q ≡ suc (length l)
-nine-place W inOrder s l q h = nine-ends W (h .state) (h .first) (h .fits) refl .0 ∙ leads-to-path W inOrder s l (h .leads) .placed
 
 -- ---- the lines of the whole bytes and of those in the window
 
@@ -163,7 +114,7 @@ module _ (W : Vocabulary) (inOrder : InOrder W) (s : ℕ) (c x : List ℕ) (belo
     where
       go : LineIn W s c n q ⊎ EndsBy W inOrder s c x q → P n q q
       go (inl t) = f n q t
-      go (inr t) = g n q (t .0) (node-number W y d k .0) (t .1)
+      go (inr t) = g n q (t .0) (node-number W y d k) (t .1)
 
   -- A byte is due where the window ends: line 7, where the bytes go on or end just there.
   nine-long : (q : ℕ) → LineIn W s c 9 q → suc (length c) ≡ mostBytes → FrontLine W b 7 mostBytes 0

@@ -17,7 +17,7 @@ use lib.ListN.{length, take, drop, length-append, length-take, take-append-drop,
 use lib.Seq.{take-append-add, drop-append-add}
 use borrow.Author.Tests.{ltb-true, ltb-false, lt-ltb}
 use Rattle.terms.proofs.All.{all-left}
-use Rattle.wire.specs.Reply.{IsBytes, Kinded, kinded}
+use Rattle.wire.specs.Reply.{IsBytes, Kinded}
 use Rattle.wire.specs.Vocabulary.{Vocabulary, InOrder}
 use Rattle.wire.specs.TermBytes.{encodeRoot, encodeTerm, mostBytes, mostLevels, HoldsTerm}
 use Rattle.wire.specs.Parser.{Got, got, stop, Read, readTerm}

@@ -16,12 +16,12 @@ use Rattle.wire.specs.Laws.{RefusesBy, LinearRefusals}
 use Rattle.wire.specs.TermLines.{TermLine}
 use Rattle.wire.specs.PatternLines.{sightings, RepeatedAt, PatternLine, everyTerm, twice}
 use Rattle.wire.specs.ListComputed.{repeatedIn, linearOf, linearIn, checkedLinear}
-use Rattle.wire.proofs.Refusals.{refuses-by, Judged}
+use Rattle.wire.proofs.Refusals.{sooner-place, refuses-by, Judged}
 use Rattle.wire.proofs.Front.{term-front}
 use Rattle.wire.proofs.Limits.{limits-are-a-test}
 use Rattle.wire.proofs.TermsInverse.{terms-inverse}
 use Rattle.wire.proofs.TermRefusals.{term-refusals}
-use Rattle.wire.proofs.SituationRefusals.{sooner-place, term-rank}
+use Rattle.wire.proofs.SituationRefusals.{term-rank}
 use Rattle.wire.proofs.Repeats.{repeated-is-exact}
 
 -- The term is refused, so the pattern is.

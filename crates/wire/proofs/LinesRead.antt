@@ -1,10 +1,12 @@
 -- LinesRead: what is read of a term is decided by lines 9 to 14.
 --
---   node-rank, node-number, node-place   of a line that fits at a state: it decides by its byte, its number, its place
---   LineIn W s l n q          line n fits at place q at a state to which the bytes l lead
+--   node-rank, node-number, node-place   a line that fits at a state decides by its byte, has a number from 9 on and no earlier place
+--   NoByte, nine-ends         what line 9 says
+--   LineIn W s l n q          line n fits at place q at a state to which the bytes l lead, behind the kind byte s
+--   nine-place                line 9 names the end of the bytes
 --   StopsAt W s l n r         line n decides, at the place where the bytes r begin
 --   EndsAt W s l r            no line fits, and the bytes lead to a state where nothing is due and r is left
---   LinesJudged W s l g       one of the two, as the term of kind s behind which l stand is read as g
+--   LinesJudged W s l g       one of the two, by what is read of the bytes l as g
 --   lines-judged              it holds of what readTerm gives
 --   ends-once                 there is one such state only
 --
@@ -16,12 +18,14 @@ use Prim.Native.Nat.{ℕ, suc, _+_, _≤_}
 use native.Mathlib.Omega.{arith}
 use lib.ListN.{length}
 use Rattle.terms.specs.Term.{Occurrence}
+use Rattle.wire.specs.Map.{mapMissing, readMap}
 use Rattle.wire.specs.Parser.{Got, got, stop, Read, readTerm}
 use Rattle.wire.specs.Vocabulary.{Vocabulary, InOrder}
 use Rattle.wire.specs.TermBytes.{mostLevels}
 use Rattle.wire.specs.Refusals.{rank, Earlier, Sooner}
-use Rattle.wire.specs.TermLines.{Due, State, LeadsTo, NodeLine}
+use Rattle.wire.specs.TermLines.{Due, State, Word?, LeadsTo, NodeLine}
 use Rattle.wire.specs.Scan.{Scanned, run, tallied}
+use Rattle.wire.proofs.Refusals.{same-rank}
 use Rattle.wire.proofs.Scan.{scan-reads}
 use Rattle.wire.proofs.ScanPath.{scanned, leads-to-path, line-stops, EndsStuck, EndsDone, path-ends}
 
@@ -34,14 +38,14 @@ node-rank W x d (NodeLine.differs f l e h k) = refl
 node-rank W x d (NodeLine.clashes b n l e h k) = refl
 node-rank W x d (NodeLine.stray f m l r e h k n) = refl
 
-pub node-number : (W : Vocabulary) (x : State) (d : Due) {n q : ℕ} → NodeLine W x d n q → (9 ≤ n) × (n ≤ 14)
-node-number W x d (NodeLine.ends e) = (omega arith, omega arith)
-node-number W x d (NodeLine.endsInMap f l r e h k) = (omega arith, omega arith)
-node-number W x d (NodeLine.deep b l e h) = (omega arith, omega arith)
-node-number W x d (NodeLine.unknown b l e h k n) = (omega arith, omega arith)
-node-number W x d (NodeLine.differs f l e h k) = (omega arith, omega arith)
-node-number W x d (NodeLine.clashes b n l e h k) = (omega arith, omega arith)
-node-number W x d (NodeLine.stray f m l r e h k n) = (omega arith, omega arith)
+pub node-number : (W : Vocabulary) (x : State) (d : Due) {n q : ℕ} → NodeLine W x d n q → 9 ≤ n
+node-number W x d (NodeLine.ends e) = omega arith
+node-number W x d (NodeLine.endsInMap f l r e h k) = omega arith
+node-number W x d (NodeLine.deep b l e h) = omega arith
+node-number W x d (NodeLine.unknown b l e h k n) = omega arith
+node-number W x d (NodeLine.differs f l e h k) = omega arith
+node-number W x d (NodeLine.clashes b n l e h k) = omega arith
+node-number W x d (NodeLine.stray f m l r e h k n) = omega arith
 
 pub node-place : (W : Vocabulary) (x : State) (d : Due) {n q : ℕ} → NodeLine W x d n q → x .at ≤ q
 node-place W x d (NodeLine.ends e) = omega arith
@@ -52,7 +56,28 @@ node-place W x d (NodeLine.differs f l e h k) = omega arith
 node-place W x d (NodeLine.clashes b n l e h k) = omega arith
 node-place W x d (NodeLine.stray f m l r e h k n) = omega arith
 
--- A line of 9 to 14 that fits at a state to which the bytes l lead, behind the kind byte s.
+-- The bytes end in the map of a word, or before it.
+pub record NoMap (W : Vocabulary) (y : State) : Type 0 where
+  pub word : ℕ
+  pub behind : List ℕ
+  pub left : List ℕ
+  pub bytes : y .rest ≡ word ∷ behind
+  pub known : Word? W word
+  pub missing : readMap behind ≡ mapMissing left
+
+-- What line 9 says: the bytes end before a term's first byte, or so.
+abbrev pub NoByte : Vocabulary → State → ℕ → Type 0
+NoByte W y q = (q ≡ y .at + length (y .rest)) × ((y .rest ≡ []) ⊎ NoMap W y)
+
+pub nine-ends : (W : Vocabulary) (y : State) (d : Due) {n q : ℕ} → NodeLine W y d n q → n ≡ 9 → NoByte W y q
+nine-ends W y d (NodeLine.ends e) z = (omega (arith, ap length e), inl e)
+nine-ends W y d (NodeLine.endsInMap f l r e h k) z = (refl, inr (record { word = f; behind = l; left = r; bytes = e; known = h; missing = k }))
+nine-ends W y d (NodeLine.deep b l e h) z = absurd (omega arith)
+nine-ends W y d (NodeLine.unknown b l e h k n) z = absurd (omega arith)
+nine-ends W y d (NodeLine.differs f l e h k) z = absurd (omega arith)
+nine-ends W y d (NodeLine.clashes b n l e h k) z = absurd (omega arith)
+nine-ends W y d (NodeLine.stray f m l r e h k n) z = absurd (omega arith)
+
 pub record LineIn (W : Vocabulary) (s : ℕ) (l : List ℕ) (n q : ℕ) : Type 0 where
   pub state : State
   pub first : Due
@@ -60,6 +85,9 @@ pub record LineIn (W : Vocabulary) (s : ℕ) (l : List ℕ) (n q : ℕ) : Type 0
   pub leads : LeadsTo W s l state
   pub due : state .due ≡ first ∷ later
   pub fits : NodeLine W state first n q
+
+pub nine-place : (W : Vocabulary) → InOrder W → (s : ℕ) (l : List ℕ) (q : ℕ) → LineIn W s l 9 q → q ≡ suc (length l)
+nine-place W inOrder s l q h = nine-ends W (h .state) (h .first) (h .fits) refl .0 ∙ leads-to-path W inOrder s l (h .leads) .placed
 
 -- A scan that stops tells where readTerm stops, and one that ends what it leaves.
 tallied-stop : (W : Vocabulary) (l : List ℕ) (x : Got Read) (n : ℕ) (r : List ℕ) → tallied W l x ≡ stop n r → x ≡ stop n r
@@ -69,11 +97,6 @@ tallied-stop W l (stop n′ r′) n r e = let p : n′ ≡ n = cc in let q : r�
 tallied-got : (W : Vocabulary) (l : List ℕ) (x : Got Read) (y : Scanned) (r : List ℕ) → tallied W l x ≡ got y r → (a : Read) × (x ≡ got a r)
 tallied-got W l (got a r′) y r e = let q : r′ ≡ r = cc in (a, ap (got a) q)
 tallied-got W l (stop n′ r′) y r e = let z : _≡_ {A = ℕ} 0 1 = cc in absurd (omega arith)
-
--- Lines of one rank are told apart by their bytes.
-same-rank : (n q m r : ℕ) → rank n ≡ rank m → Sooner n q m r → Earlier n q m r
-same-rank n q m r e (inl h) = absurd (omega arith)
-same-rank n q m r e (inr h) = h .1
 
 pub record StopsAt (W : Vocabulary) (s : ℕ) (l : List ℕ) (n : ℕ) (r : List ℕ) : Type 0 where
   pub place : ℕ

@@ -19,21 +19,13 @@ use Rattle.wire.specs.Refusals.{rank, Sooner, Decides}
 use Rattle.wire.specs.Laws.{RefusesBy, SituationRefusals}
 use Rattle.wire.specs.TermLines.{TermLine, size, kind, inside, more}
 use Rattle.wire.specs.SituationLines.{FirstGap, SituationLine, everyTerm, incomplete, otherKind}
-use Rattle.wire.proofs.Refusals.{refuses-by, Judged}
+use Rattle.wire.proofs.Refusals.{sooner-place, refuses-by, Judged}
 use Rattle.wire.proofs.Front.{term-front}
 use Rattle.wire.proofs.Gaps.{first-gap-is-exact}
 use Rattle.wire.proofs.Limits.{limits-are-a-test}
 use Rattle.wire.proofs.TermsInverse.{terms-inverse}
 use Rattle.wire.proofs.LinesRead.{node-rank}
 use Rattle.wire.proofs.TermRefusals.{term-refusals}
-
--- Of one line the earlier place comes first.
-pub sooner-place : (n q r : ℕ) → q ≤ r → Sooner n q n r
-sooner-place n q r h = go (eqb q r) refl
-  where
-    go : (c : Bool) → eqb q r ≡ c → Sooner n q n r
-    go true e = inr (refl, inr (eqb-true q r e, omega arith))
-    go false e = let other : (q ≡ r → ⊥) = eqb-false q r e in inr (refl, inl (omega arith))
 
 -- Lines 7 to 15 come before 16 to 18.
 pub term-rank : (W : Vocabulary) (b : List ℕ) {n q : ℕ} → TermLine W b n q → rank n ≤ 15

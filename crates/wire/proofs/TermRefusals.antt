@@ -3,7 +3,7 @@
 --   same-bytes                the states to which bytes lead are told by the bytes
 --   term-refusals             a number is given exactly where its line decides
 --
-use mathlib.Core.Path.{_≡_, refl, sym, ap, _∙_, subst, subst₂}
+use mathlib.Core.Path.{_≡_, refl, sym, ap, _∙_, subst₂}
 use mathlib.Core.Bool.{Bool, true, false}
 use mathlib.Core.List.{List, [], _∷_}
 use mathlib.Core.Logic.{inl, inr}
