@@ -31,6 +31,7 @@
 --   books-inverse            a book is accepted exactly where it is the writing of a good one
 --   book-is-one              the bytes of list_book's inputs write one vocabulary and one book only
 --   book-refusals            a book is refused exactly by its lines
+--   book-keeps, book-fixed   what is computed of a book's listing keeps list_book's promise, which fixes the reply
 --   entries-by-spots         the entries of a pattern are those at its words, from left to right
 --   spots-by-bits            the words of a term, by the bits of its written map
 --   pattern-count, pattern-length   one pass over a good pattern counts its entries and their bytes
@@ -43,7 +44,7 @@
 --   more-alters-nothing      the program's text for the bytes that it takes is the text for all bytes of the input
 --   starred-hold             every starred case has the reply that document 01 gives
 --
-use Rattle.wire.specs.Laws.{InOrderIsWellFormed, VocabulariesInverse, TermsInverse, LimitsAreATest, CompleteIsGround, NoGapIsComplete, FullMapMeansNoOpenPlace, EntriesAreGood, VocabularyRefusals, TermRefusals, FirstGapIsExact, SituationRefusals, VocabularyFixed, TermFixed, MatchFixed, PartFixed, ListFixed, FillFixed, PrintFixed, VocabularyKeeps, TermKeeps, MatchKeeps, PartKeeps, JudgeKeeps, PartIsTable, EntriesInverse, FilledIsGood, CompleteWithoutOpenPlace, FillInputsAreOne, PatternIsOne, LinearRefusals, ListKeeps, FillKeeps, FilledMatches, DecimalIsExact, PrintKeeps, AcceptedIsShort, MoreAltersNothing, FillingsInverse, FillingRefusals, BooksInverse, BookIsOne, BookRefusals}
+use Rattle.wire.specs.Laws.{InOrderIsWellFormed, VocabulariesInverse, TermsInverse, LimitsAreATest, CompleteIsGround, NoGapIsComplete, FullMapMeansNoOpenPlace, EntriesAreGood, VocabularyRefusals, TermRefusals, FirstGapIsExact, SituationRefusals, VocabularyFixed, TermFixed, MatchFixed, PartFixed, ListFixed, FillFixed, PrintFixed, VocabularyKeeps, TermKeeps, MatchKeeps, PartKeeps, JudgeKeeps, PartIsTable, EntriesInverse, FilledIsGood, CompleteWithoutOpenPlace, FillInputsAreOne, PatternIsOne, LinearRefusals, ListKeeps, FillKeeps, FilledMatches, DecimalIsExact, PrintKeeps, AcceptedIsShort, MoreAltersNothing, FillingsInverse, FillingRefusals, BooksInverse, BookIsOne, BookRefusals, BookKeeps, BookFixed}
 use Rattle.wire.specs.EntryBytes.{EntriesBySpots}
 use Rattle.wire.specs.EntryMaps.{SpotsByBits}
 use Rattle.wire.specs.EntrySizes.{PatternCount, PatternLength}
@@ -157,6 +158,12 @@ book-is-one = Rattle.wire.proofs.BooksInverse.book-is-one
 
 pub book-refusals : BookRefusals
 book-refusals = Rattle.wire.proofs.BookRefusals.book-refusals
+
+pub book-keeps : BookKeeps
+book-keeps = Rattle.wire.proofs.BookLeftovers.book-keeps
+
+pub book-fixed : BookFixed
+book-fixed = Rattle.wire.proofs.Fixed.book-fixed
 
 pub entries-by-spots : EntriesBySpots
 entries-by-spots = Rattle.wire.proofs.EntryBytes.entries-bytes
