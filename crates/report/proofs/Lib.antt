@@ -2,7 +2,7 @@
 pub mod Putting
 pub mod Digits
 -- Where an entry of the listing ends.
-pub mod Counting
+pub mod Sized
 -- The lines, and the whole text: it is the one that is printed, and it has room.
 pub mod Lines
 pub mod Replies

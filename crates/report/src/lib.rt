@@ -65,8 +65,7 @@ fn put_line(number: u64, entry: &[u8], text: &mut [u8], at: usize) -> usize
     put(b"\n", text, written)
 }
 
-// How many bytes the entry at the front of a listing has. Behind its kind, a byte of 128 or more ends a term; a word's
-// number is followed by its map, which makes as many terms due as it has ones.
+// How many bytes the entry at the front of a listing has: its kind, and the term behind it.
 fn entry_size(listing: &[u8]) -> usize
     requires { ⌜ length (now listing) ≤ 65536 ⌝ }
     ensures { λ r. ⌜ r ≡ entrySize (now (listing .entry)) ⌝ }
@@ -74,24 +73,7 @@ fn entry_size(listing: &[u8]) -> usize
     if listing.len() == 0 {
         return 0;
     }
-    let mut at = 1;
-    let mut due = 1;
-    while at < listing.len() {
-        if due == 0 {
-            return at;
-        }
-        let b = listing[at];
-        at += 1;
-        due -= 1;
-        if b < 128 {
-            if at < listing.len() {
-                let ones = u8::count_ones(maps::read(listing, at));
-                at += maps::BYTES;
-                due += ones as usize;
-            }
-        }
-    }
-    at
+    1 + extents::term_size(&listing[1..])
 }
 
 // Puts a line for each of the n entries that stand at the front of a listing.

@@ -50,7 +50,7 @@ pub due-word : (b m : ℕ) (l : List ℕ) (k : ℕ) → b < firstNameByte → du
 due-word b m l k h = ap suc (cond-true (ltb b firstNameByte) _ _ (lt-ltb b firstNameByte h)) ∙ omega arith
 
 -- It never goes past the end.
-due-within : (skip : ℕ) (l : List ℕ) (k : ℕ) → dueIn skip l k ≤ length l
+pub due-within : (skip : ℕ) (l : List ℕ) (k : ℕ) → dueIn skip l k ≤ length l
 due-within skip [] k = omega arith
 due-within (suc skip) (b ∷ l) k = let h = due-within skip l k in omega arith
 due-within zero (b ∷ l) zero = omega arith
@@ -94,7 +94,7 @@ module _ (W : Vocabulary) (inOrder : InOrder W) where
       (subst (SortedAll (signature W) ts) (arguments-word W f) (h .2))
 
   mutual
-    due-at : (t : Term) (s : ℕ) → Sorted (signature W) t s → (k : ℕ) (r : List ℕ) →
+    pub due-at : (t : Term) (s : ℕ) → Sorted (signature W) t s → (k : ℕ) (r : List ℕ) →
         dueSize (encodeAt W t ++ r) (bit (not (isOpen t)) + k) ≡ length (encodeAt W t) + dueSize r k
     due-at any s h k r = ap (dueSize r) (let e : 0 + k ≡ k = omega arith in e) ∙ omega arith
     due-at (var n) s h k r =

@@ -1,113 +1,46 @@
--- `report::entry_size` meets its contract. The loop's invariant: the terms that are due from `at` on end where the entry does. The measure is the number of bytes left.
+-- `report::entry_size` meets its contract.
 use borrow.Author.Needs.{needs}
-use mathlib.Core.Path.{_≡_, sym, _∙_}
-use mathlib.Core.List.{List}
-use lib.ListN.{length, getD}
-use lib.Count
-use denote.Ref.{now}
-use Prim.Native.Nat.{ℕ, _+_, _-_, _<_, _≤_}
 use native.Mathlib.Omega.{arith}
-use Rattle.maps.proofs.Reading.{map-at}
-use Rattle.report.proofs.Counting.{Counting, counting-empty, counting-begins, counting-none, counting-ends, counting-name, counting-last, counting-word}
+use Prim.Native.Nat.{_-_}
+use denote.Ref.{now}
+use lib.ListN.{length, take, drop}
+use Rattle.report.proofs.Sized.{sized-empty, sized-entry, sized-within}
 use Rattle.report.proofs.entry_size.Statement.{statement}
 use Rattle.report.proofs.entry_size.Tie as tie
 
-abbrev Inv-loop : tie.InvT-loop
-Inv-loop listing at₀ due₀ at due = Counting listing at due
+returns : tie.Need-returns
+returns c = sized-empty (now (c .before .before .args .listing)) (c .if1 .taken)
 
-abbrev μ-loop : tie.MeasureT-loop
-μ-loop listing at₀ due₀ at due = length listing - at
+sub-term-size : tie.Need-sub-term-size
+sub-term-size c = search needs
 
-returns : tie.Need-returns Inv-loop μ-loop
-returns c = counting-empty (now (c .before .before .args .listing)) (c .if1 .taken)
+part-term-size-start : tie.Need-part-term-size-start
+part-term-size-start c = search needs
 
-loop-holds : tie.Need-loop-holds Inv-loop μ-loop
-loop-holds c = counting-begins _ (omega arith)
+part-term-size-end : tie.Need-part-term-size-end
+part-term-size-end c = search needs
 
-returns-2 : tie.Need-returns-2 Inv-loop μ-loop
-returns-2 c = counting-none (c .before .before .loop .inv) (c .if2 .taken)
+term-size-requires : tie.Need-term-size-requires
+term-size-requires c κs = search needs
 
-shared-slice-read-b : tie.Need-shared-slice-read-b Inv-loop μ-loop
-shared-slice-read-b c = search needs
+add-result : tie.Need-add-result
+add-result c =
+    let listing = now (c .before .before .before .before .args .listing) in
+    record { fits = omega (arith, sized-within (take (length listing - 1) (drop 1 listing)) (c .term-size .ensures)) }
 
-add-at : tie.Need-add-at Inv-loop μ-loop
-add-at c = search needs
-
-sub-due : tie.Need-sub-due Inv-loop μ-loop
-sub-due c = search needs
-
-read-requires : tie.Need-read-requires Inv-loop μ-loop
-read-requires c κs = search needs
-
-module _ (c : tie.After-read Inv-loop μ-loop) where
-  abbrev at-loop : tie.At-loop Inv-loop μ-loop
-  at-loop = c .before .before .before .before .before .before
-
-  abbrev listing : List ℕ
-  listing = now (at-loop .before .before .before .args .listing)
-
-  -- The map is the byte behind the word.
-  behind : c .read .result ≡ getD listing (at-loop .loop .at + 1) 0
-  behind = c .read .ensures ∙ sym (map-at listing (at-loop .loop .at + 1))
-
-  small : c .read .result < 256
-  small = rw behind (c .before .before .before .shared-slice-known2 .given (at-loop .loop .at + 1) .fits)
-
-  few-ones : Count.ones (c .read .result) ≤ 8
-  few-ones = Count.ones-le 8 (c .read .result) small
-
-add-at-2 : tie.Need-add-at-2 Inv-loop μ-loop
-add-at-2 c = search needs
-
-cast-due : tie.Need-cast-due Inv-loop μ-loop
-cast-due c = omega (arith, few-ones c)
-
-add-due : tie.Need-add-due Inv-loop μ-loop
-add-due c = let f = at-loop c .loop .inv .few in omega (arith, few-ones c)
-
-loop-less : tie.Need-loop-less Inv-loop μ-loop
-loop-less c = search needs
-
-loop-again : tie.Need-loop-again Inv-loop μ-loop
-loop-again c =
-    counting-word (at-loop c .loop .inv) (c .before .before .before .before .before .loop-test .taken) (omega arith) (behind c) (small c) (c .before .before .if3 .taken)
-    (c .before .if4 .taken)
-
-loop-less-2 : tie.Need-loop-less-2 Inv-loop μ-loop
-loop-less-2 c = search needs
-
-loop-again-2 : tie.Need-loop-again-2 Inv-loop μ-loop
-loop-again-2 c = counting-last (c .before .before .before .before .before .loop .inv) (c .before .before .before .before .loop-test .taken) (omega arith) (c .if4 .left)
-
-loop-less-3 : tie.Need-loop-less-3 Inv-loop μ-loop
-loop-less-3 c = search needs
-
-loop-again-3 : tie.Need-loop-again-3 Inv-loop μ-loop
-loop-again-3 c = counting-name (c .before .before .before .before .loop .inv) (c .before .before .before .loop-test .taken) (omega arith) (c .if3 .left)
-
-returns-3 : tie.Need-returns-3 Inv-loop μ-loop
-returns-3 c = counting-ends (c .before .loop .inv) (c .loop-test .left)
+returns-2 : tie.Need-returns-2
+returns-2 c =
+    let start = c .before .before .before .before in
+    sized-entry (now (start .args .listing)) (start .pre) (omega arith) (c .term-size .ensures)
 
 pub entry-size-spec : {M : Type 1} → statement M
 entry-size-spec =
     tie.close
     (tie.spec
-    Inv-loop
-    μ-loop
     returns
-    loop-holds
-    returns-2
-    shared-slice-read-b
-    add-at
-    sub-due
-    read-requires
-    add-at-2
-    cast-due
-    add-due
-    loop-less
-    loop-again
-    loop-less-2
-    loop-again-2
-    loop-less-3
-    loop-again-3
-    returns-3)
+    sub-term-size
+    part-term-size-start
+    part-term-size-end
+    term-size-requires
+    add-result
+    returns-2)

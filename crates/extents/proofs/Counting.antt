@@ -1,13 +1,13 @@
--- Counting: where an entry ends is found in one pass, by the number of terms that are due.
-use mathlib.Core.Path.{_≡_, refl, ap, ap₂, _∙_}
-use mathlib.Core.List.{List, [], _∷_}
+-- Counting: where a term ends is found in one pass, by the number of terms that are due.
+use mathlib.Core.Path.{_≡_, ap, ap₂, _∙_}
+use mathlib.Core.List.{List, _∷_}
 use Prim.Native.Nat.{ℕ, suc, _+_, _*_, _-_, _<_, _≤_}
 use native.Mathlib.Omega.{arith}
 use lib.Count
 use lib.ListN.{length, getD, drop, drop-of-length-le}
 use lib.Seq.{drop-cons}
 use Rattle.wire.specs.Map.{flags, ones}
-use Rattle.wire.specs.EntryCut.{dueSize, entrySize}
+use Rattle.wire.specs.EntryCut.{dueSize}
 use Rattle.wire.proofs.Map.{ones-count}
 use Rattle.wire.proofs.EntryCut.{due-none, due-name, due-last, due-word}
 
@@ -15,20 +15,15 @@ use Rattle.wire.proofs.EntryCut.{due-none, due-name, due-last, due-word}
 pub record Counting (l : List ℕ) (at due : ℕ) : Type 0 where
   pub inside : at ≤ length l
   pub few : due ≤ 1 + 8 * at
-  pub left : at + dueSize (drop at l) due ≡ entrySize l
+  pub left : at + dueSize (drop at l) due ≡ dueSize l 1
 
-pub counting-begins : (l : List ℕ) → 0 < length l → Counting l 1 1
-counting-begins [] h = absurd (omega arith)
-counting-begins (s ∷ l) h = record { inside = omega arith; few = omega arith; left = omega arith }
+pub counting-begins : (l : List ℕ) → Counting l 0 1
+counting-begins l = record { inside = omega arith; few = omega arith; left = omega arith }
 
-pub counting-empty : (l : List ℕ) → length l ≡ 0 → 0 ≡ entrySize l
-counting-empty [] h = refl
-counting-empty (s ∷ l) h = absurd (omega arith)
-
-pub counting-none : {l : List ℕ} {at due : ℕ} → Counting l at due → due ≡ 0 → at ≡ entrySize l
+pub counting-none : {l : List ℕ} {at due : ℕ} → Counting l at due → due ≡ 0 → at ≡ dueSize l 1
 counting-none {l} {at} h e = omega (arith, h .left, ap (dueSize (drop at l)) e, due-none (drop at l))
 
-pub counting-ends : {l : List ℕ} {at due : ℕ} → Counting l at due → length l ≤ at → at ≡ entrySize l
+pub counting-ends : {l : List ℕ} {at due : ℕ} → Counting l at due → length l ≤ at → at ≡ dueSize l 1
 counting-ends {l} {at} {due} h e = omega (arith, h .left, ap (λ (r : List ℕ). dueSize r due) (drop-of-length-le l e))
 
 module _ {l : List ℕ} {at due : ℕ} (h : Counting l at due) (more : at < length l) (some : 0 < due) where
@@ -48,7 +43,7 @@ module _ {l : List ℕ} {at due : ℕ} (h : Counting l at due) (more : at < leng
     left = omega (arith, h .left, begun, due-name b (drop (at + 1) l) (due - 1) low);
   }
 
-  -- The listing ends where the map is due.
+  -- The bytes end where the map is due.
   pub counting-last : length l ≤ at + 1 → Counting l (at + 1) (due - 1)
   counting-last end = record {
     inside = let m = more in omega arith;

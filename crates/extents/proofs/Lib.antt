@@ -1,0 +1,4 @@
+-- The loop that counts the terms that are due.
+pub mod Counting
+-- Where a term that is written ends.
+pub mod Extents

@@ -1,0 +1,2 @@
+-- What the contracts of extents cite.
+pub mod Extents
