@@ -31,7 +31,7 @@ use Rattle.wire.proofs.ScanPath.{leads-to-path}
 use Rattle.wire.proofs.LinesRead.{node-number, NoMap, nine-ends, LineIn, nine-place, StopsAt, EndsAt, LinesJudged, lines-judged}
 use Rattle.wire.proofs.TermRefusals.{same-bytes}
 use Rattle.wire.proofs.CutLines.{withRest, leads-longer, line-longer, Ends, CutTo, EndsBy, ends-by, leads-cut, line-cut}
-use Rattle.wire.proofs.FrontReading.{window, window-splits, window-length, window-full, inWindow}
+use Rattle.wire.proofs.FrontReading.{window, Cut, window-cuts, inWindow}
 
 -- ---- one decides
 
@@ -230,17 +230,13 @@ module _ (W : Vocabulary) (inOrder : InOrder W) where
       first (FrontLine.inside s l x d ds n q e p u h) = no-later 8 0 n q (omega arith) (omega (arith, node-number W x d h))
 
   good-judged : (s : ℕ) (l : List ℕ) → 1 ≤ length l → s < W .kinds → FrontJudged W (s ∷ l) (frontOf (s ∷ l) s (inWindow W s l))
-  good-judged s l some below =
-      let c : List ℕ = window (s ∷ l) in
-      let x : List ℕ = drop mostBytes (s ∷ l) in
-      let whole = window-splits s l in
-      split c x (omega (arith, ap length whole)) (omega (arith, window-length s l)) (window-full s l) whole refl (inWindow W s l) (lines-judged W inOrder s c)
+  good-judged s l some below = split (window (s ∷ l)) (drop mostBytes (s ∷ l)) (window-cuts s l) refl (inWindow W s l) (lines-judged W inOrder s (window (s ∷ l)))
     where
-      split : (c x : List ℕ) → 1 ≤ length (c ++ x) → suc (length c) ≤ mostBytes → (suc (length c) ≡ mostBytes) ⊎ (x ≡ []) → c ++ x ≡ l →
-          drop mostBytes (s ∷ l) ≡ x → (g : Got Read) → LinesJudged W s c g → FrontJudged W (s ∷ l) (frontOf (s ∷ l) s g)
-      split c x some fits rest whole behind g t =
-          subst (λ l. drop mostBytes (s ∷ l) ≡ x → FrontJudged W (s ∷ l) (frontOf (s ∷ l) s g)) whole
-          (λ behind. window-judged W inOrder s c x below some fits rest behind g t) behind
+      split : (c x : List ℕ) → Cut mostBytes l c x → drop mostBytes (s ∷ l) ≡ x → (g : Got Read) → LinesJudged W s c g →
+          FrontJudged W (s ∷ l) (frontOf (s ∷ l) s g)
+      split c x cut behind g t =
+          subst (λ l. drop mostBytes (s ∷ l) ≡ x → FrontJudged W (s ∷ l) (frontOf (s ∷ l) s g)) (cut .whole)
+          (λ behind. window-judged W inOrder s c x below (omega (arith, ap length (cut .whole))) (cut .fits) (cut .rest) behind g t) behind
 
   pub front-judged : (b : List ℕ) → FrontJudged W b (readFront W b)
   front-judged [] = short-judged [] (omega arith)

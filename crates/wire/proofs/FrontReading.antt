@@ -1,7 +1,7 @@
 -- FrontReading: a whole pattern is read off the front of some bytes exactly where these begin with the writing of a good one within the limits.
 --
 --   window b                  the bytes of a pattern behind its kind byte, cut off where it may not go on
---   window-splits, window-length, window-full   they and the bytes behind the window, and how many they are
+--   Cut n l c x, window-cuts  they and the bytes behind the window, and how many they are
 --   front-read                where there are two bytes, the pattern is read off the window
 --   HoldsFront W k, frontBytes W k   a pattern of a kind within the limits, and its bytes
 --   front-inverse             reading it is inverse to writing it
@@ -10,14 +10,14 @@ use mathlib.Core.Path.{_≡_, refl, sym, ap, _∙_, subst}
 use mathlib.Core.Bool.{Bool, true, false, not, _&&_, cond}
 use mathlib.Core.List.{List, [], _∷_, _++_, append-assoc}
 use mathlib.Core.Logic.{_⊎_, inl, inr}
-use Prim.Native.Nat.{ℕ, suc, _+_, _-_, _≤_, _<_, min}
+use Prim.Native.Nat.{ℕ, suc, _+_, _-_, _≤_, _<_}
 use native.Mathlib.Omega.{arith}
 use lib.Dec.{eqb, ltb}
 use lib.ListN.{length, take, drop, length-append, length-take, take-append-drop, drop-of-length-le}
 use lib.Seq.{take-append-add, drop-append-add}
 use borrow.Author.Tests.{ltb-true, ltb-false, lt-ltb}
 use Rattle.terms.proofs.All.{all-left}
-use Rattle.wire.specs.Reply.{IsBytes, Kinded}
+use Rattle.wire.specs.Reply.{IsBytes, Kinded, kinded}
 use Rattle.wire.specs.Vocabulary.{Vocabulary, InOrder}
 use Rattle.wire.specs.TermBytes.{encodeRoot, encodeTerm, mostBytes, mostLevels, HoldsTerm}
 use Rattle.wire.specs.Parser.{Got, got, stop, Read, readTerm}
@@ -26,24 +26,26 @@ use Rattle.wire.proofs.Cond.{cond-true, choice}
 use Rattle.wire.proofs.Inverse.{ReadOff, Inverse}
 use Rattle.wire.proofs.Levels.{deepest-bytes}
 use Rattle.wire.proofs.WriteRead.{read-root}
-use Rattle.wire.proofs.ReadWrite.{Reads, term-reads, read-good}
+use Rattle.wire.proofs.ReadWrite.{HasRead, Reads, term-reads, read-good}
 
 abbrev pub window : List ℕ → List ℕ
 window b = drop 1 (take mostBytes b)
 
-pub window-splits : (s : ℕ) (l : List ℕ) → window (s ∷ l) ++ drop mostBytes (s ∷ l) ≡ l
-window-splits s l = take-append-drop (mostBytes - 1) l
+-- Of the bytes l the first are c, with one more byte at most n, and x are behind them: none, unless c are as many as that.
+pub record Cut (n : ℕ) (l c x : List ℕ) : Type 0 where
+  pub whole : c ++ x ≡ l
+  pub fits : suc (length c) ≤ n
+  pub rest : (suc (length c) ≡ n) ⊎ (x ≡ [])
 
-pub window-length : (s : ℕ) (l : List ℕ) → length (window (s ∷ l)) ≡ min (mostBytes - 1) (length l)
-window-length s l = length-take (mostBytes - 1) l
-
--- The window is full, or nothing is behind it.
-pub window-full : (s : ℕ) (l : List ℕ) → (suc (length (window (s ∷ l))) ≡ mostBytes) ⊎ (drop mostBytes (s ∷ l) ≡ [])
-window-full s l = go (ltb (length l) (mostBytes - 1)) refl
+cut-at : (n : ℕ) (l : List ℕ) → Cut (suc n) l (take n l) (drop n l)
+cut-at n l = record { whole = take-append-drop n l; fits = omega (arith, length-take n l); rest = go (ltb (length l) n) refl }
   where
-    go : (t : Bool) → ltb (length l) (mostBytes - 1) ≡ t → (suc (length (window (s ∷ l))) ≡ mostBytes) ⊎ (drop mostBytes (s ∷ l) ≡ [])
-    go true e = inr (drop-of-length-le l {i = mostBytes - 1} (omega (arith, ltb-true (length l) (mostBytes - 1) e)))
-    go false e = inl (omega (arith, window-length s l, ltb-false (length l) (mostBytes - 1) e))
+    go : (t : Bool) → ltb (length l) n ≡ t → (suc (length (take n l)) ≡ suc n) ⊎ (drop n l ≡ [])
+    go true e = inr (drop-of-length-le l {i = n} (omega (arith, ltb-true (length l) n e)))
+    go false e = inl (omega (arith, length-take n l, ltb-false (length l) n e))
+
+pub window-cuts : (s : ℕ) (l : List ℕ) → Cut mostBytes l (window (s ∷ l)) (drop mostBytes (s ∷ l))
+window-cuts s l = cut-at (mostBytes - 1) l
 
 module _ (W : Vocabulary) where
   -- What is read off the window.
@@ -89,36 +91,42 @@ module _ (W : Vocabulary) (inOrder : InOrder W) where
       (read-root W inOrder (k .term) mostLevels s (take n r) (h .good .sorted .sorted) (h .good .named) (h .good .sorted .consistent) (limits .levels))
       ∙ ap (got k) (behind-holds l r n fits s)
 
+  -- What is read of the bytes c is a pattern within the limits, and x are behind it too.
+  held : (s : ℕ) (l c x : List ℕ) → Cut mostBytes l c x → s < W .kinds → (a : Read) (r : List ℕ) → HasRead W mostLevels true s [] c a r →
+      HoldsFront W (kinded s (a .term)) × (s ∷ l ≡ frontBytes W (kinded s (a .term)) ++ (r ++ x))
+  held s l c x cut below a r h = (
+    record {
+      good = read-good W mostLevels s c a r below h;
+      written = refl;
+      limits = record {
+        least = omega (arith, deepest-bytes W (a .term));
+        most = omega (arith, cut .fits, ap length (h .bytes), length-append (encodeRoot W (a .term)) r);
+        levels = h .deep;
+      };
+    },
+    ap {B = List ℕ} (λ z. s ∷ z) (sym (cut .whole) ∙ ap (λ z. z ++ x) (h .bytes) ∙ append-assoc (encodeRoot W (a .term)) r x),
+  )
+
   front-off : (b : List ℕ) → IsBytes b → ReadOff (frontBytes W) (HoldsFront W) b (readFront W b)
   front-off [] bytes = tt
   front-off (s ∷ []) bytes = tt
   front-off (s ∷ x ∷ l) bytes =
-      choice (ReadOff (frontBytes W) (HoldsFront W) (s ∷ x ∷ l)) (ltb s (W .kinds)) (frontOf (s ∷ x ∷ l) s (inWindow W s (x ∷ l))) (stop 8 (s ∷ x ∷ l))
-      (λ e. go (ltb-true s (W .kinds) e) (inWindow W s (x ∷ l))
-      (term-reads W inOrder mostLevels true s [] (window (s ∷ x ∷ l)) (window-bytes (bytes .1))))
+      choice (Off s (x ∷ l)) (ltb s (W .kinds)) (frontOf (s ∷ x ∷ l) s (inWindow W s (x ∷ l))) (stop 8 (s ∷ x ∷ l))
+      (λ e. split s (x ∷ l) (window (s ∷ x ∷ l)) (drop mostBytes (s ∷ x ∷ l)) (window-cuts s (x ∷ l)) refl (ltb-true s (W .kinds) e) (bytes .1))
       (λ e. tt)
     where
-      window-bytes : IsBytes (x ∷ l) → IsBytes (window (s ∷ x ∷ l))
-      window-bytes h = all-left (λ b. b < 256) (window (s ∷ x ∷ l)) (drop mostBytes (s ∷ x ∷ l)) (subst IsBytes (sym (window-splits s (x ∷ l))) h)
+      Off : ℕ → List ℕ → Got Kinded → Type 0
+      Off s l = ReadOff (frontBytes W) (HoldsFront W) (s ∷ l)
 
-      go : s < W .kinds → (g : Got Read) → Reads W mostLevels true s [] (window (s ∷ x ∷ l)) g →
-          ReadOff (frontBytes W) (HoldsFront W) (s ∷ x ∷ l) (frontOf (s ∷ x ∷ l) s g)
-      go below (stop n r) h =
-          choice (ReadOff (frontBytes W) (HoldsFront W) (s ∷ x ∷ l)) (eqb n 9 && not (ltb (length (s ∷ x ∷ l)) mostBytes)) _ _ (λ e. tt) (λ e. tt)
-      go below (got a r) h = (
-        record {
-          good = read-good W mostLevels s (window (s ∷ x ∷ l)) a r below h;
-          written = refl;
-          limits = record {
-            least = omega (arith, deepest-bytes W (a .term));
-            most = omega (arith, ap length (h .bytes), length-append (encodeRoot W (a .term)) r, window-length s (x ∷ l));
-            levels = h .deep;
-          };
-        },
-        ap {B = List ℕ} (λ z. s ∷ z)
-            (sym (window-splits s (x ∷ l)) ∙ ap (λ z. z ++ drop mostBytes (s ∷ x ∷ l)) (h .bytes)
-            ∙ append-assoc (encodeRoot W (a .term)) r (drop mostBytes (s ∷ x ∷ l))),
-      )
+      split : (s : ℕ) (l c x : List ℕ) → Cut mostBytes l c x → drop mostBytes (s ∷ l) ≡ x → s < W .kinds → IsBytes l →
+          Off s l (frontOf (s ∷ l) s (readTerm W mostLevels true s [] c))
+      split s l c x cut behind below bytes =
+          go (readTerm W mostLevels true s [] c)
+          (term-reads W inOrder mostLevels true s [] c (all-left (λ b. b < 256) c x (subst IsBytes (sym (cut .whole)) bytes)))
+        where
+          go : (g : Got Read) → Reads W mostLevels true s [] c g → Off s l (frontOf (s ∷ l) s g)
+          go (stop n r) h = choice (Off s l) (eqb n 9 && not (ltb (length (s ∷ l)) mostBytes)) _ _ (λ e. tt) (λ e. tt)
+          go (got a r) h = subst (λ z. Off s l (got (kinded s (a .term)) (r ++ z))) (sym behind) (held s l c x cut below a r h)
 
   pub front-inverse : Inverse (readFront W) (frontBytes W) (HoldsFront W)
   front-inverse = record { written = read-front; read = front-off }
