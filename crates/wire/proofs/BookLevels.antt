@@ -18,7 +18,7 @@ module _ (S : Signature) (m : ℕ) where
   remains-levels : (p e : Term) → Low p → Low e → All Low (remains S p e)
   remains-levels p e h k = remains-cases S p e (All Low) (λ d. (k, tt)) (λ d. all-implies _ Low (λ c a. omega arith) (cut S e p) (cut-levels S e p))
 
-  against-levels : (p : Term) (l : List Term) → Low p → All Low l → All Low (against S p l)
+  pub against-levels : (p : Term) (l : List Term) → Low p → All Low l → All Low (against S p l)
   against-levels p [] h k = tt
   against-levels p (e ∷ l) h k = all-append Low (remains S p e) (against S p l) (remains-levels p e h (k .0)) (against-levels p l h (k .1))
 
