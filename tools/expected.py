@@ -19,9 +19,11 @@ from pathlib import Path
 
 # ---------------------------------------------------------------- inputs and refusals
 
-VOCABULARY, PATTERN, SITUATION, LENT, FILLING = 0, 1, 2, 3, 4
+VOCABULARY, PATTERN, SITUATION, LENT, FILLING, BOOK = 0, 1, 2, 3, 4, 5
 DEEPEST_LEVEL = 32
 MOST_BYTES = 4096
+MOST_PATTERNS = 64
+MOST_BYTES_OF_ENTRIES = 32768
 
 
 class Refused(Exception):
@@ -128,13 +130,19 @@ class Node(Written):
     written: dict = field(default_factory=dict)
 
 
-def read_term(vocabulary, data, given=PATTERN):
-    """The kind and the tree that the bytes write; Refused by lines 7 to 15."""
-    if not 2 <= len(data) <= MOST_BYTES:
-        raise Refused(7, given, 0)
-    if data[0] >= vocabulary.kinds:
-        raise Refused(8, given, 0)
+def read_at(vocabulary, data, start, given):
+    """The kind and the tree of the term whose kind byte stands at an offset, and the offset behind it; Refused by
+    lines 8 to 14, and in a book by line 7 where a 4,097th byte is due."""
+    if data[start] >= vocabulary.kinds:
+        raise Refused(8, given, start)
     kind_of_name = {}
+
+    def due(at):
+        """Refused where there is no byte that may be read."""
+        if given == BOOK and at == start + MOST_BYTES:
+            raise Refused(7, given, start)
+        if at >= len(data):
+            raise Refused(9, given, at)
 
     def lines_that_fit(byte, kind, level):
         """The lines of 10 to 13 that fit the byte where a term of a kind is due."""
@@ -151,8 +159,7 @@ def read_term(vocabulary, data, given=PATTERN):
 
     def term_from(at, kind, level):
         """The term that begins at an offset, and the offset behind it."""
-        if at >= len(data):
-            raise Refused(9, given, at)
+        due(at)
         faults = list(lines_that_fit(data[at], kind, level))
         if faults:
             raise Refused(min(faults), given, at)
@@ -163,8 +170,7 @@ def read_term(vocabulary, data, given=PATTERN):
             return Name(data[at] - 128, start=at, end=at + 1), at + 1
         node, places = Node(data[at], start=at), vocabulary.words[data[at]].places
         at += 1
-        if at >= len(data):
-            raise Refused(9, given, at)
+        due(at)
         if not places.keys() >= set(bits(data[at])):
             raise Refused(14, given, at)
         written = bits(data[at])
@@ -174,10 +180,18 @@ def read_term(vocabulary, data, given=PATTERN):
         node.end = at
         return node, at
 
-    tree, end = term_from(1, data[0], 1)
+    tree, end = term_from(start + 1, data[start], 1)
+    return data[start], tree, end
+
+
+def read_term(vocabulary, data, given=PATTERN):
+    """The kind and the tree that the bytes write; Refused by lines 7 to 15."""
+    if not 2 <= len(data) <= MOST_BYTES:
+        raise Refused(7, given, 0)
+    kind, tree, end = read_at(vocabulary, data, 0, given)
     if end < len(data):
         raise Refused(15, given, end)
-    return data[0], tree
+    return kind, tree
 
 
 def word_count(tree):
@@ -286,6 +300,15 @@ def names_in(tree):
             yield from names_in(tree.written[bit])
 
 
+def no_name_twice(tree, given):
+    """Refused by line 18."""
+    stood = set()
+    for name in names_in(tree):
+        if name.number in stood:
+            raise Refused(18, given, name.start)
+        stood.add(name.number)
+
+
 # ---------------------------------------------------------------- filling files
 
 
@@ -339,6 +362,108 @@ def replaced(tree, given):
     if isinstance(tree, Anything):
         return tree
     return Node(tree.word, {bit: replaced(below, given) for bit, below in tree.written.items()})
+
+
+# ---------------------------------------------------------------- books
+
+
+def read_book(vocabulary, data):
+    """The kind of a book's patterns and their trees; Refused by lines 7 to 15, 18, 24 and 25."""
+    if not data or not 1 <= data[0] <= MOST_PATTERNS:
+        raise Refused(24, BOOK, 0)
+    kinds, trees, at = [], [], 1
+    for _ in range(data[0]):
+        start = at
+        if len(data) < start + 2:
+            raise Refused(7, BOOK, start)
+        kind, tree, at = read_at(vocabulary, data, start, BOOK)
+        no_name_twice(tree, BOOK)
+        kinds.append(kind)
+        if kind != kinds[0]:
+            raise Refused(25, BOOK, start)
+        trees.append(tree)
+    if at < len(data):
+        raise Refused(15, BOOK, at)
+    return kinds[0], trees
+
+
+# Below, None stands for an open place, and for 255 where it is a whole entry.
+
+
+def word_with(word, terms):
+    """A word with the terms given by place, of which those that are open are not written."""
+    return Node(word, {bit: term for bit, term in terms.items() if term is not None})
+
+
+def without_names(term):
+    """A term taken over from a pattern: each name is an open place, and so is 255."""
+    if not isinstance(term, Node):
+        return None
+    return word_with(term.word, {bit: without_names(below) for bit, below in term.written.items()})
+
+
+def share_a_situation(entry, pattern):
+    """Whether a situation fits both. No name stands twice and every kind has situations, so one does unless the two
+    have different words at some place."""
+    if not isinstance(entry, Node) or not isinstance(pattern, Node):
+        return True
+    both = entry.written.keys() & pattern.written.keys()
+    return entry.word == pattern.word and all(share_a_situation(entry.written[bit], pattern.written[bit]) for bit in both)
+
+
+def what_both_allow(entry, pattern):
+    """The term that the same situations fit as fit an entry's term and a pattern's, which share one."""
+    if not isinstance(pattern, Node):
+        return entry
+    if entry is None:
+        return without_names(pattern)
+    written = sorted(entry.written.keys() | pattern.written.keys())
+    return word_with(entry.word, {bit: what_both_allow(entry.written.get(bit), pattern.written.get(bit)) for bit in written})
+
+
+def leftovers_against(vocabulary, entry, pattern):
+    """The leftovers of an entry's term against a pattern's term with which it shares a situation."""
+    # "where the pattern is open, named or 255, none"
+    if not isinstance(pattern, Node):
+        return
+    # "where the entry is open or 255, the listing of the pattern's term there"
+    if entry is None:
+        kind = bytes([vocabulary.words[pattern.word].result])
+        for written in listing(vocabulary, pattern):
+            _, tree = read_term(vocabulary, kind + written)
+            yield without_names(tree)
+        return
+    # "where both have the same word, its places in order, lower places holding what both allow, higher ones as in the entry"
+    places = vocabulary.words[entry.word].places
+    for place in places:
+        lower = {bit: what_both_allow(entry.written.get(bit), pattern.written.get(bit)) for bit in places if bit < place}
+        higher = {bit: entry.written.get(bit) for bit in places if bit > place}
+        for left in leftovers_against(vocabulary, entry.written.get(place), pattern.written.get(place)):
+            yield word_with(entry.word, lower | {place: left} | higher)
+
+
+def left_after(vocabulary, entries, pattern):
+    """The entries left after one more pattern."""
+    for entry in entries:
+        if share_a_situation(entry, pattern):
+            yield from leftovers_against(vocabulary, entry, pattern)
+        else:
+            yield entry
+
+
+def book_listing(vocabulary, kind, patterns):
+    """The entries that the patterns of a book leave, each written out with its kind byte; Refused by line 26."""
+    entries = [None]
+    for number, pattern in enumerate(patterns):
+        left, length = [], 0
+        for entry in left_after(vocabulary, entries, pattern):
+            left.append(entry)
+            size = 1 + len(writing(entry))
+            length += size
+            if size > MOST_BYTES or length > MOST_BYTES_OF_ENTRIES:
+                raise Refused(26, BOOK, number)
+        entries = left
+    return [bytes([kind]) + writing(entry) for entry in entries]
 
 
 # ---------------------------------------------------------------- the calls
@@ -410,11 +535,7 @@ def list_leftovers(vocabulary, pattern, out):
     """List's answer, the number of entries and of bytes; they stand at the front of out then."""
     vocabulary = read_vocabulary(vocabulary)
     kind, tree = read_term(vocabulary, pattern, PATTERN)
-    stood = set()
-    for name in names_in(tree):
-        if name.number in stood:
-            raise Refused(18, PATTERN, name.start)
-        stood.add(name.number)
+    no_name_twice(tree, PATTERN)
     entries = length = 0
     for entry in listing(vocabulary, tree):
         entries, length = entries + 1, length + 1 + len(entry)
@@ -437,6 +558,19 @@ def fill(vocabulary, pattern, filling, out):
         raise Refused(20, LENT, len(written))
     out[: len(written)] = written
     return len(written)
+
+
+def list_book(vocabulary, book, out):
+    """The answer of a book's listing, the number of entries and of bytes; they stand at the front of out then, in an
+    order that is left open."""
+    vocabulary = read_vocabulary(vocabulary)
+    kind, patterns = read_book(vocabulary, book)
+    entries = book_listing(vocabulary, kind, patterns)
+    length = sum(len(entry) for entry in entries)
+    if length > len(out):
+        raise Refused(20, LENT, length)
+    out[:length] = b"".join(entries)
+    return len(entries), length
 
 
 def printed(data):
@@ -568,6 +702,43 @@ def parts_come_back(vocabulary, pattern, filling, result):
         assert covered(vocabulary, pattern, result) == given
 
 
+def booked(vocabulary, length, book):
+    """A book's listing into so many bytes: the answer, the entries, and the bytes behind them."""
+    out = bytearray([LENT_BYTE]) * length
+    try:
+        number, written = list_book(vocabulary, book, out)
+    except Refused as refusal:
+        assert len(out) == length
+        return refusal.reply, [], bytes(out)
+    assert len(out) == length
+    entries = whole_patterns(read_vocabulary(vocabulary), bytes(out[:written]))
+    assert len(entries) == len(set(entries)) == number
+    return f"accepted {number} {written}", entries, bytes(out[written:])
+
+
+def whole_patterns(vocabulary, data):
+    """The patterns that stand in a row."""
+    patterns, at = [], 0
+    while at < len(data):
+        start = at
+        _, _, at = read_at(vocabulary, data, start, PATTERN)
+        patterns.append(data[start:at])
+    return patterns
+
+
+def reply_to_book(vocabulary, length, book):
+    """The sum is that of the entries' own sums, so their order does not count."""
+    answer, entries, behind = booked(vocabulary, length, book)
+    total = sum(sum_of(entry) for entry in entries) % 65521
+    return f"{answer}, sum {total}, {behind.count(LENT_BYTE)} of {len(behind)} behind as lent"
+
+
+def reply_to_holds(vocabulary, length, book, sought):
+    """How many of the entries are the sought pattern."""
+    answer, entries, _ = booked(vocabulary, length, book)
+    return f"{answer}, stands {entries.count(sought)}"
+
+
 def sum_of(data):
     """A sum of bytes: the last one's weight is 1, each other's 31 times that of the next, modulo 65,521."""
     total = 0
@@ -587,7 +758,16 @@ def reply_to_digest(vocabulary, data):
 
 # What tells the reply to a line, by its first word; the later ones take the number before the label.
 PLAIN = {"vocabulary": reply_to_vocabulary, "term": reply_to_term, "report": reply_to_report, "digest": reply_to_digest}
-NUMBERED = {"match": reply_to_match, "part": reply_to_part, "list": reply_to_list, "sum": reply_to_sum, "find": reply_to_find, "write": reply_to_write}
+NUMBERED = {
+    "match": reply_to_match,
+    "part": reply_to_part,
+    "list": reply_to_list,
+    "sum": reply_to_sum,
+    "find": reply_to_find,
+    "write": reply_to_write,
+    "book": reply_to_book,
+    "holds": reply_to_holds,
+}
 
 
 def examples(text):
@@ -668,6 +848,24 @@ def long_pattern():
 
 LONG_INPUT = len(LONG_VOCABULARY).to_bytes(2, "big") + LONG_VOCABULARY + long_pattern()
 
+# Word 0 with places 0 and 3 for fillers, 1 and 2 for one of 33 words, and 4 and 5 for one of two; word 1 without a place.
+# A filler's words, which are words 2 to 6, are the only ones of their kinds, so that it has no entry.
+FILLERS = (
+    h("08 2a  00 3f 01 06 06 01 07 07  00 00  01 ff") + h("02") * 8 + h("02 ff") + h("03") * 8 + h("03 ff") + h("04") * 8
+    + h("04 ff") + h("05") * 8 + h("05 00") + h("06 00") * 33 + h("07 00") * 2
+)
+
+
+# A filler of so many words, 1 to 4,681: full ones in its lowest places, and one with the rest.
+def filler(words, kind=1):
+    most_below = {1: 585, 2: 73, 3: 9, 4: 1, 5: 0}[kind]
+    below, rest = [], words - 1
+    while rest > 0:
+        below.append(filler(min(rest, most_below), kind + 1))
+        rest -= min(rest, most_below)
+    return bytes([kind + 1, 2 ** len(below) - 1]) + b"".join(below)
+
+
 # ---------------------------------------------------------------- the families
 
 
@@ -744,6 +942,40 @@ def listings_divide():
             if len(names) == len(set(names)):
                 heads = [pattern, *(bytes([kind]) + entry for entry in listing(read, tree))]
                 assert all(sum(covered(vocabulary, head, s) is not None for head in heads) == 1 for s in situations)
+
+
+def books_divide():
+    """The listing of books against the matching above: each situation fits some pattern of a book, or exactly one
+    entry, and never both. The books have one or two patterns of up to so many tokens, or three of up to fewer."""
+    for vocabulary, kind, most_in_two, most_in_three, most_in_situation in [
+        (C, 0, 3, 2, 5),
+        (GAPS_FAMILY, 0, 3, 2, 5),
+        (GAPS_FAMILY, 1, 3, 2, 5),
+        (THREE, 0, 2, 2, 4),
+        (A, 0, 3, 2, 3),
+        (A, 1, 1, 1, 1),
+    ]:
+        read = read_vocabulary(vocabulary)
+        patterns, situations = family(read, kind, most_in_two, most_in_situation)
+        fewer, _ = family(read, kind, most_in_three, 1)
+        tree_of = {pattern: read_term(read, pattern)[1] for pattern in patterns}
+        once = [p for p in patterns if len({name.number for name in names_in(tree_of[p])}) == len([*names_in(tree_of[p])])]
+        fitting = {}
+
+        def fit(head):
+            """The situations that fit a pattern or an entry."""
+            if head not in fitting:
+                fitting[head] = {s for s in situations if covered(vocabulary, head, s) is not None}
+            return fitting[head]
+
+        stood, three = set(), [p for p in once if p in fewer]
+        for book in [*product(once, repeat=1), *product(once, repeat=2), *product(three, repeat=3)]:
+            entries = book_listing(read, kind, [tree_of[pattern] for pattern in book])
+            taken = set().union(*map(fit, book))
+            left = [s for entry in entries for s in fit(entry)]
+            assert sorted(left) == sorted(set(situations) - taken)
+            stood.update(entries)
+        assert not any([*names_in(read_term(read, entry)[1])] for entry in stood)
 
 
 # ---------------------------------------------------------------- values worked out by hand
@@ -934,6 +1166,117 @@ def filled_by_hand():
     assert refusal(C, "00 80", f"{n0} {FULL_FILLING} 00") == "refused 22 4 4102"
 
 
+def booked_by_hand():
+    """Values for books, worked out from the request's sentences on paper."""
+
+    def entries(vocabulary, book, length, behind=0):
+        """The answer and the entries of a book into so many bytes, behind which so many stay as they were."""
+        answer, entries, rest = booked(vocabulary, length, decoded(book))
+        assert rest == bytes([LENT_BYTE]) * behind
+        return answer, {entry.hex() for entry in entries}
+
+    def refusal(vocabulary, book, length=100):
+        answer, entries, rest = booked(vocabulary, length, decoded(book))
+        assert (entries, rest) == ([], bytes([LENT_BYTE]) * length)
+        return answer
+
+    def together(*patterns):
+        return bytes([len(patterns), *b"".join(patterns)]).hex(" ")
+
+    # One pattern is listed as document 01 lists it; 15 bytes lent, 14, and more.
+    bench = {"000500", "0000010200", "00000301000400"}
+    assert entries(A, "01 00 00 03 01 00 03 00", 15) == ("accepted 3 15", bench)
+    assert entries(A, "01 00 00 03 01 00 03 00", 24, 9) == ("accepted 3 15", bench)
+    assert refusal(A, "01 00 00 03 01 00 03 00", 14) == "refused 20 3 15"
+    # wait(down, .) and done go with the second and third pattern.
+    assert entries(A, "03 00 00 03 01 00 03 00 00 00 01 02 00 00 05 00", 7) == ("accepted 1 7", {"00000301000400"})
+    # pair(a, b) leaves a, b, pair(b, .), pair(pair(., .), .), pair(a, a) and pair(a, pair(., .)). Then pair(., b) shares
+    # situations with the third and fourth alone: of each it leaves a and pair(., .) for its second place.
+    assert entries(C, "02 00 02 03 00 00 01 00 00 02 02 01 00", 48) == (
+        "accepted 8 48",
+        {"000000", "000100", "00020301000000", "00020301000200", "00020302000000", "00020302000200", "00020300000000", "00020300000200"},
+    )
+    # pair(., b) leaves a, b, pair(., a) and pair(., pair(., .)), with none of which pair(a, b) shares a situation.
+    assert entries(C, "02 00 02 02 01 00 00 02 03 00 00 01 00", 16) == ("accepted 4 16", {"000000", "000100", "0002020000", "0002020200"})
+    # Higher places as in the entry: pair(., a) of pair(., b)'s leftovers becomes pair(b, a) and pair(pair(., .), a).
+    assert entries(C, "02 00 02 02 01 00 00 02 03 00 00 00 00", 25) == (
+        "accepted 5 25",
+        {"000000", "000100", "0002020200", "00020301000000", "00020302000000"},
+    )
+    # Lower places hold what both allow. pair(pair(b, .), .) leaves a, b, pair(a, .), pair(b, .), pair(pair(a, .), .) and
+    # pair(pair(pair(., .), .), .). pair(pair(., b), a) takes the last two apart: in place 0, a and pair(., .) for its b,
+    # and in place 1, behind pair(a, b) and pair(pair(., .), b), b and pair(., .) for its a.
+    apart = {"000000", "000100", "0002010000", "0002010100"} | {
+        f"000201{first}" for first in ("020300000000", "020300000200", "020302000000", "020302000200")
+    } | {f"000203{first}{second}" for first in ("020300000100", "020302000100") for second in ("0100", "0200")}
+    assert entries(C, "02 00 02 01 02 01 01 00 00 02 03 02 02 01 00 00 00", 96) == ("accepted 12 96", apart)
+    # The same with names: none is written, and its bit falls.
+    assert entries(C, "02 00 02 03 02 03 01 00 bf 80 00 02 03 02 03 85 01 00 00 00", 96) == ("accepted 12 96", apart)
+    assert entries(C, "01 00 02 03 80 01 00", 16) == ("accepted 4 16", {"000000", "000100", "0002020000", "0002020200"})
+    # a leaves b and pair(., .); of this pair(pair(n0, n1), a) leaves a and b in place 0, and behind pair(., .) b and pair(., .).
+    assert entries(C, "02 00 00 00 00 02 03 02 03 80 81 00 00", 27) == (
+        "accepted 5 27",
+        {"000100", "0002010000", "0002010100", "00020302000100", "00020302000200"},
+    )
+    # One name in two patterns, at one kind and at two.
+    assert entries(C, "02 00 02 01 80 00 02 02 80", 6) == ("accepted 2 6", {"000000", "000100"})
+    assert entries(A, "02 00 00 03 80 03 00 00 00 03 01 00 80", 10) == ("accepted 2 10", {"000500", "00000302000400"})
+    # left(a, .) leaves a and left(left(., .), .); of this left(., right(., a)) leaves b and right(., left(., .)) in place 7.
+    assert entries(GAPS, "02 00 02 01 00 00 00 02 80 03 10 00 00", 19) == (
+        "accepted 3 19",
+        {"000000", "00028102000100", "000281020003100200"},
+    )
+    # Nothing is left; the same pattern twice; patterns of kind 1.
+    assert entries(C, "01 00 ff", 0) == entries(C, "03 00 00 00 00 01 00 00 02 00", 0) == ("accepted 0 0", set())
+    assert entries(C, "02 00 02 03 00 00 01 00 00 02 03 00 00 01 00", 30) == entries(C, "01 00 02 03 00 00 01 00", 30)
+    assert entries(A, "01 01 01 00", 3) == ("accepted 1 3", {"010200"})
+    # 24: no count, or one outside 1 to 64; after the vocabulary.
+    assert refusal(C, "") == refusal(C, "00 00 ff") == refusal(C, "41 00 ff [1,128]") == "refused 24 5 0"
+    assert refusal(h("02 01 00 00"), "") == "refused 6 0 1"
+    assert entries(C, "40 00 ff [1,126]", 0) == ("accepted 0 0", set())
+    # 7 names the pattern's first byte where fewer than two bytes are left; with two, 9 names the missing one.
+    assert refusal(C, "01") == refusal(C, "01 05") == "refused 7 5 1"
+    assert refusal(C, "02 00 ff") == refusal(C, "02 00 ff 00") == "refused 7 5 3"
+    assert refusal(C, "02 00 ff 00 02") == "refused 9 5 5"
+    # Places count in the book: 8, 11 and 14 of second patterns; 13 and 18 look within one.
+    assert refusal(C, "02 00 ff 01 ff") == "refused 8 5 3"
+    assert refusal(C, "02 00 00 00 00 02 03 ff") == "refused 11 5 7"
+    assert refusal(C, "02 00 ff 00 00 01") == "refused 14 5 5"
+    assert refusal(A, "02 00 ff 00 00 03 bf bf") == "refused 13 5 7"
+    assert refusal(C, "02 00 ff 00 02 03 bf bf") == "refused 18 5 7"
+    # A pattern's 18 and then its 25 come before the next one's 7, and before 15.
+    assert refusal(A, "02 00 ff 01 ff 00") == refusal(A, "03 00 ff 01 ff 00") == "refused 25 5 3"
+    assert refusal(C, "02 00 02 03 80 80") == "refused 18 5 5"
+    assert refusal(GAPS, "02 00 ff 01 03 12 03 10 80 80") == "refused 18 5 9"
+    assert refusal(C, "01 00 ff 00") == "refused 15 5 3"
+    # A pattern may have 4,096 bytes. Where its byte 4,096 is due it is 7, also at the book's end; byte 4,095 is read.
+    whole, front = h("00 ff"), PAIRS_4095[:-2]
+    assert entries(C, together(whole, PAIRS_4096), 0) == ("accepted 0 0", set())
+    assert refusal(C, together(whole, PAIRS_4097)) == refusal(C, together(whole, PAIRS_4097[:-1])) == "refused 7 5 3"
+    assert refusal(C, together(front + h("02 03 80 7f"))) == refusal(C, together(front + h("02 03 80"))) == "refused 7 5 1"
+    assert refusal(C, together(front + h("02 01 7f"))) == "refused 11 5 4096"
+    assert refusal(C, together(front + h("02 01"))) == "refused 9 5 4096"
+    # Word i of 127 stands behind i others, so each of its two entries has 2 i + 3 bytes: 2 (127^2 + 2 * 127) in all.
+    small, large = h("00") + pairs(7), h("00 02 01") + pairs(7)
+    assert refusal(C, together(small), 0) == "refused 20 3 32766"
+    # 128 words have 33,280. No later pattern mends it, but every other line of the book comes first.
+    assert refusal(C, together(large)) == refusal(C, together(large, whole)) == "refused 26 5 0"
+    assert refusal(C, together(large) + " 00") == "refused 15 5 258"
+    assert entries(C, together(whole, large), 0) == ("accepted 0 0", set())
+    # 253 words in place 0 and the same word in places 1 and 2: 32 entries of 1 + 2 (1 + 253 + 1) bytes, 32 of 2 more, and word 1.
+    exact, one = h("00 00 07") + filler(253) + h("07 00 07 00"), h("00 01 00")
+    assert len(FILLERS) == 124 and len(exact) == 3 + 2 * 253 + 4
+    assert refusal(FILLERS, together(one, exact), 0) == f"refused 20 3 {32 * (511 + 513)}" == "refused 20 3 32768"
+    assert refusal(FILLERS, together(exact)) == refusal(FILLERS, together(exact, one)) == "refused 26 5 0"
+    # Place 4 makes each of the 64 entries 2 bytes longer.
+    assert refusal(FILLERS, together(one, exact, h("00 00 10 28 00"))) == "refused 26 5 2"
+    # x words in place 0 with place 4 and y words in place 3 with place 5 leave the word, both fillers and two words.
+    left, right = h("00 00 11") + filler(1022) + h("28 00"), h("00 00 28") + filler(1022) + h("28 00")
+    assert entries(FILLERS, together(one, left, right), 4095) == ("accepted 1 4095", {(h("00 00 39") + filler(1022) * 2 + h("29 00 29 00")).hex()})
+    right = h("00 00 28") + filler(1023) + h("28 00")
+    assert refusal(FILLERS, together(one, left, right)) == refusal(FILLERS, together(one, left, right, whole)) == "refused 26 5 2"
+
+
 def printed_by_hand():
     """The text that document 01 gives whole, and DECISIONS' inputs."""
     assert printed(h("00 10") + A + h("00 00 03 01 00 03 00")) == "leftovers 3\n1 000500\n2 0000010200\n3 00000301000400\n"
@@ -967,8 +1310,10 @@ def main():
     matched_by_hand()
     listed_by_hand()
     filled_by_hand()
+    booked_by_hand()
     printed_by_hand()
     listings_divide()
+    books_divide()
     if wanted == "long-input":
         sys.stdout.buffer.write(LONG_INPUT)
         return
