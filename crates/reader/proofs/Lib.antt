@@ -23,3 +23,6 @@ pub mod Told
 pub mod NameTables
 pub mod Calls
 pub mod Files
+-- A book.
+pub mod Fronts
+pub mod Books

@@ -7,7 +7,7 @@
 use mathlib.Core.Path.{_≡_, refl, sym, ap, subst, _∙_}
 use mathlib.Core.Bool.{Bool, true, false, true≢false, false≢true}
 use mathlib.Core.List.{List, [], _∷_, map}
-use Prim.Native.Nat.{ℕ, suc, _<_}
+use Prim.Native.Nat.{ℕ, suc, _<_, _≤_}
 use native.Mathlib.Omega.{arith}
 use lib.Dec.{eqb}
 use lib.ListN.{length, getD}
@@ -20,7 +20,7 @@ use Rattle.terms.proofs.Occurs.{all-other}
 use Rattle.terms.proofs.Term.{names-occurrences, occurrences-sorts}
 use Rattle.wire.specs.Reply.{Kinded, kinded}
 use Rattle.wire.specs.Vocabulary.{Vocabulary, InOrder, signature}
-use Rattle.wire.specs.TermBytes.{nameCount, mostLevels}
+use Rattle.wire.specs.TermBytes.{nameCount, leastBytes, mostLevels}
 use Rattle.wire.specs.Parser.{accept, refuse, Got, got, stop, Read, clash, line15, readTerm}
 use Rattle.wire.specs.CheckComputed.{checkedTerm}
 use Rattle.wire.specs.Scan.{Scanned, tallied}
@@ -31,12 +31,12 @@ use Rattle.wire.proofs.Words.{length-symbols, arguments-word, word-in-order}
 use Rattle.wire.proofs.VocabulariesInverse.{accept-same}
 use Rattle.terms.proofs.Sorts.{sort-in, sorts-in}
 use Rattle.reader.specs.Names.{clashing, Named, listed, TableOf}
-use Rattle.reader.specs.Terms.{Ends}
+use Rattle.reader.specs.Terms.{Ends, rootRun, frontRun}
 use Rattle.reader.specs.Whole.{toldBy, told, wholeTold, WholeRead}
 use Rattle.reader.specs.declared.cursor.Cursor.{Cursor}
 use Rattle.reader.specs.declared.whole.Whole.{Whole}
 use Rattle.reader.proofs.Names.{named-clash}
-use Rattle.reader.proofs.Told.{Begun, rootRun, checked-root}
+use Rattle.reader.proofs.Told.{Sized, told-short, told-kind, front-cases, checked-root}
 
 -- ---- entries
 
@@ -150,12 +150,26 @@ module _ (W : Vocabulary) (names : List ℕ) (seen : List Occurrence) (named : N
       (table-of W inOrder s (a .term) known (record { sorted = h .sorted; consistent = subst Consistent (h .came) (h .agrees tt) }) names
       (subst (Named names) (e ∙ h .came) named))
 
-  pub whole-table : (t : List ℕ) → Begun W t → seen ≡ seenIn (rootRun W t) → (k : Kinded) → checkedTerm W t ≡ accept k → TableOf W (k .kind) (k .term) names
-  whole-table [] x e k f = absurd (let long = x .long in omega arith)
-  whole-table (s ∷ l) x e k f =
-      read-table s l (x .inOrder) (x .known) (readTerm W mostLevels true s [] l)
-      (term-reads W (x .inOrder) mostLevels true s [] l (x .bytes .1)) (e ∙ ap seenIn (scan-reads W s [] l)) k (sym (checked-root W s l x) ∙ f)
+  module _ (t : List ℕ) (x : Sized W t) where
+    abbrev Tells : Got Scanned → Type 0
+    Tells g = seen ≡ seenIn g → (k : Kinded) → checkedTerm W t ≡ accept k → TableOf W (k .kind) (k .term) names
+
+    refused-tells : {n q : ℕ} (g : Got Scanned) → refuse n q ≡ told W t → Tells g
+    refused-tells g h e k f = absurd (refuse-never (h ∙ ap (toldBy W (length t)) f))
+
+    pub whole-table : Tells (frontRun W t)
+    whole-table =
+        front-cases W t Tells (λ h. refused-tells (stop 7 t) (told-short W t h)) (λ long h. refused-tells (stop 8 t) (told-kind W t long (x .short) h))
+        (go t x)
+      where
+        go : (t : List ℕ) → Sized W t → leastBytes ≤ length t → getD t 0 0 < W .kinds →
+            seen ≡ seenIn (rootRun W t) → (k : Kinded) → checkedTerm W t ≡ accept k → TableOf W (k .kind) (k .term) names
+        go [] x long known e k f = absurd (omega arith)
+        go (s ∷ l) x long known e k f =
+            read-table s l (x .inOrder) known (readTerm W mostLevels true s [] l)
+            (term-reads W (x .inOrder) mostLevels true s [] l (x .bytes .1)) (e ∙ ap seenIn (scan-reads W s [] l)) k
+            (sym (checked-root W s l long (x .short) known) ∙ f)
 
 -- Where reading ended, what it told and the table that it left.
-pub whole-read : {W : Vocabulary} {t names : List ℕ} {c : Cursor} {r : Whole} → wholeTold r ≡ told W t → Begun W t → Ends t names c (rootRun W t) → WholeRead W t names r
+pub whole-read : {W : Vocabulary} {t names : List ℕ} {c : Cursor} {r : Whole} → wholeTold r ≡ told W t → Sized W t → Ends t names c (frontRun W t) → WholeRead W t names r
 whole-read {W} {t} {names} e x ends = record { told = e; table = whole-table W names (ends .seen) (ends .named) t x (ap seenIn (ends .same)) }

@@ -3,8 +3,10 @@
 --   gapBack n o            a gap by the number of the n bytes from it on, as an offset; n where there is none
 --   toldScan t g           what the scan g of the term t behind its kind byte tells
 --   told-short, told-long, told-kind    what is told where the size or the kind is wrong
---   Begun, checked-root    size and kind are in order, and then reading the term decides
---   told-fault, told-continues, told-read    what is told where reading the term ends so
+--   checked-root           where they are in order reading the term decides
+--   front-short, front-kind, front-known, front-cases, front-read    what is read in front of t, by its size and its kind
+--   Sized                  t is not too long
+--   told-fault, told-continues, told-read    what is told where reading what stands in front ends so
 --   refusal-reply          the reply that a refusal gives
 --   told-refused, told-accepted    the reply of checking a term that tells this
 --   first-refused, second-refused, first-read, same-read    the reply of reading two terms that tell this
@@ -23,13 +25,13 @@ use Rattle.terms.specs.Term.{Term}
 use Rattle.terms.proofs.Bools.{or-left, or-right}
 use Rattle.wire.specs.Reply.{Reply, IsBytes, accepted, refused, Kinded, outside}
 use Rattle.wire.specs.Vocabulary.{Vocabulary, InOrder}
-use Rattle.wire.specs.TermBytes.{encodeRoot, wordCount, deepest, mostBytes, mostLevels}
+use Rattle.wire.specs.TermBytes.{encodeRoot, wordCount, deepest, leastBytes, mostBytes, mostLevels}
 use Rattle.wire.specs.Parser.{Reading, accept, refuse, Got, got, stop, Read, offset, line15, readTerm, readWhole}
 use Rattle.wire.specs.CheckComputed.{replyOf, checkedTerm, termValues}
 use Rattle.wire.specs.SituationComputed.{firstGap}
-use Rattle.wire.specs.Scan.{Scanned, run, rootDue, noTally, gapHere, leftFrom, tallied}
+use Rattle.wire.specs.Scan.{Scanned, gapHere, leftFrom, tallied}
 use Rattle.wire.proofs.Bytes.{offset-drop}
-use Rattle.wire.proofs.Cond.{cond-true, cond-false}
+use Rattle.wire.proofs.Cond.{cond-true, cond-false, choice}
 use Rattle.wire.proofs.Outside.{inside-outside}
 use Rattle.wire.proofs.ReadWrite.{Reads, term-reads}
 use Rattle.wire.proofs.Scan.{scan-reads}
@@ -37,8 +39,9 @@ use Rattle.wire.proofs.ScanGap.{Near, whole-gap, whole-near}
 use Rattle.signature.specs.Tables.{vocabularyIn}
 use Rattle.reader.specs.Answers.{termRefused}
 use Rattle.reader.specs.Cursors.{gapLeft, tallyAt}
+use Rattle.reader.specs.Names.{Named}
 use Rattle.reader.specs.Nodes.{numberOf, placeOf}
-use Rattle.reader.specs.Terms.{Refuses, Ends, Answers, TermRead}
+use Rattle.reader.specs.Terms.{Refuses, Ends, Answers, TermRead, rootRun, frontRun, FrontRead}
 use Rattle.reader.specs.Whole.{gapOr, toldBy, told, extentValues, bothTold}
 use Rattle.reader.specs.declared.refusal.TermRefusal.{TermRefusal}
 use Rattle.reader.specs.declared.refusal.TermRefusal.the-variants as T
@@ -124,10 +127,6 @@ kind-refused W (s ∷ l) long h =
     ap (toldBy W (length (s ∷ l)))
     (sym (cond-false (ltb s (W .kinds)) (line15 (s ∷ l) s (readTerm W mostLevels true s [] l)) (refuse 8 0) (le-ltb s (W .kinds) h)))
 
--- What reading the term behind its kind byte gives.
-abbrev pub rootRun : Vocabulary → List ℕ → Got Scanned
-rootRun W t = run W (rootDue (getD t 0 0) ∷ []) [] noTally (drop 1 t)
-
 known-whole : (W : Vocabulary) (s : ℕ) (l : List ℕ) → s < W .kinds →
     readWhole W mostLevels (s ∷ l) ≡ line15 (s ∷ l) s (readTerm W mostLevels true s [] l)
 known-whole W s l h = cond-true (ltb s (W .kinds)) (line15 (s ∷ l) s (readTerm W mostLevels true s [] l)) (refuse 8 0) (lt-ltb s (W .kinds) h)
@@ -143,35 +142,74 @@ kind-known W (s ∷ l) inOrder bytes long h =
 pub told-kind : (W : Vocabulary) (t : List ℕ) → 2 ≤ length t → length t ≤ mostBytes → W .kinds ≤ getD t 0 0 → refuse 8 0 ≡ told W t
 told-kind W t long short h = kind-refused W t long h ∙ sized W t long short
 
--- ---- where reading the term ends
+pub checked-root : (W : Vocabulary) (s : ℕ) (l : List ℕ) → 2 ≤ length (s ∷ l) → length (s ∷ l) ≤ mostBytes → s < W .kinds →
+    checkedTerm W (s ∷ l) ≡ line15 (s ∷ l) s (readTerm W mostLevels true s [] l)
+checked-root W s l long short known = checked-sized W (s ∷ l) long short ∙ known-whole W s l known
 
--- The size and the kind of t are in order.
-pub record Begun (W : Vocabulary) (t : List ℕ) : Type 0 where
+-- ---- what is read in front
+
+module _ (W : Vocabulary) (t : List ℕ) where
+  pub front-short : length t < leastBytes → stop 7 t ≡ frontRun W t
+  front-short h = sym (cond-true (ltb (length t) leastBytes) _ _ (lt-ltb (length t) leastBytes h))
+
+  module _ (long : leastBytes ≤ length t) where
+    front-long : frontRun W t ≡ cond (ltb (getD t 0 0) (W .kinds)) (rootRun W t) (stop 8 t)
+    front-long = cond-false (ltb (length t) leastBytes) _ _ (le-ltb (length t) leastBytes long)
+
+    pub front-kind : W .kinds ≤ getD t 0 0 → stop 8 t ≡ frontRun W t
+    front-kind h = sym (front-long ∙ cond-false (ltb (getD t 0 0) (W .kinds)) _ _ (le-ltb (getD t 0 0) (W .kinds) h))
+
+    pub front-known : getD t 0 0 < W .kinds → rootRun W t ≡ frontRun W t
+    front-known h = sym (front-long ∙ cond-true (ltb (getD t 0 0) (W .kinds)) _ _ (lt-ltb (getD t 0 0) (W .kinds) h))
+
+  pub front-cases : (P : Got Scanned → Type 0) → (length t < leastBytes → P (stop 7 t)) →
+      (leastBytes ≤ length t → W .kinds ≤ getD t 0 0 → P (stop 8 t)) →
+      (leastBytes ≤ length t → getD t 0 0 < W .kinds → P (rootRun W t)) → P (frontRun W t)
+  front-cases P short kind known =
+      choice P (ltb (length t) leastBytes) (stop 7 t) _ (λ e. short (ltb-true (length t) leastBytes e))
+      (λ e.
+      let long = ltb-false (length t) leastBytes e in
+      choice P (ltb (getD t 0 0) (W .kinds)) (rootRun W t) (stop 8 t) (λ f. known long (ltb-true (getD t 0 0) (W .kinds) f))
+      (λ f. kind long (ltb-false (getD t 0 0) (W .kinds) f)))
+
+-- The term behind the kind, read from a blank table of names on.
+pub front-read : (v t : List ℕ) {names : List ℕ} (names′ : List ℕ) (r : Answer) → leastBytes ≤ length t → getD t 0 0 < vocabularyIn v .kinds → names ≡ replicate 64 65535 →
+    TermRead v t 1 (getD t 0 0) names names′ r → FrontRead v t names′ r
+front-read v t names′ r long known blank reads =
+    subst (λ g. Answers t names′ g r) (front-known (vocabularyIn v) t long known) (reads [] (subst (λ l. Named l []) (sym blank) named-none))
+
+-- ---- where reading what stands in front ends
+
+pub record Sized (W : Vocabulary) (t : List ℕ) : Type 0 where
   pub inOrder : InOrder W
   pub bytes : IsBytes t
-  pub long : 2 ≤ length t
   pub short : length t ≤ mostBytes
-  pub known : getD t 0 0 < W .kinds
 
-pub checked-root : (W : Vocabulary) (s : ℕ) (l : List ℕ) → Begun W (s ∷ l) → checkedTerm W (s ∷ l) ≡ line15 (s ∷ l) s (readTerm W mostLevels true s [] l)
-checked-root W s l x = checked-sized W (s ∷ l) (x .long) (x .short) ∙ known-whole W s l (x .known)
+told-front : (W : Vocabulary) (t : List ℕ) → Sized W t → toldScan t (frontRun W t) ≡ told W t
+told-front W t x =
+    front-cases W t (λ g. toldScan t g ≡ told W t) (λ h. ap (refuse 7) begins ∙ told-short W t h)
+    (λ long h. ap (refuse 8) begins ∙ told-kind W t long (x .short) h)
+    (λ long h. kind-known W t (x .inOrder) (x .bytes) long h ∙ sized W t long (x .short))
+  where
+    begins : offset t t ≡ 0
+    begins = offset-drop t t 0 refl (omega arith)
 
-module _ (v t names : List ℕ) (r : Answer) (x : Begun (vocabularyIn v) t) (reads : TermRead v t 1 (getD t 0 0) (replicate 64 65535) names r) where
-  told-run : toldScan t (rootRun (vocabularyIn v) t) ≡ told (vocabularyIn v) t
-  told-run = kind-known (vocabularyIn v) t (x .inOrder) (x .bytes) (x .long) (x .known) ∙ sized (vocabularyIn v) t (x .long) (x .short)
+module _ (v t names : List ℕ) (r : Answer) (x : Sized (vocabularyIn v) t) (reads : FrontRead v t names r) where
+  told-run : toldScan t (frontRun (vocabularyIn v) t) ≡ told (vocabularyIn v) t
+  told-run = told-front (vocabularyIn v) t x
 
-  answer : {y : Answer} → r ≡ y → Answers t names (rootRun (vocabularyIn v) t) y
-  answer e = subst (Answers t names (rootRun (vocabularyIn v) t)) e (reads [] named-none)
+  answer : {y : Answer} → r ≡ y → Answers t names (frontRun (vocabularyIn v) t) y
+  answer e = subst (Answers t names (frontRun (vocabularyIn v) t)) e reads
 
   pub told-fault : (why : TermRefusal) → r ≡ R.Fault why → refuse (numberOf why) (placeOf why) ≡ told (vocabularyIn v) t
   told-fault why e =
-      let h : Refuses t why (rootRun (vocabularyIn v) t) = answer e in
+      let h : Refuses t why (frontRun (vocabularyIn v) t) = answer e in
       ap (refuse (numberOf why)) (sym (offset-drop t (drop (placeOf why) t) (placeOf why) refl (h .inside)))
       ∙ ap (toldScan t) (h .same)
       ∙ told-run
 
   module _ (c : Cursor) (e : r ≡ R.Read c) where
-    pub ends : Ends t names c (rootRun (vocabularyIn v) t)
+    pub ends : Ends t names c (frontRun (vocabularyIn v) t)
     ends = answer e
 
     abbrev scanned : Scanned

@@ -1,10 +1,13 @@
--- Answers: the papers' number and values for each case of checking a term, and of reading the inputs of fill.
+-- Answers: the papers' number and values for each case of checking a term, and of reading the inputs of fill and a book.
 --
---   termRefused input why    the reply that refuses a term of the given input
+--   termRefusedAt input at why    the reply that refuses a term of the given input, which begins at an offset of it
+--   termRefused input why    the same of a term that is the whole input
 --   termNumbers a            the reply of checking a term
 --   TermAnswersDiffer        different answers have different numbers or values
 --   fillingRefused why       the reply that refuses the inputs of fill
 --   fillingNumbers a         the reply of reading the inputs of fill, with the pattern's deepest level
+--   bookRefused why          the reply that refuses a book
+--   bookNumbers a            the reply of reading a vocabulary and a book
 --
 use mathlib.Core.Path.{_≡_}
 use mathlib.Core.List.{[], _∷_}
@@ -19,18 +22,25 @@ use Rattle.reader.specs.declared.filling.FillingRefusal.{FillingRefusal}
 use Rattle.reader.specs.declared.filling.FillingRefusal.the-variants as F
 use Rattle.reader.specs.declared.filling.FillingAnswer.{FillingAnswer}
 use Rattle.reader.specs.declared.filling.FillingAnswer.the-variants as G
+use Rattle.reader.specs.declared.book.BookRefusal.{BookRefusal}
+use Rattle.reader.specs.declared.book.BookRefusal.the-variants as B
+use Rattle.reader.specs.declared.book.BookAnswer.{BookAnswer}
+use Rattle.reader.specs.declared.book.BookAnswer.the-variants as C
 
--- Lines 7 to 15, of the given input.
+-- Lines 7 to 15, of the given input. 7 and 8 name the term's first byte.
+abbrev pub termRefusedAt : ℕ → ℕ → TermRefusal → Reply
+termRefusedAt input at T.Size = refused 7 input at
+termRefusedAt input at T.NoSuchKind = refused 8 input at
+termRefusedAt input at (T.Ends q) = refused 9 input q
+termRefusedAt input at (T.TooDeep q) = refused 10 input q
+termRefusedAt input at (T.NoWordOrName q) = refused 11 input q
+termRefusedAt input at (T.WrongKind q) = refused 12 input q
+termRefusedAt input at (T.Clashes q) = refused 13 input q
+termRefusedAt input at (T.StrayBit q) = refused 14 input q
+termRefusedAt input at (T.Continues q) = refused 15 input q
+
 abbrev pub termRefused : ℕ → TermRefusal → Reply
-termRefused input T.Size = refused 7 input 0
-termRefused input T.NoSuchKind = refused 8 input 0
-termRefused input (T.Ends q) = refused 9 input q
-termRefused input (T.TooDeep q) = refused 10 input q
-termRefused input (T.NoWordOrName q) = refused 11 input q
-termRefused input (T.WrongKind q) = refused 12 input q
-termRefused input (T.Clashes q) = refused 13 input q
-termRefused input (T.StrayBit q) = refused 14 input q
-termRefused input (T.Continues q) = refused 15 input q
+termRefused input why = termRefusedAt input 0 why
 
 abbrev pub termNumbers : TermAnswer → Reply
 termNumbers (A.Accepted words deepest) = accepted (words ∷ deepest ∷ [])
@@ -50,3 +60,16 @@ fillingRefused (F.Value q) = refused 22 4 q
 abbrev pub fillingNumbers : FillingAnswer → Reply
 fillingNumbers (G.Read deepest) = accepted (deepest ∷ [])
 fillingNumbers (G.Refused why) = fillingRefused why
+
+-- Lines 7 to 14 of a pattern, 15 and 18, and document 02's 24 and 25: "with input 5 and places counted in the book".
+abbrev pub bookRefused : BookRefusal → Reply
+bookRefused B.Count = refused 24 5 0
+bookRefused (B.Pattern at why) = termRefusedAt 5 at why
+bookRefused (B.Repeated q) = refused 18 5 q
+bookRefused (B.OtherKind q) = refused 25 5 q
+bookRefused (B.Continues q) = refused 15 5 q
+
+abbrev pub bookNumbers : BookAnswer → Reply
+bookNumbers C.Read = accepted []
+bookNumbers (C.Vocabulary why) = vocabularyRefused why
+bookNumbers (C.Book why) = bookRefused why

@@ -1,10 +1,11 @@
--- What the contracts of checking a term and of reading two terms cite.
+-- What the contracts of checking a term and of reading several inputs cite.
 --
 --   Answers    document 01's number and values for each case of the answer
 --   Checked    what checking a term gives beside its answer
 --   Nodes      what the private functions promise each other of what stands where a term is due; no public contract cites it
 --   Whole      what reading two terms tells
 --   Values     what reading the inputs of fill gives
+--   Books      what reading a vocabulary and a book gives
 --   Frames     what the private functions promise each other of the places that are due; no public contract cites it
 --   Names      the same, of the names that stood before
 --   Cursors    the same, of where a reading stands
@@ -16,6 +17,7 @@ pub mod Checked
 pub mod Nodes
 pub mod Whole
 pub mod Values
+pub mod Books
 pub mod Frames
 pub mod Names
 pub mod Cursors

@@ -12,16 +12,20 @@
 --   NodesRead               what reading the node at a cursor and all that is due behind it gives
 --   WholeAt                 255 stands at an offset of t
 --   TermRead                what reading the term of kind k that stands at an offset of t gives
+--   rootRun W t             what reading the term behind the kind byte of t gives
+--   frontRun W t            the same, with lines 7 and 8 for what stands in front of it
+--   FrontRead               what reading the kind and the term in front of t gives, from a blank table of names on
 --
 use mathlib.Core.Path.{_≡_}
-use mathlib.Core.Bool.{Bool, true, false}
+use mathlib.Core.Bool.{Bool, true, false, cond}
 use mathlib.Core.List.{List, [], _∷_}
 use mathlib.Core.Logic.{_⊎_}
 use Prim.Native.Nat.{ℕ, suc, _<_, _≤_}
+use lib.Dec.{ltb}
 use lib.ListN.{length, getD, drop, replicate}
 use Rattle.terms.specs.Term.{Occurrence}
 use Rattle.wire.specs.Vocabulary.{Vocabulary}
-use Rattle.wire.specs.TermBytes.{wholeByte}
+use Rattle.wire.specs.TermBytes.{wholeByte, leastBytes}
 use Rattle.wire.specs.TermLines.{Due}
 use Rattle.wire.specs.Parser.{Got, got, stop}
 use Rattle.wire.specs.Scan.{Scanned, run, rootDue, noTally}
@@ -106,3 +110,12 @@ pub record WholeAt (t : List ℕ) (at : ℕ) (r : Bool) : Type 0 where
 abbrev pub TermRead : List ℕ → List ℕ → ℕ → ℕ → List ℕ → List ℕ → Reading → Type 0
 TermRead v t from k names names′ r =
     (seen : List Occurrence) → Named names seen → Answers t names′ (run (vocabularyIn v) (rootDue k ∷ []) seen noTally (drop from t)) r
+
+abbrev pub rootRun : Vocabulary → List ℕ → Got Scanned
+rootRun W t = run W (rootDue (getD t 0 0) ∷ []) [] noTally (drop 1 t)
+
+abbrev pub frontRun : Vocabulary → List ℕ → Got Scanned
+frontRun W t = cond (ltb (length t) leastBytes) (stop 7 t) (cond (ltb (getD t 0 0) (W .kinds)) (rootRun W t) (stop 8 t))
+
+abbrev pub FrontRead : List ℕ → List ℕ → List ℕ → Reading → Type 0
+FrontRead v t names r = Answers t names (frontRun (vocabularyIn v) t) r

@@ -1,10 +1,11 @@
-// Document 01's check of a term, and the reading of two terms under one vocabulary.
+// Document 01's check of a term, and the reading of several inputs under one loading of a vocabulary.
 ghost use mathlib.Core.Path.{_≡_};
 ghost use Rattle.wire.specs.Parser.{accept};
 ghost use Rattle.wire.specs.Checking.{TermPromise};
 ghost use Rattle.wire.specs.CheckComputed.{termReply};
 ghost use Rattle.signature.specs.Tables.{Tables, vocabularyIn};
 ghost use Rattle.reader.specs.Answers.{termNumbers};
+ghost use Rattle.reader.specs.Books.{BookRead};
 ghost use Rattle.reader.specs.Checked.{CheckedFrom};
 ghost use Rattle.reader.specs.Values.{PatternFilling, FillingJudged, FillingRead};
 ghost use Rattle.reader.specs.Whole.{pairNumbers, pairReply, told, bothTold, extentValues};
@@ -12,6 +13,7 @@ use signature::VocabularyAnswer;
 use signature::VocabularyRefusal;
 use whole::Whole;
 
+pub mod book;
 mod cursor;
 pub mod filling;
 mod frame;
@@ -20,6 +22,8 @@ pub mod refusal;
 mod term;
 pub mod whole;
 
+pub use book::BookAnswer;
+pub use book::BookRefusal;
 pub use filling::FillingAnswer;
 pub use filling::FillingRefusal;
 pub use refusal::TermRefusal;
@@ -209,6 +213,21 @@ pub fn read_filling(
             *starts = [0usize; 65];
             *depths = [0u8; 64];
             FillingAnswer::Refused(why)
+        }
+    }
+}
+
+// Reads a vocabulary and a book under it, and leaves the words' result kinds in the lent table.
+pub fn read_book(vocabulary: &[u8], book: &[u8], results: &mut [u8; 96]) -> BookAnswer
+    ensures { λ r. ⌜ BookRead (now (vocabulary .entry)) (now (book .entry)) (now (results .entry)) (now (results .exit)) r ⌝ }
+{
+    let mut offsets = [0u16; 96];
+    let mut maps = [0u8; 96];
+    match signature::load(vocabulary, &mut offsets, results, &mut maps) {
+        VocabularyAnswer::Refused(why) => BookAnswer::Vocabulary(why),
+        VocabularyAnswer::Accepted => {
+            let words = node::wide(vocabulary[1]);
+            book::read(vocabulary, book, words, &offsets, results, &maps)
         }
     }
 }

@@ -2,6 +2,7 @@
 ghost use mathlib.Core.Path.{_≡_};
 ghost use lib.ListN.{replicate};
 ghost use Rattle.signature.specs.Tables.{Tables, vocabularyIn};
+ghost use Rattle.reader.specs.Terms.{FrontRead};
 ghost use Rattle.reader.specs.Whole.{told, wholeTold, WholeRead};
 use crate::cursor;
 use crate::refusal::TermRefusal;
@@ -22,6 +23,31 @@ pub(crate) enum Whole {
     Refused(TermRefusal),
 }
 
+// Reads a kind and the term of that kind behind it. The table, blank before, tells at the end at which kind each name of the
+// term stands. Bytes may follow the term.
+pub(crate) fn read_front<'a>(
+    v: &[u8],
+    t: &[u8],
+    names: &mut [u16; 64],
+    words: usize,
+    offsets: &'a [u16; 96],
+    results: &'a [u8; 96],
+    maps: &'a [u8; 96],
+) -> Reading
+    requires { ⌜ Tables (now v) words (now offsets) (now results) (now maps) ⌝ }
+    requires { ⌜ now names ≡ replicate 64 65535 ⌝ }
+    ensures { λ r. ⌜ FrontRead (now (v .entry)) (now (t .entry)) (now (names .exit)) r ⌝ }
+{
+    if t.len() < 2 {
+        return Reading::Fault(TermRefusal::Size);
+    }
+    let kind = t[0];
+    if v[0] <= kind {
+        return Reading::Fault(TermRefusal::NoSuchKind);
+    }
+    term::read_term(v, t, 1, kind, names, words, offsets, results, maps)
+}
+
 // Reads a term under an accepted vocabulary. Where it is accepted the table, blank before, tells at which kind each of its
 // names stands.
 pub(crate) fn read_named<'a>(
@@ -37,17 +63,10 @@ pub(crate) fn read_named<'a>(
     requires { ⌜ now names ≡ replicate 64 65535 ⌝ }
     ensures { λ r. ⌜ WholeRead (vocabularyIn (now (v .entry))) (now (t .entry)) (now (names .exit)) r ⌝ }
 {
-    if t.len() < 2 {
-        return Whole::Refused(TermRefusal::Size);
-    }
     if 4096 < t.len() {
         return Whole::Refused(TermRefusal::Size);
     }
-    let kind = t[0];
-    if v[0] <= kind {
-        return Whole::Refused(TermRefusal::NoSuchKind);
-    }
-    match term::read_term(v, t, 1, kind, names, words, offsets, results, maps) {
+    match read_front(v, t, names, words, offsets, results, maps) {
         Reading::Fault(why) => Whole::Refused(why),
         Reading::Read(c) => {
             let at = c.at;

@@ -3,13 +3,15 @@
 --   name-byte, low-byte, high-byte       which bytes are names
 --   at-word, at-other, at-name           one step of the pass, at a byte in front
 --   pass-word, pass-other, pass-name     the same, at an offset of the pattern
+--   repeat-inside                        what it finds is a byte of the pattern
 --   sightings-bytes, sightings-pattern   the pass meets the names of a term, and of a whole pattern
 --   pattern-repeats                      so it finds the term's first repeated name
 --
 use mathlib.Core.Path.{_≡_, refl, sym, ap, ap₂, _∙_}
 use mathlib.Core.Bool.{true, false, not}
 use mathlib.Core.List.{List, [], _∷_, _++_, append-assoc, append-nil}
-use Prim.Native.Nat.{ℕ, suc, _+_, _-_, _<_, _≤_}
+use mathlib.Core.Option.{some}
+use Prim.Native.Nat.{ℕ, zero, suc, _+_, _-_, _<_, _≤_}
 use native.Mathlib.Numerals.{add-one}
 use native.Mathlib.Omega.{arith}
 use lib.Dec.{ltb}
@@ -19,17 +21,18 @@ use borrow.Author.Tests.{lt-ltb, le-ltb}
 use Rattle.terms.specs.Lists.{All}
 use Rattle.terms.specs.Term.{Term, any, var, app, Terms, nil, cons, names, namesAll, Sorted, SortedAll}
 use Rattle.terms.specs.Signature.{arguments}
-use Rattle.terms.proofs.All.{all-left, all-right}
+use Rattle.terms.proofs.All.{all-left, all-right, all-at}
 use Rattle.terms.proofs.Bools.{or-neither, or-left, or-right}
 use Rattle.wire.specs.Map.{mapBytes, writeMap}
 use Rattle.wire.specs.Vocabulary.{Vocabulary, InOrder, signature}
 use Rattle.wire.specs.TermBytes.{nameCount, firstNameByte, nameByte, wholeByte, writtenMap, encodeAt, encodeAll, encodeTerm, GoodTerm}
 use Rattle.wire.specs.Parser.{isName}
-use Rattle.wire.specs.PatternLines.{sightingsFrom, sightingsAll, sightings}
+use Rattle.wire.specs.PatternLines.{Sighting, sightingsFrom, sightingsAll, sightings, noSighting}
 use Rattle.wire.specs.ListComputed.{repeatedIn}
-use Rattle.wire.proofs.Cond.{cond-true, cond-false}
+use Rattle.wire.proofs.Cond.{cond-true, cond-false, choice}
+use Rattle.wire.proofs.Repeats.{repeated-is-exact}
 use Rattle.wire.proofs.Words.{length-symbols}
-use Rattle.repeats.specs.FirstRepeat.{sightingsIn, PatternRepeats}
+use Rattle.repeats.specs.FirstRepeat.{sightingsIn, firstRepeat, PatternRepeats}
 
 -- ---- which bytes are names
 
@@ -82,6 +85,26 @@ module _ (n : ℕ) where
         ap (λ l. sightingsIn n 0 l at) (drop-cons p at 0 inside)
         ∙ at-name (getD p at 0) (drop (suc at) p) at h k
         ∙ ap (λ i. record { name = getD p at 0 - 128; offset = at } ∷ sightingsIn n 0 (drop i p) (at + 1)) (sym (add-one at))
+
+-- ---- the byte that is found
+
+sightings-inside : (n skip : ℕ) (l : List ℕ) (at k : ℕ) → at + length l ≡ k → All (λ o. o .offset < k) (sightingsIn n skip l at)
+sightings-inside n zero [] at k e = tt
+sightings-inside n (suc skip) [] at k e = tt
+sightings-inside n (suc skip) (b ∷ l) at k e = sightings-inside n skip l (at + 1) k (omega arith)
+sightings-inside n zero (b ∷ l) at k e =
+    choice (All (λ o. o .offset < k)) (ltb b n) _ _ (λ h. sightings-inside n mapBytes l (at + 1) k (omega arith))
+    (λ h.
+    choice (All (λ o. o .offset < k)) (isName b) _ _ (λ h. (omega arith, sightings-inside n zero l (at + 1) k (omega arith)))
+    (λ h. sightings-inside n zero l (at + 1) k (omega arith)))
+
+pub repeat-inside : (n : ℕ) (p : List ℕ) (q : ℕ) → firstRepeat n p ≡ some q → q < length p
+repeat-inside n p q e =
+    let l : List Sighting = sightingsIn n 1 p 0 in
+    let x = repeated-is-exact l q .0 e in
+    let here = x .here in
+    let h = all-at (λ o. o .offset < length p) noSighting l (sightings-inside n 1 p 0 (length p) (omega arith)) (x .index) (x .below) in
+    omega arith
 
 -- ---- the names of a good pattern
 
