@@ -1,6 +1,6 @@
 -- Extents: a term that is written ends where its bytes do.
 --
---   front-is       the first bytes, at most 65,536
+--   front-is       the first bytes, at most n
 --   term-extent    of a term that is written at the front, the size is the number of its bytes
 --
 use mathlib.Core.Path.{_≡_, refl, sym, ap, _∙_}
@@ -12,22 +12,22 @@ use lib.Dec.{ltb}
 use lib.ListN.{length, take}
 use lib.Seq.{take-all, take-append-add}
 use borrow.Author.Tests.{ltb-true, ltb-false}
-use Rattle.wire.specs.Map.{bit, isOpen}
+use Rattle.wire.specs.Map.{bit}
 use Rattle.wire.specs.TermBytes.{encodeAt}
 use Rattle.wire.specs.EntryCut.{dueSize}
 use Rattle.wire.proofs.EntryCut.{due-none, due-at}
-use Rattle.extents.specs.Extents.{mostExtent, termSize, TermExtent}
+use Rattle.extents.specs.Extents.{mostExtent, TermExtent}
 
-pub front-is : (l : List ℕ) → take (min (length l) mostExtent) l ≡ take mostExtent l
-front-is l = go (ltb (length l) mostExtent) refl
+pub front-is : (n : ℕ) (l : List ℕ) → take (min (length l) n) l ≡ take n l
+front-is n l = go (ltb (length l) n) refl
   where
-    go : (b : Bool) → ltb (length l) mostExtent ≡ b → take (min (length l) mostExtent) l ≡ take mostExtent l
+    go : (b : Bool) → ltb (length l) n ≡ b → take (min (length l) n) l ≡ take n l
     go true e =
-        let h = ltb-true (length l) mostExtent e in
-        take-all (min (length l) mostExtent) l (omega arith) ∙ sym (take-all mostExtent l (omega arith))
+        let h = ltb-true (length l) n e in
+        take-all (min (length l) n) l (omega arith) ∙ sym (take-all n l (omega arith))
     go false e =
-        let h = ltb-false (length l) mostExtent e in
-        ap (λ n. take n l) (let z : min (length l) mostExtent ≡ mostExtent = omega arith in z)
+        let h = ltb-false (length l) n e in
+        ap (λ k. take k l) (let z : min (length l) n ≡ n = omega arith in z)
 
 pub term-extent : TermExtent
 term-extent W inOrder t s sorted closed few r =
