@@ -1,200 +1,77 @@
--- Following: the others of a word's result kind are found by going from one word of the kind to the next.
+-- Following: the others of a word's result kind have their entries, along the chain of the kind.
 --
---   least-from, -inside, -low, -outside   the lowest number of a range that passes a test
 --   Followed                  the loop: h is the next word of the kind, and the others before it have their entries
 --   followed-none, -all       it begins, and it ends
 --   followed-inside           where h is below 96 it is a word
 --   followed-room, -less      the next entry has room, and the next word is a higher one
 --   followed-taken, -left     a turn, at another word and at the word itself
 --
-use mathlib.Core.Path.{_≡_, refl, sym, ap, ap₂, _∙_, subst}
-use mathlib.Core.Bool.{Bool, true, false, not, _&&_, cond, and-comm}
+use mathlib.Core.Path.{_≡_, refl, subst}
 use mathlib.Core.List.{List, [], _∷_, _++_}
-use Prim.Native.Nat.{ℕ, zero, suc, _+_, _-_, _<_, _≤_}
+use Prim.Native.Nat.{ℕ, _+_, _<_, _≤_}
 use native.Mathlib.Omega.{arith}
-use lib.Dec.{eqb}
 use lib.ListN.{length, getD, drop}
-use borrow.Author.Tests.{eq-eqb, ne-eqb, eqb-true}
-use Rattle.terms.specs.Lists.{range, keep}
-use Rattle.terms.proofs.Keep.{keep-keep, keep-same}
 use Rattle.wire.specs.Map.{writeMap}
 use Rattle.wire.specs.EntryBytes.{othersBytes}
-use Rattle.wire.proofs.Cond.{cond-true, cond-false}
-use Rattle.kinds.specs.Kinds.{kindIn, hasKind, isOther, othersIn, lowest, Chained}
+use Rattle.kinds.specs.Kinds.{kindIn, othersIn, lowest, Chained}
+use Rattle.kinds.proofs.Following.{Following, Step, following-first, following-none, following-inside, following-higher, following-other, following-self}
 use Rattle.slices.specs.Written.{Written}
-use Rattle.complement.proofs.Siblings.{Listed, listed-none, listed-room, listed-taken, listed-all}
 use Rattle.slices.proofs.Writing.{part, back}
-
--- ---- the lowest number of a range that passes a test
-
-module _ (t : ℕ → Bool) where
-  abbrev least : ℕ → ℕ → ℕ
-  least from c = getD (keep t (range from c)) 0 255
-
-  least-from : (c from : ℕ) → from + c ≤ 255 → from ≤ least from c
-  least-from zero from k = omega arith
-  least-from (suc c) from k = go (t from) (least-from c (suc from) (omega arith))
-    where
-      go : (b : Bool) → suc from ≤ least (suc from) c → from ≤ getD (cond b (from ∷ keep t (range (suc from) c)) (keep t (range (suc from) c))) 0 255
-      go true h = omega arith
-      go false h = omega arith
-
-  -- Where it is in the range, what passes is this number and what passes behind it.
-  least-inside : (c from n h : ℕ) → n ≡ from + c → n ≤ 255 → h ≡ least from c → h < n →
-      (t h ≡ true) × (keep t (range from c) ≡ h ∷ keep t (range (h + 1) (n - (h + 1))))
-  least-inside zero from n h s k e l = absurd (omega arith)
-  least-inside (suc c) from n h s k e l = go (t from) refl (least-inside c (suc from) n h (omega arith) k)
-    where
-      go : (b : Bool) → t from ≡ b →
-          (h ≡ least (suc from) c → h < n → (t h ≡ true) × (keep t (range (suc from) c) ≡ h ∷ keep t (range (h + 1) (n - (h + 1))))) →
-          (t h ≡ true) × (keep t (range from (suc c)) ≡ h ∷ keep t (range (h + 1) (n - (h + 1))))
-      go true p rest =
-          let here : h ≡ from = e ∙ ap (λ l. getD l 0 255) (cond-true (t from) _ _ p) in (
-            ap t here ∙ p,
-            cond-true (t from) _ _ p
-                ∙ ap₂ (λ x l. x ∷ keep t l) (sym here)
-                (ap₂ range (let z : suc from ≡ h + 1 = omega arith in z) (let z : c ≡ n - (h + 1) = omega arith in z)),
-          )
-      go false p rest =
-          let r = rest (e ∙ ap (λ l. getD l 0 255) (cond-false (t from) _ _ p)) l in
-          (r .0, cond-false (t from) _ _ p ∙ r .1)
-
-  -- Where it is below 255, it is in the range.
-  least-low : (c from n : ℕ) → n ≡ from + c → least from c < 255 → least from c < n
-  least-low zero from n s k = absurd (omega arith)
-  least-low (suc c) from n s k = go (t from) k (least-low c (suc from) n (omega arith))
-    where
-      go : (b : Bool) → getD (cond b (from ∷ keep t (range (suc from) c)) (keep t (range (suc from) c))) 0 255 < 255 →
-          (least (suc from) c < 255 → least (suc from) c < n) → getD (cond b (from ∷ keep t (range (suc from) c)) (keep t (range (suc from) c))) 0 255 < n
-      go true k rest = omega arith
-      go false k rest = rest k
-
-  -- Where it is not, nothing passes.
-  least-outside : (c from : ℕ) → from + c ≤ least from c → keep t (range from c) ≡ []
-  least-outside zero from k = refl
-  least-outside (suc c) from k = go (t from) refl (least-outside c (suc from))
-    where
-      go : (b : Bool) → t from ≡ b → (suc from + c ≤ least (suc from) c → keep t (range (suc from) c) ≡ []) → keep t (range from (suc c)) ≡ []
-      go true p rest = absurd (omega (arith, ap (λ l. getD l 0 255) (cond-true (t from) (from ∷ keep t (range (suc from) c)) (keep t (range (suc from) c)) p)))
-      go false p rest =
-          cond-false (t from) _ _ p
-          ∙ rest (omega (arith, ap (λ l. getD l 0 255) (cond-false (t from) (from ∷ keep t (range (suc from) c)) (keep t (range (suc from) c)) p)))
-
--- ---- the chain is followed
-
-abbrev isNot : ℕ → ℕ → Bool
-isNot f g = not (eqb g f)
-
--- The words of the kind of f from a word on, and the others among them.
-abbrev siblings : ℕ → List ℕ → ℕ → ℕ → List ℕ
-siblings words results f from = keep (hasKind results (kindIn results f)) (range from (words - from))
-
-abbrev left : ℕ → List ℕ → ℕ → ℕ → List ℕ
-left words results f from = keep (isNot f) (siblings words results f from)
-
-left-all : (words : ℕ) (results : List ℕ) (f : ℕ) → othersIn words results f ≡ left words results f 0
-left-all words results f =
-    let kept : ℕ → Bool = hasKind results (kindIn results f) in
-    keep-same (isOther results f) (λ g. kept g && isNot f g) (range 0 words) (λ g. and-comm (isNot f g) (kept g))
-    ∙ sym (keep-keep (isNot f) kept (range 0 words))
-    ∙ ap (λ c. keep (isNot f) (keep kept (range 0 c))) (let e : words ≡ words - 0 = omega arith in e)
+use Rattle.complement.proofs.Siblings.{Listed, listed-none, listed-room, listed-taken, listed-all}
 
 -- h is the next word of the kind of f, and the others before it have their entries.
 pub record Followed (front : List ℕ) (words : ℕ) (results chains : List ℕ) (f : ℕ) (before : List ℕ) (h n : ℕ) (out : List ℕ) : Type 0 where
-  pub small : words ≤ 96
-  pub chained : Chained words results chains
   pub room : length (othersBytes front (othersIn words results f)) ≤ length before
-  pub from : ℕ
-  pub below : from ≤ words
-  pub next : h ≡ lowest words results (kindIn results f) from
+  pub left : List ℕ
+  pub following : Following words results chains f h left
   pub size : length out ≡ length before
   pub inside : n ≤ length before
-  pub listed : Listed front (othersIn words results f) before (left words results f from) n out
+  pub listed : Listed front (othersIn words results f) before left n out
 
 module _ {front : List ℕ} {words : ℕ} {results chains : List ℕ} {f : ℕ} {before : List ℕ} where
   pub followed-none : words ≤ 96 → Chained words results chains → length (othersBytes front (othersIn words results f)) ≤ length before →
       {h : ℕ} → h ≡ lowest words results (kindIn results f) 0 → Followed front words results chains f before h 0 before
   followed-none small c room s = record {
-    small = small;
-    chained = c;
     room = room;
-    from = 0;
-    below = omega arith;
-    next = s;
+    left = othersIn words results f;
+    following = following-first small c s;
     size = refl;
     inside = omega arith;
-    listed = subst (λ l. Listed front (othersIn words results f) before l 0 before) (left-all words results f)
-        (listed-none front (othersIn words results f) room);
+    listed = listed-none front (othersIn words results f) room;
   }
 
   module _ {h n : ℕ} {out : List ℕ} (w : Followed front words results chains f before h n out) where
     pub followed-inside : h < 96 → h < words
-    followed-inside k =
-        let b = w .below in
-        let s = w .next in
-        omega (arith, least-low (hasKind results (kindIn results f)) (words - w .from) (w .from) words (omega arith) (omega arith))
+    followed-inside k = following-inside (w .following) k
 
     pub followed-all : 96 ≤ h → Written (othersBytes front (othersIn words results f)) before n out
     followed-all k =
-        let b = w .below in
-        let s = w .next in
-        let l = w .small in
-        let none : left words results f (w .from) ≡ [] =
-        ap (keep (isNot f)) (least-outside (hasKind results (kindIn results f)) (words - w .from) (w .from) (omega arith)) in
         listed-all front (othersIn words results f) (w .room)
-        (subst (λ l. Listed front (othersIn words results f) before l n out) none (w .listed))
+        (subst (λ l. Listed front (othersIn words results f) before l n out) (following-none (w .following) k) (w .listed))
 
-    module _ (inside : h < words) where
-      here : (hasKind results (kindIn results f) h ≡ true) × (siblings words results f (w .from) ≡ h ∷ siblings words results f (h + 1))
-      here =
-          let b = w .below in
-          let s = w .small in
-          least-inside (hasKind results (kindIn results f)) (words - w .from) (w .from) words h (omega arith) (omega arith) (w .next) inside
+    module _ (inside : h < words) (m : ℕ) (step : m ≡ getD chains h 0) where
+      pub followed-less : h < m
+      followed-less = following-higher (w .following) inside m step
 
-      next-listed : (h ≡ f → ⊥) → Listed front (othersIn words results f) before (h ∷ left words results f (h + 1)) n out
-      next-listed apart =
-          let same : left words results f (w .from) ≡ h ∷ left words results f (h + 1) =
-          ap (keep (isNot f)) (here .1) ∙ cond-true (isNot f h) _ _ (ap not (ne-eqb h f apart)) in
-          subst (λ l. Listed front (othersIn words results f) before l n out) same (w .listed)
+      followed-on : {left : List ℕ} → Following words results chains f m left → {i : ℕ} {ys : List ℕ} → Listed front (othersIn words results f) before left i ys →
+          Followed front words results chains f before m i ys
+      followed-on {left} g l = record { room = w .room; left = left; following = g; size = l .size; inside = l .inside; listed = l }
 
-      pub followed-room : (h ≡ f → ⊥) → {at : ℕ} → length front ≡ at → at + 2 ≤ length (part n out)
-      followed-room apart begins = listed-room front (othersIn words results f) (w .room) begins (next-listed apart)
+      -- The word is f itself.
+      pub followed-left : h ≡ f → Followed front words results chains f before m n out
+      followed-left e = followed-on (following-self (w .following) inside m step e) (w .listed)
 
-      module _ (m : ℕ) (step : m ≡ getD chains h 0) where
-        next-word : m ≡ lowest words results (kindIn results f) (h + 1)
-        next-word =
-            step ∙ w .chained .next h (let s = w .small in omega arith)
-            ∙ ap (λ k. lowest words results k (h + 1)) (eqb-true (kindIn results h) (kindIn results f) (here .0))
+      -- The word is another.
+      module _ (apart : h ≡ f → ⊥) {at : ℕ} (begins : length front ≡ at) where
+        next : Step words results chains f h m (w .left)
+        next = following-other (w .following) inside m step apart
 
-        pub followed-less : h < m
-        followed-less =
-            let s = w .small in
-            omega (arith, next-word, least-from (hasKind results (kindIn results f)) (words - (h + 1)) (h + 1) (omega arith))
+        next-listed : Listed front (othersIn words results f) before (h ∷ next .rest) n out
+        next-listed = subst (λ l. Listed front (othersIn words results f) before l n out) (next .split) (w .listed)
 
-        followed-on : {i : ℕ} {ys : List ℕ} → Listed front (othersIn words results f) before (left words results f (h + 1)) i ys →
-            Followed front words results chains f before m i ys
-        followed-on l = record {
-          small = w .small;
-          chained = w .chained;
-          room = w .room;
-          from = h + 1;
-          below = omega arith;
-          next = next-word;
-          size = l .size;
-          inside = l .inside;
-          listed = l;
-        }
+        pub followed-room : at + 2 ≤ length (part n out)
+        followed-room = listed-room front (othersIn words results f) (w .room) begins next-listed
 
-        -- The word is another.
-        pub followed-taken : (h ≡ f → ⊥) → {at : ℕ} → length front ≡ at → {ys : List ℕ} →
-            ys ≡ (front ++ (h ∷ writeMap 0)) ++ drop (at + 2) (part n out) →
+        pub followed-taken : {ys : List ℕ} → ys ≡ (front ++ (h ∷ writeMap 0)) ++ drop (at + 2) (part n out) →
             Followed front words results chains f before m (n + at + 2) (back n out ys)
-        followed-taken apart begins y =
-            followed-on (listed-taken front (othersIn words results f) (w .room) begins (next-listed apart) y)
-
-        -- The word is f itself.
-        pub followed-left : h ≡ f → Followed front words results chains f before m n out
-        followed-left e =
-            let same : left words results f (w .from) ≡ left words results f (h + 1) =
-            ap (keep (isNot f)) (here .1) ∙ cond-false (isNot f h) _ _ (ap not (eq-eqb h f e)) in
-            followed-on (subst (λ l. Listed front (othersIn words results f) before l n out) same (w .listed))
+        followed-taken y = followed-on (next .on) (listed-taken front (othersIn words results f) (w .room) begins next-listed y)

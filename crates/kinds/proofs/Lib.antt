@@ -5,3 +5,5 @@ pub mod Tallying
 pub mod Chaining
 -- The others of a word's kind.
 pub mod Others
+-- The others, one by one along a chain.
+pub mod Following

@@ -47,12 +47,13 @@ part-write-entry-end c = search needs
 write-entry-requires : tie.Need-write-entry-requires Inv-loop μ-loop
 write-entry-requires c κs =
     let at-if1 = c .before in
-    let at-loop-test = at-if1 .before .before .before in
+    let at-wide = at-if1 .before in
+    let at-loop-test = at-wide .before .before in
     let at-loop = at-loop-test .before in
     let start = at-loop .before .before .before in
     let o = start .pre in
     let followed = at-loop .loop .inv o in
-    (o .inside, followed-room followed (followed-inside followed (at-loop-test .loop-test .taken)) (at-if1 .if1 .taken) (length-take-le (start .args .at) (now (start .args .copy)) (o .inside)))
+    (o .inside, followed-room followed (followed-inside followed (at-loop-test .loop-test .taken)) _ (at-wide .wide .ensures .same) (at-if1 .if1 .taken) (length-take-le (start .args .at) (now (start .args .copy)) (o .inside)))
 
 add-n : tie.Need-add-n Inv-loop μ-loop
 add-n c =
