@@ -52,7 +52,7 @@ number-above [] fs e = e
 number-above (b ∷ low) fs e = ap (λ k. bit b + 2 * k) (number-above low fs e)
 
 -- Places of which none is written have no bit.
-written-empty : (ps : List Bool) (ts : Terms) → number (writtenFlags ps (openEvery ts)) ≡ 0
+pub written-empty : (ps : List Bool) (ts : Terms) → number (writtenFlags ps (openEvery ts)) ≡ 0
 written-empty [] ts = refl
 written-empty (false ∷ ps) ts = omega (arith, written-empty ps ts)
 written-empty (true ∷ ps) nil = omega (arith, written-empty ps nil)
