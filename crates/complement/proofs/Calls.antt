@@ -11,12 +11,12 @@ use mathlib.Core.Path.{_≡_, refl, sym, ap, ap₂, _∙_, subst}
 use mathlib.Core.List.{List, []}
 use Prim.Native.Nat.{ℕ, _<_, _≤_}
 use native.Mathlib.Omega.{arith}
-use lib.ListN.{length, getD, drop, length-map, List·getD-append, List·getD-map}
+use lib.ListN.{length, getD}
 use Rattle.wire.specs.Reply.{Reply, accepted, refused, IsBytes, Kinded, kinded}
 use Rattle.wire.specs.Effect.{Effect, HasEffect}
 use Rattle.wire.specs.Parser.{Reading, accept, refuse, readVocabulary}
 use Rattle.wire.specs.CheckComputed.{replyOf, checkedTerm, termValues, termReplyUnder, termReply}
-use Rattle.wire.specs.Vocabulary.{Word, Vocabulary, word, noWord, HoldsVocabulary}
+use Rattle.wire.specs.Vocabulary.{Vocabulary, HoldsVocabulary}
 use Rattle.wire.specs.VocabularyLines.{byteAt}
 use Rattle.wire.specs.ListComputed.{repeatedIn, linearOf, linearIn, listedInto, listedPattern, listedVocabulary, listed}
 use Rattle.wire.specs.PatternLines.{sightings}
@@ -33,7 +33,7 @@ use Rattle.signature.specs.Answers.{vocabularyRefused}
 use Rattle.signature.specs.Tables.{acceptedIn, vocabularyIn, wordsBefore, resultsOf, laid}
 use Rattle.signature.specs.declared.VocabularyRefusal.{VocabularyRefusal}
 use Rattle.signature.specs.declared.VocabularyRefusal.the-variants.{Head, WordCount, Ends, NoSuchKind, Continues, EmptyKind}
-use Rattle.signature.proofs.Accepted.{accepted-words}
+use Rattle.signature.proofs.Accepted.{laid-tabled}
 use Rattle.reader.specs.Answers.{termRefused}
 use Rattle.reader.specs.declared.refusal.TermRefusal.{TermRefusal}
 use Rattle.reader.specs.declared.refusal.TermRefusal.the-variants as T
@@ -160,20 +160,10 @@ module _ (v p before : List ℕ) (vocabularyBytes : (i : ℕ) → getD v i 0 < 2
     held : HoldsVocabulary v W
     held = vocabularies-inverse v W bv .0 read
 
-    word-count : byteAt v 1 ≡ length (W .words)
-    word-count = ap (λ l. getD l 1 0) (held .written)
-
     pub some-bytes : 2 ≤ length v
     some-bytes = let e = ap length (held .written) in omega arith
 
     module _ {words : ℕ} {results : List ℕ} (counted : words ≡ byteAt v 1) (blank : List ℕ) (table : results ≡ laid (resultsOf (wordsBefore v)) blank) where
-      result-is : (f : ℕ) → f < words → getD results f 0 ≡ word W f .result
-      result-is f h =
-          let long : length (resultsOf (W .words)) ≡ length (W .words) = length-map (W .words) (λ (w : Word). w .result) in
-          ap (λ r. getD r f 0) (table ∙ ap (λ ws. laid (resultsOf ws) blank) (accepted-words v W read))
-          ∙ List·getD-append (resultsOf (W .words)) (drop (length (resultsOf (W .words))) blank) 0 f (omega (arith, word-count))
-          ∙ List·getD-map (λ (w : Word). w .result) (W .words) f noWord
-
       pub patterned : Patterned p words results
       patterned =
           let inOrder = held .good .inOrder in
@@ -183,7 +173,7 @@ module _ (v p before : List ℕ) (vocabularyBytes : (i : ℕ) → getD v i 0 < 2
             kind = x .kind;
             term = x .term;
             inOrder = inOrder;
-            tabled = record { words = counted ∙ word-count; result = result-is };
+            tabled = laid-tabled v W held read words counted results blank table;
             held = checked-in W p x inOrder bp (found .1);
           }
 

@@ -1,0 +1,121 @@
+-- Beginning: the first turn of a book.
+--
+--   book-count, book-kind        the count and the first kind byte of a book that is accepted
+--   first-turn, first-listed     where the first turn begins, and that its answer is the book's
+--
+use mathlib.Core.Path.{_≡_, refl, sym, ap, _∙_, subst}
+use mathlib.Core.List.{List, [], _∷_}
+use mathlib.Core.Option.{some}
+use Prim.Native.Nat.{ℕ, _+_, _≤_, min}
+use native.Mathlib.Omega.{arith}
+use native.Mathlib.Nat.{min-eq-left}
+use lib.ListN.{length, getD, take, drop, set, length-append, length-set}
+use Rattle.terms.specs.Lists.{All}
+use Rattle.terms.specs.Term.{Term, any}
+use Rattle.terms.proofs.All.{all-implies}
+use Rattle.wire.specs.Effect.{HasEffect}
+use Rattle.wire.specs.Vocabulary.{Vocabulary, mostWords}
+use Rattle.wire.specs.TermBytes.{encodeTerm, levels, mostBytes}
+use Rattle.wire.specs.BookBytes.{patternsBytes, Listable}
+use Rattle.kinds.specs.Kinds.{Chained}
+use Rattle.signature.specs.Tables.{Tabled}
+use Rattle.books.specs.Striking.{EntryOf, PatternOf}
+use Rattle.slices.proofs.Writing.{part, part-is}
+use Rattle.books.specs.Turning.{turnNumbers, turned, TurnAt, Turns, BookAt, AreasFor}
+use Rattle.books.specs.declared.turns.Turned.{Turned}
+
+stored-two : (l : List ℕ) (a b : ℕ) → 2 ≤ length l → take 2 (set (set l 0 a) 1 b) ≡ a ∷ b ∷ []
+stored-two [] a b h = absurd (omega arith)
+stored-two (x ∷ []) a b h = absurd (omega arith)
+stored-two (x ∷ y ∷ l) a b h = refl
+
+module _ {book results : List ℕ} {words : ℕ} (h : BookAt book words results) where
+  abbrev W : Vocabulary
+  W = h .vocabulary
+
+  abbrev s : ℕ
+  s = h .kind
+
+  pub book-count : getD book 0 0 ≡ length (h .patterns)
+  book-count = ap (λ l. getD l 0 0) (h .held .written)
+
+  rest : drop 1 book ≡ patternsBytes W s (h .patterns)
+  rest = ap (drop 1) (h .held .written)
+
+  -- A book has a pattern, which begins with its kind.
+  first-kind : (l : List Term) → 1 ≤ length l → getD (patternsBytes W s l) 0 0 ≡ s
+  first-kind [] k = absurd (omega arith)
+  first-kind (t ∷ l) k = refl
+
+  pub book-kind : getD book 1 0 ≡ s
+  book-kind = ap (λ l. getD l 1 0) (h .held .written) ∙ first-kind (h .patterns) (h .held .some)
+
+  some-pattern : (l : List Term) → 1 ≤ length l → 1 ≤ length (patternsBytes W s l)
+  some-pattern [] k = absurd (omega arith)
+  some-pattern (t ∷ l) k = let a = length-append (encodeTerm W s t) (patternsBytes W s l) in omega arith
+
+  pub book-length : 2 ≤ length book
+  book-length = let e = ap length (h .held .written) in let k = some-pattern (h .patterns) (h .held .some) in omega arith
+
+  pattern-of : (t : Term) → Listable W s t → PatternOf W s t
+  pattern-of t k = record { sorted = k .holds .good .sorted .sorted; low = let d = k .holds .limits .levels in omega arith; short = k .holds .limits .most }
+
+  whole-of : EntryOf W s any
+  whole-of = record { sorted = tt; nameless = refl; low = omega arith; short = omega arith }
+
+  -- No pattern is longer than the book.
+  spans-in : (span : ℕ) (l : List Term) → min (1 + length (patternsBytes W s l)) mostBytes ≤ span → All (PatternOf W s) l →
+      All (λ t. length (encodeTerm W s t) ≤ span) l
+  spans-in span [] k g = tt
+  spans-in span (t ∷ l) k g =
+      let a = length-append (encodeTerm W s t) (patternsBytes W s l) in
+      let b = g .0 .short in
+      (omega arith, spans-in span l (omega arith) (g .1))
+
+  -- The kind and 255, the entry that is all there is at first, are stored.
+  module _ (near : List ℕ) {far copied marked : ℕ} (areas : AreasFor book (length near) far copied marked) (chains : List ℕ) (chained : Chained (min words mostWords) results chains) where
+    abbrev begun : List ℕ
+    begun = set (set near 0 (getD book 1 0)) 1 255
+
+    pub begun-length : length begun ≡ length near
+    begun-length = length-set (set near 0 (getD book 1 0)) 1 255 ∙ length-set near 0 (getD book 1 0)
+
+    pub first-turn : TurnAt (part 1 book) (getD book 0 0) begun 2 1 far copied marked words results chains
+    first-turn = record {
+      vocabulary = W;
+      kind = s;
+      es = any ∷ [];
+      ts = h .patterns;
+      span = areas .span;
+      known = h .tabled .words;
+      tables = record {
+        inOrder = h .inOrder;
+        tabled = subst (λ n. Tabled W n results) (h .tabled .words) (h .tabled);
+        chained = subst (λ n. Chained n results chains) (min-eq-left few ∙ h .tabled .words) chained;
+      };
+      entriesOf = (whole-of, tt);
+      patternsOf = patterns;
+      count = book-count;
+      stands = part-is 1 book ∙ rest;
+      area = stored-two near (getD book 1 0) 255 (areas .some) ∙ ap (λ k. k ∷ 255 ∷ []) book-kind;
+      inside = let k = areas .some in let l = begun-length in omega arith;
+      many = refl;
+      rooms = begun-length ∙ areas .same;
+      spans = spans-in (areas .span) (h .patterns) (let k = areas .spans in let e = ap length (h .held .written) in omega arith) patterns;
+      copy = let c = areas .copy in let e = areas .same in omega arith;
+      small = areas .small;
+      marks = areas .marks;
+    }
+      where
+        few : words ≤ mostWords
+        few = let w = h .tabled .words in let k = h .inOrder .fewWords in omega arith
+
+        patterns : All (PatternOf W s) (h .patterns)
+        patterns = all-implies (Listable W s) (PatternOf W s) pattern-of (h .patterns) (h .held .patterns)
+
+    pub first-listed : (out after : List ℕ) (r : Turned) →
+        Turns (part 1 book) 0 (getD book 0 0) begun 2 1 far copied marked words results chains out after r →
+        HasEffect (turned W s (length near) 0 (any ∷ []) (h .patterns) out) (turnNumbers r) after
+    unfolding first-turn
+    first-listed out after r turns =
+        subst (λ m. HasEffect (turned W s m 0 (any ∷ []) (h .patterns) out) (turnNumbers r) after) (sym (areas .same)) (turns first-turn)

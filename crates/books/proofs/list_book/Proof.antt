@@ -1,0 +1,98 @@
+-- `books::list_book` meets its contract.
+use borrow.Author.Needs.{needs}
+use mathlib.Core.Path.{refl, sym, ap, _∙_}
+use denote.Ref.{now}
+use native.Mathlib.Omega.{arith}
+use Rattle.reader.specs.Answers.{bookNumbers}
+use Rattle.books.proofs.Calls.{vocabulary-refuses, book-refuses, book-refused, some-bytes, book-at, book-listed}
+use Rattle.books.proofs.list_book.Statement.{statement}
+use Rattle.books.proofs.list_book.Tie as tie
+
+read-book-requires : tie.Need-read-book-requires
+read-book-requires c κs = search needs
+
+enum-known-why : tie.Need-enum-known-why
+enum-known-why c = search needs
+
+enum-known-why-2 : tie.Need-enum-known-why-2
+enum-known-why-2 c = search needs
+
+enum-told : tie.Need-enum-told
+enum-told c = search needs
+
+shared-slice-read-list-read : tie.Need-shared-slice-read-list-read
+shared-slice-read-list-read c =
+    let at-read-book = c .before .before .before in
+    let at-shared-slice-known2 = at-read-book .before .before .before in
+    let at-shared-slice-known = at-shared-slice-known2 .before in
+    let start = at-shared-slice-known .before in
+    let b =
+    some-bytes (now (start .args .vocabulary)) (now (start .args .book)) (now (start .args .out))
+    (λ i. at-shared-slice-known .shared-slice-known .given i .fits) (λ i. at-shared-slice-known2 .shared-slice-known2 .given i .fits)
+    (ap bookNumbers (sym (c .before .enum-told .given .1)) ∙ at-read-book .read-book .ensures .answer) in
+    omega arith
+
+cast-list-read : tie.Need-cast-list-read
+cast-list-read c = omega (arith, c .shared-slice-known3 .given 1)
+
+list-read-requires : tie.Need-list-read-requires
+list-read-requires c κs =
+    let at-enum-told = c .before .before .before in
+    let at-read-book = at-enum-told .before .before in
+    let at-shared-slice-known2 = at-read-book .before .before .before in
+    let at-shared-slice-known = at-shared-slice-known2 .before in
+    let start = at-shared-slice-known .before in
+    book-at (now (start .args .vocabulary)) (now (start .args .book)) (now (start .args .out))
+    (λ i. at-shared-slice-known .shared-slice-known .given i .fits) (λ i. at-shared-slice-known2 .shared-slice-known2 .given i .fits)
+    (ap bookNumbers (sym (at-enum-told .enum-told .given .1)) ∙ at-read-book .read-book .ensures .answer) refl _ (at-read-book .read-book .ensures .results)
+
+returns : tie.Need-returns
+returns c =
+    let at-read-book = c .before .before .before in
+    let at-shared-slice-known2 = at-read-book .before .before .before in
+    let at-shared-slice-known = at-shared-slice-known2 .before in
+    let start = at-shared-slice-known .before in
+    book-refused (now (start .args .vocabulary)) (now (start .args .book)) (now (start .args .out))
+    (λ i. at-shared-slice-known .shared-slice-known .given i .fits) (λ i. at-shared-slice-known2 .shared-slice-known2 .given i .fits)
+    _ (vocabulary-refuses (c .before .why .given .0 .0)) (sym (ap bookNumbers (c .before .why .given .1)) ∙ at-read-book .read-book .ensures .answer)
+
+returns-2 : tie.Need-returns-2
+returns-2 c =
+    let at-read-book = c .before .before .before in
+    let at-shared-slice-known2 = at-read-book .before .before .before in
+    let at-shared-slice-known = at-shared-slice-known2 .before in
+    let start = at-shared-slice-known .before in
+    book-refused (now (start .args .vocabulary)) (now (start .args .book)) (now (start .args .out))
+    (λ i. at-shared-slice-known .shared-slice-known .given i .fits) (λ i. at-shared-slice-known2 .shared-slice-known2 .given i .fits)
+    _ (book-refuses (c .before .why2 .given .0 .0)) (sym (ap bookNumbers (c .before .why2 .given .1)) ∙ at-read-book .read-book .ensures .answer)
+
+same-length : tie.Need-same-length
+same-length c = search needs
+
+returns-3 : tie.Need-returns-3
+returns-3 c =
+    let at-list-read = c .before .before in
+    let at-enum-told = at-list-read .before .before .before .before in
+    let at-read-book = at-enum-told .before .before in
+    let at-shared-slice-known2 = at-read-book .before .before .before in
+    let at-shared-slice-known = at-shared-slice-known2 .before in
+    let start = at-shared-slice-known .before in
+    book-listed (now (start .args .vocabulary)) (now (start .args .book)) (now (start .args .out))
+    (λ i. at-shared-slice-known .shared-slice-known .given i .fits) (λ i. at-shared-slice-known2 .shared-slice-known2 .given i .fits)
+    (ap bookNumbers (sym (at-enum-told .enum-told .given .1)) ∙ at-read-book .read-book .ensures .answer) refl _ (at-read-book .read-book .ensures .results) (at-list-read .list-read .ensures)
+
+pub list-book-spec : {M : Type 1} → statement M
+list-book-spec =
+    tie.close
+    (tie.spec
+    read-book-requires
+    enum-known-why
+    enum-known-why-2
+    enum-told
+    shared-slice-read-list-read
+    cast-list-read
+    list-read-requires
+    returns
+    returns-2
+    same-length
+    returns-3)

@@ -1,0 +1,109 @@
+// Document 02's call list_book: the leftovers of a whole book.
+ghost use mathlib.Core.Path.{_≡_};
+ghost use Prim.Native.Nat.{_≤_};
+ghost use lib.ListN.{length};
+ghost use Rattle.wire.specs.BookLeftovers.{mostListed, BookPromise};
+ghost use Rattle.books.specs.Turning.{turnNumbers, BookAt, ListsIn};
+ghost use Rattle.books.specs.Calls.{ListsBook};
+ghost use Rattle.books.specs.Answers.{bookListNumbers};
+
+mod cutting;
+mod strike;
+mod turns;
+
+use crate::turns::Turned;
+use reader::BookAnswer;
+use reader::BookRefusal;
+use signature::VocabularyRefusal;
+
+// The number of entries and of bytes, or why there is no listing: document 01, lines 1 to 15, 18 and 20, and
+// document 02, lines 24 to 26.
+pub enum BookListAnswer {
+    Listed(usize, usize),
+    Vocabulary(VocabularyRefusal),
+    Book(BookRefusal),
+    TooLarge(usize),
+    NoRoom(usize),
+}
+
+// Lists a short book by small areas, which are sooner set up.
+fn list_small(book: &[u8], words: usize, results: &[u8; 96], out: &mut [u8]) -> Turned
+    requires { ⌜ BookAt (now book) words (now results) ⌝ }
+    requires { ⌜ length (now book) ≤ 256 ⌝ }
+    ensures { λ r. ⌜ ListsIn (now (book .entry)) words (now (results .entry)) 1024 (now (out .entry)) (now (out .exit)) r ⌝ }
+{
+    let mut near = [0u8; 1024];
+    let mut far = [0u8; 1024];
+    let mut copy = [0u8; 1280];
+    let mut marks = [0u32; 256];
+    turns::list_in(
+        book,
+        words,
+        results,
+        &mut near,
+        &mut far,
+        &mut copy,
+        &mut marks,
+        out,
+    )
+}
+
+// Lists a book by areas as large as the entries may be.
+fn list_large(book: &[u8], words: usize, results: &[u8; 96], out: &mut [u8]) -> Turned
+    requires { ⌜ BookAt (now book) words (now results) ⌝ }
+    ensures { λ r. ⌜ ListsIn (now (book .entry)) words (now (results .entry)) mostListed (now (out .entry)) (now (out .exit)) r ⌝ }
+{
+    let mut near = [0u8; 32768];
+    let mut far = [0u8; 32768];
+    let mut copy = [0u8; 8192];
+    let mut marks = [0u32; 4096];
+    turns::list_in(
+        book,
+        words,
+        results,
+        &mut near,
+        &mut far,
+        &mut copy,
+        &mut marks,
+        out,
+    )
+}
+
+// The answer that a turn's answer is by large areas.
+fn answer(turned: Turned) -> BookListAnswer
+    ensures { λ r. ⌜ bookListNumbers r ≡ turnNumbers turned ⌝ }
+{
+    match turned {
+        Turned::Listed(entries, bytes) => BookListAnswer::Listed(entries, bytes),
+        Turned::NoRoom(bytes) => BookListAnswer::NoRoom(bytes),
+        Turned::Past(i) => BookListAnswer::TooLarge(i),
+    }
+}
+
+// The listing of a book that is accepted. Most are short, and their entries few.
+fn list_read(book: &[u8], words: usize, results: &[u8; 96], out: &mut [u8]) -> BookListAnswer
+    requires { ⌜ BookAt (now book) words (now results) ⌝ }
+    ensures { λ r. ⌜ ListsBook (now (book .entry)) words (now (results .entry)) (now (out .entry)) (now (out .exit)) (bookListNumbers r) ⌝ }
+{
+    if 256 < book.len() {
+        return answer(list_large(book, words, results, out));
+    }
+    match list_small(book, words, results, out) {
+        Turned::Listed(entries, bytes) => BookListAnswer::Listed(entries, bytes),
+        Turned::NoRoom(bytes) => BookListAnswer::NoRoom(bytes),
+        Turned::Past(_) => answer(list_large(book, words, results, out)),
+    }
+}
+
+// Writes the leftovers of a book into the lent slice, one directly behind the other in an order that is not promised, and says
+// how many entries and bytes they are. A refusal leaves the slice as it was.
+pub fn list_book(vocabulary: &[u8], book: &[u8], out: &mut [u8]) -> BookListAnswer
+    ensures { λ r. ⌜ BookPromise (now (vocabulary .entry)) (now (book .entry)) (now (out .entry)) (now (out .exit)) (bookListNumbers r) ⌝ }
+{
+    let mut results = [0u8; 96];
+    match reader::read_book(vocabulary, book, &mut results) {
+        BookAnswer::Vocabulary(why) => BookListAnswer::Vocabulary(why),
+        BookAnswer::Book(why) => BookListAnswer::Book(why),
+        BookAnswer::Read => list_read(book, vocabulary[1] as usize, &results, out),
+    }
+}

@@ -1,3 +1,0 @@
--- What the functions that cut an entry promise each other.
-pub mod Entries
-pub mod Cutting
