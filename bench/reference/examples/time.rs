@@ -1,6 +1,7 @@
 //! Times each call on small and large inputs.
 
-use reference::{check_term, check_vocabulary, fill, leftovers, list, match_pattern, part};
+use reference::{check_term, check_vocabulary, fill, leftovers, list, list_book};
+use reference::{match_pattern, part};
 use std::hint::black_box;
 use std::time::Instant;
 
@@ -378,4 +379,69 @@ fn main() {
         &format!("list, D pair ({} entries, {} bytes)", reply[1], reply[2]),
         || list(black_box(&d), black_box(&flat), black_box(&mut out))[2],
     );
+
+    books(&a, &c, &e, &mut out);
+}
+
+/// A term of words that are each alone in their kind, with eight places each.
+fn lone(out: &mut Vec<u8>, word: u8, spare: &mut usize) {
+    let map = out.len() + 1;
+    out.extend([word, 0]);
+    for place in 0..8 {
+        if word < 5 && *spare >= 2 {
+            *spare -= 2;
+            out[map] |= 1 << place;
+            lone(out, word + 1, spare);
+        }
+    }
+}
+
+fn books(a: &[u8], c: &[u8], e: &[u8], out: &mut [u8]) {
+    println!("books");
+    let two = vec![2, 0, 0, 3, 1, 0, 3, 0, 0, 0, 1, 2, 0];
+    let pairs = |count: u8| {
+        let mut book = vec![count];
+        for number in (0..count).map(|number| number.wrapping_mul(7) % 64) {
+            book.extend([0, 50, 3, number / 8, 0, 8 + number % 8, 0]);
+        }
+        book
+    };
+    let mut one = vec![1, 0];
+    tree(&mut one, 1, &mut 252, 2, 0);
+    // A pattern and all that it leaves.
+    let mut short = vec![0];
+    tree(&mut short, 1, &mut 60, 2, 0);
+    let [_, entries, bytes] = list(c, &short, out);
+    let mut all = vec![entries as u8 + 1];
+    all.extend(&short);
+    all.extend(&out[..bytes as usize]);
+    // 44 pairs, and a long term that lists nothing.
+    let mut f = vec![7u8, 50, 0, 7, 1, 1, 2];
+    for kind in 2..6 {
+        f.extend([kind, 255]);
+        f.extend([kind + 1; 8]);
+    }
+    f.extend([6, 0]);
+    f.extend([1, 0].repeat(44));
+    let mut strike = vec![45];
+    for leaf in 6..50 {
+        strike.extend([0, 0, 3, leaf, 0, leaf, 0]);
+    }
+    strike.extend([0, 0, 4]);
+    lone(&mut strike, 1, &mut 4080);
+    for (what, v, book) in [
+        ("A 2 patterns", a, two),
+        ("E 1 pair", e, pairs(1)),
+        ("E 64 pairs", e, pairs(64)),
+        ("C near 32,768 bytes", c, one),
+        ("C, nothing left", c, all),
+        ("long strikes short", &f, strike),
+    ] {
+        let reply = list_book(v, &book, out);
+        assert_eq!(reply[0], 0, "{what} {reply:?}");
+        time(
+            &format!("book, {what} ({} entries, {} bytes)", reply[1], reply[2]),
+            || list_book(black_box(v), black_box(&book), black_box(out))[2],
+        );
+    }
 }

@@ -1,6 +1,10 @@
 //! Pseudo-random inputs for tests, the same for the same seed.
 
-/// One set of inputs for all calls.
+mod books;
+
+pub use books::BookCase;
+
+/// One set of inputs for all calls but the listing of books.
 #[derive(Clone, Debug, PartialEq, Eq)]
 pub struct Case {
     pub vocabulary: Vec<u8>,
@@ -1350,6 +1354,7 @@ mod tests {
         let (mut one, mut two) = (Gen::new(7), Gen::new(7));
         for _ in 0..200 {
             assert_eq!(one.case(), two.case());
+            assert_eq!(one.book_case(), two.book_case());
         }
     }
 }

@@ -1,6 +1,8 @@
-//! Check, match, part, list and fill over vocabularies and terms given as bytes.
+//! Check, match, part, list, fill and the listing of books over vocabularies
+//! and terms given as bytes.
 #![forbid(unsafe_code)]
 
+mod book;
 mod fill;
 pub mod generate;
 mod listing;
@@ -152,6 +154,24 @@ fn fill_sized<const W: usize, const S: usize>(
     let mut words = Words::<W>::new();
     words.fill(vocabulary)?;
     fill::fill::<W, S>(&words, pattern, filling, out)
+}
+
+/// Lists the leftovers of a book, in no order that counts; accepted is
+/// `[0, entries, bytes]`.
+pub fn list_book(vocabulary: &[u8], book: &[u8], out: &mut [u8]) -> Reply {
+    // No pattern has more bytes than stand behind the count.
+    let longest = book.len().saturating_sub(1);
+    sized!(vocabulary, longest, list_book_sized(book, out)).unwrap_or_else(|refusal| refusal)
+}
+
+fn list_book_sized<const W: usize, const S: usize>(
+    vocabulary: &[u8],
+    book: &[u8],
+    out: &mut [u8],
+) -> Result<Reply, Reply> {
+    let mut words = Words::<W>::new();
+    words.fill(vocabulary)?;
+    book::list::<W, S>(&words, book, out)
 }
 
 /// The bytes that the program `leftovers` prints for this standard input.

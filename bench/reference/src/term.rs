@@ -8,6 +8,7 @@ pub(crate) const PATTERN: u8 = 1;
 pub(crate) const SITUATION: u8 = 2;
 pub(crate) const LIST: u8 = 3;
 pub(crate) const FILL: u8 = 4;
+pub(crate) const BOOK: u8 = 5;
 
 /// The longest term for which a short stack is enough.
 pub(crate) const SHORT: usize = 17;
@@ -67,6 +68,8 @@ pub(crate) struct Reading {
     pub second: usize,
     pub entries: u64,
     pub bytes: u64,
+    /// How many bytes follow the term; in a book that is no refusal.
+    pub behind: usize,
 }
 
 /// The names met so far, as bits, and the kind of each. To fill a pattern `F`
@@ -150,6 +153,7 @@ pub(crate) fn go_on<const W: usize, const S: usize, const MODE: u8, const F: usi
         second: 0,
         entries: 0,
         bytes: 0,
+        behind: 0,
     };
     let mut single = 0usize;
     while top != 0 {
@@ -240,7 +244,7 @@ pub(crate) fn go_on<const W: usize, const S: usize, const MODE: u8, const F: usi
                         if names.kinds[name] != kind {
                             return Err([13, input, place as u64]);
                         }
-                        if MODE == LIST && reading.second == 0 {
+                        if (MODE == LIST || MODE == BOOK) && reading.second == 0 {
                             reading.second = place;
                         }
                     }
@@ -248,7 +252,7 @@ pub(crate) fn go_on<const W: usize, const S: usize, const MODE: u8, const F: usi
                         names.times[name] += 1;
                         names.deepest[name] = names.deepest[name].max(level);
                     }
-                } else if *byte != 255 || place != 1 {
+                } else if *byte != 255 || level != 1 {
                     return Err(if *byte >= words.words {
                         [11, input, place as u64]
                     } else if words.facts[*byte as usize & (W - 1)] as u8 != kind {
@@ -265,7 +269,9 @@ pub(crate) fn go_on<const W: usize, const S: usize, const MODE: u8, const F: usi
             }
         }
     }
-    if !rest.is_empty() {
+    if MODE == BOOK {
+        reading.behind = rest.len();
+    } else if !rest.is_empty() {
         return Err([15, input, (term.len() - rest.len()) as u64]);
     }
     if MODE == CHECK {

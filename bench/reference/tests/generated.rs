@@ -270,3 +270,125 @@ fn same(seed: u64, cases: usize) {
         );
     }
 }
+
+#[test]
+fn every_reply_to_books_occurs() {
+    let mut gen = Gen::new(6);
+    let mut seen: HashMap<u64, usize> = HashMap::new();
+    let mut times: HashMap<&str, usize> = HashMap::new();
+    for _ in 0..60_000 {
+        let case = gen.book_case();
+        let mut count = |what, holds: bool| *times.entry(what).or_default() += holds as usize;
+        let mut out = vec![case.out_fill; case.out_len];
+        let reply = reference::list_book(&case.vocabulary, &case.book, &mut out);
+        let [number, _, place] = reply;
+        *seen.entry(number).or_default() += 1;
+        let last = case.book.len() as u64;
+        count("7 at the end", number == 7 && place == last);
+        count("7, one byte", number == 7 && place + 1 == last);
+        count("7, the 4,097th byte", number == 7 && place + 1 < last);
+        count("18 behind the first pattern", number == 18 && place > 40);
+        count("24, none", number == 24 && last == 0);
+        count("24, 65", number == 24 && case.book.first() == Some(&65));
+        count("26 at once", number == 26 && place == 0);
+        count("26 later", number == 26 && place > 0);
+        count(
+            "26 at the tenth pattern or later",
+            number == 26 && place > 8,
+        );
+        let listing = reference::list_book(&case.vocabulary, &case.book, &mut []);
+        if ![0, 20].contains(&listing[0]) {
+            continue;
+        }
+        let exact = listing[2] as usize;
+        count("exact", exact > 0 && case.out_len == exact);
+        count("one less", case.out_len + 1 == exact);
+        count("one more", exact > 0 && case.out_len == exact + 1);
+        count("no space", exact > 0 && case.out_len == 0);
+        count("nothing left", exact == 0 && case.book[0] > 1);
+        count("64 patterns", exact > 0 && case.book[0] == 64);
+        count("30 patterns or more", exact > 0 && case.book[0] >= 30);
+        count("over 10,000 bytes", exact > 10_000);
+        count("over 30,000 bytes", exact > 30_000);
+        count("32,768 bytes", exact == 32_768);
+        count(
+            "a long book that leaves little",
+            last > 4000 && exact < 1000,
+        );
+        if reply[0] == 0 && exact > 1000 {
+            let all = sorted(&out[..exact], reply[1]);
+            let longest = all.iter().map(Vec::len).max();
+            count("an entry of over 1,000 bytes", longest > Some(1000));
+            count("an entry of 4,095 bytes", longest == Some(4095));
+        }
+    }
+    let mut rows: Vec<_> = seen.iter().collect();
+    rows.sort();
+    println!("{rows:?}");
+    for number in (0..16).chain([18, 20, 24, 25, 26]) {
+        let times = seen.get(&number).copied().unwrap_or(0);
+        assert!(times >= 40, "{number}: {times}");
+    }
+    let mut rows: Vec<_> = times.into_iter().collect();
+    rows.sort();
+    for (what, times) in rows {
+        println!("{what}: {times}");
+        assert!(times >= 10, "{what}: {times}");
+    }
+}
+
+/// The entries of a listing, sorted.
+fn sorted(mut listing: &[u8], entries: u64) -> Vec<Vec<u8>> {
+    let mut all = Vec::new();
+    for _ in 0..entries {
+        let (mut at, mut due) = (1, 1);
+        while due > 0 {
+            due -= 1;
+            if listing[at] < 128 {
+                due += listing[at + 1].count_ones();
+                at += 1;
+            }
+            at += 1;
+        }
+        all.push(listing[..at].to_vec());
+        listing = &listing[at..];
+    }
+    assert!(listing.is_empty());
+    all.sort();
+    all
+}
+
+#[test]
+fn same_books_as_plain() {
+    same_books(4, 30_000);
+}
+
+#[test]
+#[ignore = "takes minutes"]
+fn same_books_as_plain_many() {
+    for seed in 200..204 {
+        same_books(seed, 100_000);
+    }
+}
+
+fn same_books(seed: u64, cases: usize) {
+    let mut gen = Gen::new(seed);
+    for _ in 0..cases {
+        let case = gen.book_case();
+        let mut one = vec![case.out_fill; case.out_len];
+        let mut two = one.clone();
+        let reply = reference::list_book(&case.vocabulary, &case.book, &mut one);
+        let other = plain::list_book(&case.vocabulary, &case.book, &mut two);
+        assert_eq!(reply, other, "{case:?}");
+        if reply[0] != 0 {
+            assert_eq!(one, two);
+            continue;
+        }
+        let (listing, behind) = one.split_at(reply[2] as usize);
+        let (other, same) = two.split_at(reply[2] as usize);
+        let (ours, theirs) = (sorted(listing, reply[1]), sorted(other, reply[1]));
+        assert_eq!(ours, theirs, "{case:?}");
+        assert_eq!(behind, same);
+        assert!(behind.iter().all(|&byte| byte == case.out_fill));
+    }
+}

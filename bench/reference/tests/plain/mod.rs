@@ -86,6 +86,8 @@ struct Reader<'a> {
     v: &'a Vocabulary,
     bytes: &'a [u8],
     input: u64,
+    /// Where a book's pattern begins, whose 4,097th byte is not read.
+    pattern: Option<usize>,
     names: HashMap<u8, u8>,
     words: u64,
     deepest: u64,
@@ -94,11 +96,19 @@ struct Reader<'a> {
 }
 
 impl Reader<'_> {
+    fn byte(&self, at: usize) -> Result<u8, Reply> {
+        match self.pattern {
+            Some(first) if at == first + 4096 => Err([7, self.input, first as u64]),
+            _ => {
+                let byte = self.bytes.get(at).copied();
+                byte.ok_or([9, self.input, at as u64])
+            }
+        }
+    }
+
     fn term(&mut self, at: usize, kind: u8, level: u64) -> Result<Read, Reply> {
         let refuse = |number, at: usize| Err([number, self.input, at as u64]);
-        let Some(&byte) = self.bytes.get(at) else {
-            return refuse(9, at);
-        };
+        let byte = self.byte(at)?;
         if level == 33 {
             return refuse(10, at);
         }
@@ -135,9 +145,7 @@ impl Reader<'_> {
         if word.result != kind {
             return refuse(12, at);
         }
-        let Some(&map) = self.bytes.get(at + 1) else {
-            return refuse(9, at + 1);
-        };
+        let map = self.byte(at + 1)?;
         for bit in 0..8 {
             let written = map >> bit & 1 == 1;
             if written && word.places[bit].is_none() {
@@ -191,6 +199,7 @@ fn term(v: &Vocabulary, bytes: &[u8], input: u64) -> Result<Term, Reply> {
         v,
         bytes,
         input,
+        pattern: None,
         names: HashMap::new(),
         words: 0,
         deepest: 0,
@@ -303,9 +312,11 @@ pub fn part(v: &[u8], pattern: &[u8], situation: &[u8], name: u64) -> Reply {
     [0, 0, 0]
 }
 
-/// The listing of a term, in order.
-fn leftovers(v: &Vocabulary, tree: &Tree) -> Vec<Tree> {
+/// The listing of a term, in order. It may end early when it has more than so
+/// many bytes.
+fn leftovers(v: &Vocabulary, tree: &Tree, most: usize) -> Vec<Tree> {
     let mut list = Vec::new();
+    let mut bytes = 0;
     if let Tree::Word(word, terms) = tree {
         let kind = v.words[*word as usize].result;
         for (number, other) in v.words.iter().enumerate() {
@@ -314,15 +325,27 @@ fn leftovers(v: &Vocabulary, tree: &Tree) -> Vec<Tree> {
             }
         }
         for (bit, term) in terms.iter().enumerate() {
-            for entry in term.iter().flat_map(|term| leftovers(v, term)) {
+            for entry in term.iter().flat_map(|term| leftovers(v, term, most)) {
                 let mut places = vec![None; 8];
                 places[..bit].clone_from_slice(&terms[..bit]);
                 places[bit] = Some(entry);
                 list.push(Tree::Word(*word, places));
+                bytes += length(&list[list.len() - 1]);
+                if bytes > most {
+                    return list;
+                }
             }
         }
     }
     list
+}
+
+/// The number of bytes of a term without kind byte.
+fn length(tree: &Tree) -> usize {
+    match tree {
+        Tree::Word(_, terms) => 2 + terms.iter().flatten().map(length).sum::<usize>(),
+        _ => 1,
+    }
 }
 
 fn write(tree: &Tree, out: &mut Vec<u8>) {
@@ -344,7 +367,7 @@ pub fn entries(v: &[u8], pattern: &[u8]) -> Result<Vec<Vec<u8>>, Reply> {
     if let Some(second) = read.second {
         return Err([18, 1, second as u64]);
     }
-    let entries = leftovers(&v, &read.read.tree);
+    let entries = leftovers(&v, &read.read.tree, usize::MAX);
     Ok(entries
         .iter()
         .map(|entry| {
@@ -465,6 +488,166 @@ pub fn fill(v: &[u8], pattern: &[u8], file: &[u8], out: &mut [u8]) -> Reply {
             [0, bytes.len() as u64, 0]
         }
     }
+}
+
+/// The patterns of a book, all of one kind.
+fn patterns(v: &Vocabulary, book: &[u8]) -> Result<Vec<Tree>, Reply> {
+    let count = match book.first() {
+        Some(&count) if (1..=64).contains(&count) => count,
+        _ => return Err([24, 5, 0]),
+    };
+    let mut trees = Vec::new();
+    let mut at = 1;
+    for _ in 0..count {
+        let start = at;
+        if book.len() < start + 2 {
+            return Err([7, 5, start as u64]);
+        }
+        if book[start] >= v.kinds {
+            return Err([8, 5, start as u64]);
+        }
+        let mut reader = Reader {
+            v,
+            bytes: book,
+            input: 5,
+            pattern: Some(start),
+            names: HashMap::new(),
+            words: 0,
+            deepest: 0,
+            gap: None,
+            second: None,
+        };
+        let read = reader.term(start + 1, book[start], 1)?;
+        if let Some(second) = reader.second {
+            return Err([18, 5, second as u64]);
+        }
+        if book[start] != book[1] {
+            return Err([25, 5, start as u64]);
+        }
+        at = read.end;
+        trees.push(read.tree);
+    }
+    if at < book.len() {
+        return Err([15, 5, at as u64]);
+    }
+    Ok(trees)
+}
+
+/// A term of a pattern as an entry has it: each name is an open place.
+fn without_names(tree: &Tree) -> Option<Tree> {
+    match tree {
+        Tree::Any | Tree::Name(_) => None,
+        Tree::Word(word, terms) => {
+            let terms = terms.iter().map(|term| without_names(term.as_ref()?));
+            Some(Tree::Word(*word, terms.collect()))
+        }
+    }
+}
+
+/// Whether an entry and a pattern share a situation.
+fn share(entry: &Tree, pattern: &Tree) -> bool {
+    let (Tree::Word(word, terms), Tree::Word(other, others)) = (entry, pattern) else {
+        return true;
+    };
+    let shared = |(term, other): (&Option<Tree>, &Option<Tree>)| match (term, other) {
+        (Some(term), Some(other)) => share(term, other),
+        _ => true,
+    };
+    word == other && terms.iter().zip(others).all(shared)
+}
+
+/// What an entry and a pattern that share a situation both allow at a place.
+fn both(entry: &Option<Tree>, pattern: &Option<Tree>) -> Option<Tree> {
+    match (entry, pattern) {
+        (None, pattern) => without_names(pattern.as_ref()?),
+        (Some(Tree::Word(word, terms)), Some(Tree::Word(_, others))) => {
+            let terms = terms
+                .iter()
+                .zip(others)
+                .map(|(term, other)| both(term, other));
+            Some(Tree::Word(*word, terms.collect()))
+        }
+        (entry, _) => entry.clone(),
+    }
+}
+
+/// The own leftovers of an entry against a pattern with which it shares a
+/// situation. The list may end early when it has more than 32,768 bytes.
+fn own_leftovers(v: &Vocabulary, entry: &Tree, pattern: &Tree) -> Vec<Tree> {
+    let mut list = Vec::new();
+    match (entry, pattern) {
+        (_, Tree::Any | Tree::Name(_)) => (),
+        (Tree::Any | Tree::Name(_), pattern) => {
+            let term = without_names(pattern).unwrap();
+            list = leftovers(v, &term, 32_768);
+        }
+        (Tree::Word(word, terms), Tree::Word(_, others)) => {
+            let mut bytes = 0;
+            for bit in 0..8 {
+                let term = terms[bit].as_ref().unwrap_or(&Tree::Any);
+                let other = others[bit].as_ref().unwrap_or(&Tree::Any);
+                for left in own_leftovers(v, term, other) {
+                    let mut places = terms.clone();
+                    for lower in 0..bit {
+                        places[lower] = both(&terms[lower], &others[lower]);
+                    }
+                    places[bit] = Some(left);
+                    list.push(Tree::Word(*word, places));
+                    bytes += length(&list[list.len() - 1]);
+                    if bytes > 32_768 {
+                        return list;
+                    }
+                }
+            }
+        }
+    }
+    list
+}
+
+/// The entries of a book, each with its kind byte.
+pub fn book_entries(v: &[u8], book: &[u8]) -> Result<Vec<Vec<u8>>, Reply> {
+    let v = vocabulary(v)?;
+    let patterns = patterns(&v, book)?;
+    let mut entries = vec![Tree::Any];
+    for (number, pattern) in patterns.iter().enumerate() {
+        let too_long = Err([26, 5, number as u64]);
+        let mut next = Vec::new();
+        let mut bytes = 0;
+        for entry in entries {
+            let from = next.len();
+            if share(&entry, pattern) {
+                next.extend(own_leftovers(&v, &entry, pattern));
+            } else {
+                next.push(entry);
+            }
+            for entry in &next[from..] {
+                bytes += 1 + length(entry);
+                if bytes > 32_768 || 1 + length(entry) > 4096 {
+                    return too_long;
+                }
+            }
+        }
+        entries = next;
+    }
+    let bytes = entries.iter().map(|entry| {
+        let mut bytes = vec![book[1]];
+        write(entry, &mut bytes);
+        bytes
+    });
+    Ok(bytes.collect())
+}
+
+pub fn list_book(v: &[u8], book: &[u8], out: &mut [u8]) -> Reply {
+    let entries = match book_entries(v, book) {
+        Ok(entries) => entries,
+        Err(refusal) => return refusal,
+    };
+    let whole = entries.concat();
+    if whole.len() > out.len() {
+        return [20, 3, whole.len() as u64];
+    }
+    out[..whole.len()].copy_from_slice(&whole);
+    [0, entries.len() as u64, whole.len() as u64]
 }
 
 pub fn program(input: &[u8]) -> String {
