@@ -10,6 +10,7 @@
 use mathlib.Core.Path.{_≡_, refl, sym, ap, subst, _∙_}
 use mathlib.Core.Bool.{Bool, true, false, not, cond, true≢false}
 use mathlib.Core.List.{List, [], _∷_, _++_}
+use mathlib.Core.Logic.{inl, inr}
 use Prim.Native.Nat.{ℕ, _+_, _-_, _<_, _≤_, min}
 use native.Mathlib.Decide.{decLt}
 use native.Mathlib.Omega.{arith}
@@ -18,13 +19,14 @@ use lib.ListN.{length, getD, take, drop, length-take, length-drop, length-append
 use lib.Seq.{take-all, take-take, take-at, drop-append-le}
 use Rattle.terms.specs.Term.{Consistent}
 use Rattle.terms.proofs.All.{all-take, all-drop}
-use Rattle.wire.specs.Reply.{IsBytes, Kinded, kinded}
+use Rattle.wire.specs.Reply.{IsBytes, Kinded, kinded, outside, Outside}
 use Rattle.wire.specs.Vocabulary.{Vocabulary, InOrder}
 use Rattle.wire.specs.TermBytes.{encodeTerm, leastBytes, mostBytes, mostLevels}
 use Rattle.wire.specs.Parser.{Got, got, stop, Read, readTerm}
 use Rattle.wire.specs.Scan.{Scanned, tallied}
 use Rattle.wire.specs.BookComputed.{behindWindow, frontOf, readFront}
 use Rattle.wire.proofs.Cond.{cond-true, cond-false, choice}
+use Rattle.wire.proofs.Outside.{outside-true}
 use Rattle.wire.proofs.ReadWrite.{Reads, term-reads}
 use Rattle.wire.proofs.Scan.{scan-reads}
 use borrow.Author.Tests.{lt-ltb, le-ltb}
@@ -99,6 +101,14 @@ module _ (b : List ℕ) where
   window-inside : (n : ℕ) → n ≤ length t → n ≤ length b
   window-inside n h = omega (arith, size)
 
+  -- A window is never too long.
+  window-short : outside leastBytes mostBytes (length t) ≡ true → length b < leastBytes
+  window-short e = go (outside-true leastBytes mostBytes (length t) e)
+    where
+      go : Outside leastBytes mostBytes (length t) → length b < leastBytes
+      go (inl h) = omega (arith, size)
+      go (inr h) = absurd (omega (arith, size))
+
   -- What is written in front of the bytes left of the window.
   front-taken : (n : ℕ) → n ≤ length t → (l r : List ℕ) → t ≡ l ++ r → drop n t ≡ r → take n b ≡ l
   front-taken n h l r written left =
@@ -121,9 +131,9 @@ module _ (b : List ℕ) where
     front-stopped : stop n r ≡ frontRun W t → readFront W b ≡ frontOf b 0 (stop n r)
     front-stopped =
         front-cases W t (λ g. stop n r ≡ g → readFront W b ≡ frontOf b 0 (stop n r))
-        (λ h e. read-short W b (omega (arith, size)) ∙ ap (stop 7) (sym (behind 0 (omega arith))) ∙ ap (λ g. frontOf b 0 (stoppedOf g)) (sym e))
-        (λ long h e. read-kind W b (window-inside leastBytes long) h ∙ ap (stop 8) (sym (behind 0 (omega arith))) ∙ ap (λ g. frontOf b 0 (stoppedOf g)) (sym e))
-        (λ long h e. read-known W b (window-inside leastBytes long) h ∙ same-stop (termOf W b) (e ∙ scan-reads W (getD t 0 0) [] (drop 1 t)))
+        (λ h e. read-short W b (window-short h) ∙ ap (stop 7) (sym (behind 0 (omega arith))) ∙ ap (λ g. frontOf b 0 (stoppedOf g)) (sym e))
+        (λ long short h e. read-kind W b (window-inside leastBytes long) h ∙ ap (stop 8) (sym (behind 0 (omega arith))) ∙ ap (λ g. frontOf b 0 (stoppedOf g)) (sym e))
+        (λ long short h e. read-known W b (window-inside leastBytes long) h ∙ same-stop (termOf W b) (e ∙ scan-reads W (getD t 0 0) [] (drop 1 t)))
 
   -- Of the numbers of refusals 9 alone is judged by how many bytes are left.
   ends-stop : (q : ℕ) → q ≤ length t → (c : Bool) →
@@ -190,8 +200,8 @@ module _ (W : Vocabulary) (inOrder : InOrder W) (n : ℕ) (y : Scanned) where
   scan-fronted [] bytes inside e = absurd (got-never e)
   scan-fronted (s ∷ l) bytes inside e =
       front-cases W (window (s ∷ l)) (λ g. got y (drop n (window (s ∷ l))) ≡ g → Fronted W (s ∷ l) n)
-      (λ h e. absurd (got-never e)) (λ long h e. absurd (got-never e))
-      (λ long known e. read-fronted s l inside (window-inside (s ∷ l) leastBytes long) known (termOf W (s ∷ l))
+      (λ h e. absurd (got-never e)) (λ long short h e. absurd (got-never e))
+      (λ long short known e. read-fronted s l inside (window-inside (s ∷ l) leastBytes long) known (termOf W (s ∷ l))
       (term-reads W inOrder mostLevels true s [] (drop 1 (window (s ∷ l))) (all-take (λ b. b < 256) mostBytes (s ∷ l) bytes .1))
       (e ∙ scan-reads W s [] (drop 1 (window (s ∷ l)))) refl) e
 

@@ -26,3 +26,5 @@ pub mod Files
 -- A book.
 pub mod Fronts
 pub mod Books
+-- The replies that refuse.
+pub mod Refused

@@ -18,9 +18,9 @@ use Rattle.terms.specs.Term.{names as namesOf}
 use Rattle.terms.proofs.All.{all-implies}
 use Rattle.terms.proofs.Occurs.{all-other}
 use Rattle.terms.proofs.Term.{names-occurrences, occurrences-sorts}
-use Rattle.wire.specs.Reply.{Kinded, kinded}
+use Rattle.wire.specs.Reply.{IsBytes, Kinded, kinded}
 use Rattle.wire.specs.Vocabulary.{Vocabulary, InOrder, signature}
-use Rattle.wire.specs.TermBytes.{nameCount, leastBytes, mostLevels}
+use Rattle.wire.specs.TermBytes.{nameCount, leastBytes, mostBytes, mostLevels}
 use Rattle.wire.specs.Parser.{accept, refuse, Got, got, stop, Read, clash, line15, readTerm}
 use Rattle.wire.specs.CheckComputed.{checkedTerm}
 use Rattle.wire.specs.Scan.{Scanned, tallied}
@@ -36,7 +36,7 @@ use Rattle.reader.specs.Whole.{toldBy, told, wholeTold, WholeRead}
 use Rattle.reader.specs.declared.cursor.Cursor.{Cursor}
 use Rattle.reader.specs.declared.whole.Whole.{Whole}
 use Rattle.reader.proofs.Names.{named-clash}
-use Rattle.reader.proofs.Told.{Sized, told-short, told-kind, front-cases, checked-root}
+use Rattle.reader.proofs.Told.{told-size, told-kind, front-cases, checked-root}
 
 -- ---- entries
 
@@ -150,7 +150,7 @@ module _ (W : Vocabulary) (names : List ℕ) (seen : List Occurrence) (named : N
       (table-of W inOrder s (a .term) known (record { sorted = h .sorted; consistent = subst Consistent (h .came) (h .agrees tt) }) names
       (subst (Named names) (e ∙ h .came) named))
 
-  module _ (t : List ℕ) (x : Sized W t) where
+  module _ (t : List ℕ) (inOrder : InOrder W) (bytes : IsBytes t) where
     abbrev Tells : Got Scanned → Type 0
     Tells g = seen ≡ seenIn g → (k : Kinded) → checkedTerm W t ≡ accept k → TableOf W (k .kind) (k .term) names
 
@@ -159,17 +159,19 @@ module _ (W : Vocabulary) (names : List ℕ) (seen : List Occurrence) (named : N
 
     pub whole-table : Tells (frontRun W t)
     whole-table =
-        front-cases W t Tells (λ h. refused-tells (stop 7 t) (told-short W t h)) (λ long h. refused-tells (stop 8 t) (told-kind W t long (x .short) h))
-        (go t x)
+        front-cases W t Tells (λ e. refused-tells (stop 7 t) (told-size W t e))
+        (λ long short h. refused-tells (stop 8 t) (told-kind W t long short h)) (go t bytes)
       where
-        go : (t : List ℕ) → Sized W t → leastBytes ≤ length t → getD t 0 0 < W .kinds →
+        go : (t : List ℕ) → IsBytes t → leastBytes ≤ length t → length t ≤ mostBytes → getD t 0 0 < W .kinds →
             seen ≡ seenIn (rootRun W t) → (k : Kinded) → checkedTerm W t ≡ accept k → TableOf W (k .kind) (k .term) names
-        go [] x long known e k f = absurd (omega arith)
-        go (s ∷ l) x long known e k f =
-            read-table s l (x .inOrder) known (readTerm W mostLevels true s [] l)
-            (term-reads W (x .inOrder) mostLevels true s [] l (x .bytes .1)) (e ∙ ap seenIn (scan-reads W s [] l)) k
-            (sym (checked-root W s l long (x .short) known) ∙ f)
+        go [] bytes long short known e k f = absurd (omega arith)
+        go (s ∷ l) bytes long short known e k f =
+            read-table s l inOrder known (readTerm W mostLevels true s [] l)
+            (term-reads W inOrder mostLevels true s [] l (bytes .1)) (e ∙ ap seenIn (scan-reads W s [] l)) k
+            (sym (checked-root W s l long short known) ∙ f)
 
 -- Where reading ended, what it told and the table that it left.
-pub whole-read : {W : Vocabulary} {t names : List ℕ} {c : Cursor} {r : Whole} → wholeTold r ≡ told W t → Sized W t → Ends t names c (frontRun W t) → WholeRead W t names r
-whole-read {W} {t} {names} e x ends = record { told = e; table = whole-table W names (ends .seen) (ends .named) t x (ap seenIn (ends .same)) }
+pub whole-read : {W : Vocabulary} {t names : List ℕ} {c : Cursor} {r : Whole} → wholeTold r ≡ told W t → InOrder W → IsBytes t →
+    Ends t names c (frontRun W t) → WholeRead W t names r
+whole-read {W} {t} {names} e inOrder bytes ends =
+    record { told = e; table = whole-table W names (ends .seen) (ends .named) t inOrder bytes (ap seenIn (ends .same)) }

@@ -2,10 +2,10 @@
 --
 --   gapBack n o            a gap by the number of the n bytes from it on, as an offset; n where there is none
 --   toldScan t g           what the scan g of the term t behind its kind byte tells
---   told-short, told-long, told-kind    what is told where the size or the kind is wrong
+--   told-size, told-kind   what is told where the size or the kind is wrong
 --   checked-root           where they are in order reading the term decides
---   front-short, front-kind, front-known, front-cases, front-read    what is read in front of t, by its size and its kind
---   Sized                  t is not too long
+--   front-short, front-long, front-kind, front-known, front-cases, front-read    what is read in front of t, by its size and its
+--                          kind
 --   told-fault, told-continues, told-read    what is told where reading what stands in front ends so
 --   refusal-reply          the reply that a refusal gives
 --   told-refused, told-accepted    the reply of checking a term that tells this
@@ -32,7 +32,7 @@ use Rattle.wire.specs.SituationComputed.{firstGap}
 use Rattle.wire.specs.Scan.{Scanned, gapHere, leftFrom, tallied}
 use Rattle.wire.proofs.Bytes.{offset-drop}
 use Rattle.wire.proofs.Cond.{cond-true, cond-false, choice}
-use Rattle.wire.proofs.Outside.{inside-outside}
+use Rattle.wire.proofs.Outside.{outside-false, inside-outside}
 use Rattle.wire.proofs.ReadWrite.{Reads, term-reads}
 use Rattle.wire.proofs.Scan.{scan-reads}
 use Rattle.wire.proofs.ScanGap.{Near, whole-gap, whole-near}
@@ -105,14 +105,8 @@ module _ (t : List ℕ) (at : ℕ) where
 -- ---- the size and the kind
 
 module _ (W : Vocabulary) (t : List ℕ) where
-  size-told : outside 2 mostBytes (length t) ≡ true → refuse 7 0 ≡ told W t
-  size-told e = ap (toldBy W (length t)) (sym (cond-true (outside 2 mostBytes (length t)) (refuse 7 0) (readWhole W mostLevels t) e))
-
-  pub told-short : length t < 2 → refuse 7 0 ≡ told W t
-  told-short h = size-told (or-left (ltb (length t) 2) (ltb mostBytes (length t)) (lt-ltb (length t) 2 h))
-
-  pub told-long : mostBytes < length t → refuse 7 0 ≡ told W t
-  told-long h = size-told (or-right (ltb (length t) 2) (ltb mostBytes (length t)) (lt-ltb mostBytes (length t) h))
+  pub told-size : outside leastBytes mostBytes (length t) ≡ true → refuse 7 0 ≡ told W t
+  told-size e = ap (toldBy W (length t)) (sym (cond-true (outside leastBytes mostBytes (length t)) (refuse 7 0) (readWhole W mostLevels t) e))
 
   checked-sized : 2 ≤ length t → length t ≤ mostBytes → checkedTerm W t ≡ readWhole W mostLevels t
   checked-sized long short =
@@ -149,54 +143,55 @@ checked-root W s l long short known = checked-sized W (s ∷ l) long short ∙ k
 -- ---- what is read in front
 
 module _ (W : Vocabulary) (t : List ℕ) where
-  pub front-short : length t < leastBytes → stop 7 t ≡ frontRun W t
-  front-short h = sym (cond-true (ltb (length t) leastBytes) _ _ (lt-ltb (length t) leastBytes h))
+  front-size : outside leastBytes mostBytes (length t) ≡ true → stop 7 t ≡ frontRun W t
+  front-size e = sym (cond-true (outside leastBytes mostBytes (length t)) _ _ e)
 
-  module _ (long : leastBytes ≤ length t) where
-    front-long : frontRun W t ≡ cond (ltb (getD t 0 0) (W .kinds)) (rootRun W t) (stop 8 t)
-    front-long = cond-false (ltb (length t) leastBytes) _ _ (le-ltb (length t) leastBytes long)
+  pub front-short : length t < leastBytes → stop 7 t ≡ frontRun W t
+  front-short h = front-size (or-left (ltb (length t) leastBytes) (ltb mostBytes (length t)) (lt-ltb (length t) leastBytes h))
+
+  pub front-long : mostBytes < length t → stop 7 t ≡ frontRun W t
+  front-long h = front-size (or-right (ltb (length t) leastBytes) (ltb mostBytes (length t)) (lt-ltb mostBytes (length t) h))
+
+  module _ (long : leastBytes ≤ length t) (short : length t ≤ mostBytes) where
+    front-sized : frontRun W t ≡ cond (ltb (getD t 0 0) (W .kinds)) (rootRun W t) (stop 8 t)
+    front-sized = cond-false (outside leastBytes mostBytes (length t)) _ _ (inside-outside leastBytes mostBytes (length t) long short)
 
     pub front-kind : W .kinds ≤ getD t 0 0 → stop 8 t ≡ frontRun W t
-    front-kind h = sym (front-long ∙ cond-false (ltb (getD t 0 0) (W .kinds)) _ _ (le-ltb (getD t 0 0) (W .kinds) h))
+    front-kind h = sym (front-sized ∙ cond-false (ltb (getD t 0 0) (W .kinds)) _ _ (le-ltb (getD t 0 0) (W .kinds) h))
 
     pub front-known : getD t 0 0 < W .kinds → rootRun W t ≡ frontRun W t
-    front-known h = sym (front-long ∙ cond-true (ltb (getD t 0 0) (W .kinds)) _ _ (lt-ltb (getD t 0 0) (W .kinds) h))
+    front-known h = sym (front-sized ∙ cond-true (ltb (getD t 0 0) (W .kinds)) _ _ (lt-ltb (getD t 0 0) (W .kinds) h))
 
-  pub front-cases : (P : Got Scanned → Type 0) → (length t < leastBytes → P (stop 7 t)) →
-      (leastBytes ≤ length t → W .kinds ≤ getD t 0 0 → P (stop 8 t)) →
-      (leastBytes ≤ length t → getD t 0 0 < W .kinds → P (rootRun W t)) → P (frontRun W t)
-  front-cases P short kind known =
-      choice P (ltb (length t) leastBytes) (stop 7 t) _ (λ e. short (ltb-true (length t) leastBytes e))
+  pub front-cases : (P : Got Scanned → Type 0) → (outside leastBytes mostBytes (length t) ≡ true → P (stop 7 t)) →
+      (leastBytes ≤ length t → length t ≤ mostBytes → W .kinds ≤ getD t 0 0 → P (stop 8 t)) →
+      (leastBytes ≤ length t → length t ≤ mostBytes → getD t 0 0 < W .kinds → P (rootRun W t)) → P (frontRun W t)
+  front-cases P size kind known =
+      choice P (outside leastBytes mostBytes (length t)) (stop 7 t) _ size
       (λ e.
-      let long = ltb-false (length t) leastBytes e in
-      choice P (ltb (getD t 0 0) (W .kinds)) (rootRun W t) (stop 8 t) (λ f. known long (ltb-true (getD t 0 0) (W .kinds) f))
-      (λ f. kind long (ltb-false (getD t 0 0) (W .kinds) f)))
+      let h = outside-false leastBytes mostBytes (length t) e in
+      choice P (ltb (getD t 0 0) (W .kinds)) (rootRun W t) (stop 8 t) (λ f. known (h .0) (h .1) (ltb-true (getD t 0 0) (W .kinds) f))
+      (λ f. kind (h .0) (h .1) (ltb-false (getD t 0 0) (W .kinds) f)))
 
 -- The term behind the kind, read from a blank table of names on.
-pub front-read : (v t : List ℕ) {names : List ℕ} (names′ : List ℕ) (r : Answer) → leastBytes ≤ length t → getD t 0 0 < vocabularyIn v .kinds → names ≡ replicate 64 65535 →
+pub front-read : (v t : List ℕ) {names : List ℕ} (names′ : List ℕ) (r : Answer) → leastBytes ≤ length t → length t ≤ mostBytes → getD t 0 0 < vocabularyIn v .kinds → names ≡ replicate 64 65535 →
     TermRead v t 1 (getD t 0 0) names names′ r → FrontRead v t names′ r
-front-read v t names′ r long known blank reads =
-    subst (λ g. Answers t names′ g r) (front-known (vocabularyIn v) t long known) (reads [] (subst (λ l. Named l []) (sym blank) named-none))
+front-read v t names′ r long short known blank reads =
+    subst (λ g. Answers t names′ g r) (front-known (vocabularyIn v) t long short known) (reads [] (subst (λ l. Named l []) (sym blank) named-none))
 
 -- ---- where reading what stands in front ends
 
-pub record Sized (W : Vocabulary) (t : List ℕ) : Type 0 where
-  pub inOrder : InOrder W
-  pub bytes : IsBytes t
-  pub short : length t ≤ mostBytes
-
-told-front : (W : Vocabulary) (t : List ℕ) → Sized W t → toldScan t (frontRun W t) ≡ told W t
-told-front W t x =
-    front-cases W t (λ g. toldScan t g ≡ told W t) (λ h. ap (refuse 7) begins ∙ told-short W t h)
-    (λ long h. ap (refuse 8) begins ∙ told-kind W t long (x .short) h)
-    (λ long h. kind-known W t (x .inOrder) (x .bytes) long h ∙ sized W t long (x .short))
+told-front : (W : Vocabulary) (t : List ℕ) → InOrder W → IsBytes t → toldScan t (frontRun W t) ≡ told W t
+told-front W t inOrder bytes =
+    front-cases W t (λ g. toldScan t g ≡ told W t) (λ e. ap (refuse 7) begins ∙ told-size W t e)
+    (λ long short h. ap (refuse 8) begins ∙ told-kind W t long short h)
+    (λ long short h. kind-known W t inOrder bytes long h ∙ sized W t long short)
   where
     begins : offset t t ≡ 0
     begins = offset-drop t t 0 refl (omega arith)
 
-module _ (v t names : List ℕ) (r : Answer) (x : Sized (vocabularyIn v) t) (reads : FrontRead v t names r) where
+module _ (v t names : List ℕ) (r : Answer) (inOrder : InOrder (vocabularyIn v)) (bytes : IsBytes t) (reads : FrontRead v t names r) where
   told-run : toldScan t (frontRun (vocabularyIn v) t) ≡ told (vocabularyIn v) t
-  told-run = told-front (vocabularyIn v) t x
+  told-run = told-front (vocabularyIn v) t inOrder bytes
 
   answer : {y : Answer} → r ≡ y → Answers t names (frontRun (vocabularyIn v) t) y
   answer e = subst (Answers t names (frontRun (vocabularyIn v) t)) e reads

@@ -24,8 +24,9 @@ use Prim.Native.Nat.{ℕ, suc, _<_, _≤_}
 use lib.Dec.{ltb}
 use lib.ListN.{length, getD, drop, replicate}
 use Rattle.terms.specs.Term.{Occurrence}
+use Rattle.wire.specs.Reply.{outside}
 use Rattle.wire.specs.Vocabulary.{Vocabulary}
-use Rattle.wire.specs.TermBytes.{wholeByte, leastBytes}
+use Rattle.wire.specs.TermBytes.{wholeByte, leastBytes, mostBytes}
 use Rattle.wire.specs.TermLines.{Due}
 use Rattle.wire.specs.Parser.{Got, got, stop}
 use Rattle.wire.specs.Scan.{Scanned, run, rootDue, noTally}
@@ -115,7 +116,7 @@ abbrev pub rootRun : Vocabulary → List ℕ → Got Scanned
 rootRun W t = run W (rootDue (getD t 0 0) ∷ []) [] noTally (drop 1 t)
 
 abbrev pub frontRun : Vocabulary → List ℕ → Got Scanned
-frontRun W t = cond (ltb (length t) leastBytes) (stop 7 t) (cond (ltb (getD t 0 0) (W .kinds)) (rootRun W t) (stop 8 t))
+frontRun W t = cond (outside leastBytes mostBytes (length t)) (stop 7 t) (cond (ltb (getD t 0 0) (W .kinds)) (rootRun W t) (stop 8 t))
 
 abbrev pub FrontRead : List ℕ → List ℕ → List ℕ → Reading → Type 0
 FrontRead v t names r = Answers t names (frontRun (vocabularyIn v) t) r

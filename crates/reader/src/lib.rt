@@ -221,13 +221,14 @@ pub fn read_filling(
 pub fn read_book(vocabulary: &[u8], book: &[u8], results: &mut [u8; 96]) -> BookAnswer
     ensures { λ r. ⌜ BookRead (now (vocabulary .entry)) (now (book .entry)) (now (results .entry)) (now (results .exit)) r ⌝ }
 {
-    let mut records = [0u16; 96];
+    let mut offsets = [0u16; 96];
     let mut maps = [0u8; 96];
-    match signature::load(vocabulary, &mut records, results, &mut maps) {
+    let loaded = signature::load(vocabulary, &mut offsets, results, &mut maps);
+    match loaded {
         VocabularyAnswer::Refused(why) => BookAnswer::Vocabulary(why),
         VocabularyAnswer::Accepted => {
             let words = node::wide(vocabulary[1]);
-            book::read(vocabulary, book, words, &records, results, &maps)
+            book::read(vocabulary, book, words, &offsets, results, &maps)
         }
     }
 }

@@ -23,8 +23,8 @@ pub(crate) enum Whole {
     Refused(TermRefusal),
 }
 
-// Reads a kind and the term of that kind behind it. The table, blank before, tells at the end at which kind each name of the
-// term stands. Bytes may follow the term.
+// Reads a kind and the term of that kind behind it, in at most 4,096 bytes. The table, blank before, tells at the end at which
+// kind each name of the term stands. Bytes may follow the term.
 pub(crate) fn read_front<'a>(
     v: &[u8],
     t: &[u8],
@@ -39,6 +39,9 @@ pub(crate) fn read_front<'a>(
     ensures { λ r. ⌜ FrontRead (now (v .entry)) (now (t .entry)) (now (names .exit)) r ⌝ }
 {
     if t.len() < 2 {
+        return Reading::Fault(TermRefusal::Size);
+    }
+    if 4096 < t.len() {
         return Reading::Fault(TermRefusal::Size);
     }
     let kind = t[0];
@@ -63,9 +66,6 @@ pub(crate) fn read_named<'a>(
     requires { ⌜ now names ≡ replicate 64 65535 ⌝ }
     ensures { λ r. ⌜ WholeRead (vocabularyIn (now (v .entry))) (now (t .entry)) (now (names .exit)) r ⌝ }
 {
-    if 4096 < t.len() {
-        return Whole::Refused(TermRefusal::Size);
-    }
     match read_front(v, t, names, words, offsets, results, maps) {
         Reading::Fault(why) => Whole::Refused(why),
         Reading::Read(c) => {
