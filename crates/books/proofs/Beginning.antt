@@ -1,6 +1,7 @@
 -- Beginning: the first turn of a book.
 --
---   book-count, book-kind        the count and the first kind byte of a book that is accepted
+--   book-kind, book-length       the first kind byte of a book that is accepted, and that it has one
+--   small-areas, large-areas     the areas are long enough: no pattern is longer than its book, nor than 4,096 bytes
 --   first-turn, first-listed     where the first turn begins, and that its answer is the book's
 --
 use mathlib.Core.Path.{_≡_, refl, sym, ap, _∙_, subst}
@@ -8,36 +9,37 @@ use mathlib.Core.List.{List, [], _∷_}
 use mathlib.Core.Option.{some}
 use Prim.Native.Nat.{ℕ, _+_, _≤_, min}
 use native.Mathlib.Omega.{arith}
-use native.Mathlib.Nat.{min-eq-left}
 use lib.ListN.{length, getD, take, drop, set, length-append, length-set}
 use Rattle.terms.specs.Lists.{All}
 use Rattle.terms.specs.Term.{Term, any}
 use Rattle.terms.proofs.All.{all-implies}
 use Rattle.wire.specs.Effect.{HasEffect}
-use Rattle.wire.specs.Vocabulary.{Vocabulary, mostWords}
+use Rattle.wire.specs.Vocabulary.{Vocabulary}
 use Rattle.wire.specs.TermBytes.{encodeTerm, levels, mostBytes}
 use Rattle.wire.specs.BookBytes.{patternsBytes, Listable}
-use Rattle.kinds.specs.Kinds.{Chained}
-use Rattle.signature.specs.Tables.{Tabled}
-use Rattle.books.specs.Striking.{EntryOf, PatternOf}
+use Rattle.wire.specs.BookLeftovers.{mostListed}
+use Rattle.cuts.specs.Entries.{EntryOf, PatternOf}
 use Rattle.slices.proofs.Writing.{part, part-is}
-use Rattle.books.specs.Turning.{turnNumbers, turned, TurnAt, Turns, BookAt, AreasFor}
+use Rattle.books.specs.Turning.{turnNumbers, turned, TurnAt, Turns, ReadAt, AreasFor}
 use Rattle.books.specs.declared.turns.Turned.{Turned}
+
+pub small-areas : (book : List ℕ) → length book ≤ 256 → AreasFor book 1024 1024 1280 256
+small-areas book h = record { span = 256; same = refl; some = omega arith; spans = omega arith; copy = omega arith; small = omega arith; marks = omega arith }
+
+pub large-areas : (book : List ℕ) → AreasFor book mostListed mostListed 8192 4096
+large-areas book = record { span = 4096; same = refl; some = omega arith; spans = omega arith; copy = omega arith; small = omega arith; marks = omega arith }
 
 stored-two : (l : List ℕ) (a b : ℕ) → 2 ≤ length l → take 2 (set (set l 0 a) 1 b) ≡ a ∷ b ∷ []
 stored-two [] a b h = absurd (omega arith)
 stored-two (x ∷ []) a b h = absurd (omega arith)
 stored-two (x ∷ y ∷ l) a b h = refl
 
-module _ {book results : List ℕ} {words : ℕ} (h : BookAt book words results) where
+module _ {book siblings : List ℕ} (h : ReadAt book siblings) where
   abbrev W : Vocabulary
   W = h .vocabulary
 
   abbrev s : ℕ
   s = h .kind
-
-  pub book-count : getD book 0 0 ≡ length (h .patterns)
-  book-count = ap (λ l. getD l 0 0) (h .held .written)
 
   rest : drop 1 book ≡ patternsBytes W s (h .patterns)
   rest = ap (drop 1) (h .held .written)
@@ -73,29 +75,24 @@ module _ {book results : List ℕ} {words : ℕ} (h : BookAt book words results)
       (omega arith, spans-in span l (omega arith) (g .1))
 
   -- The kind and 255, the entry that is all there is at first, are stored.
-  module _ (near : List ℕ) {far copied marked : ℕ} (areas : AreasFor book (length near) far copied marked) (chains : List ℕ) (chained : Chained (min words mostWords) results chains) where
+  module _ (near : List ℕ) {far copied marked : ℕ} (areas : AreasFor book (length near) far copied marked) where
     abbrev begun : List ℕ
     begun = set (set near 0 (getD book 1 0)) 1 255
 
     pub begun-length : length begun ≡ length near
     begun-length = length-set (set near 0 (getD book 1 0)) 1 255 ∙ length-set near 0 (getD book 1 0)
 
-    pub first-turn : TurnAt (part 1 book) (getD book 0 0) begun 2 1 far copied marked words results chains
+    pub first-turn : TurnAt (part 1 book) 0 begun 2 1 far copied marked siblings
     first-turn = record {
       vocabulary = W;
       kind = s;
       es = any ∷ [];
       ts = h .patterns;
       span = areas .span;
-      known = h .tabled .words;
-      tables = record {
-        inOrder = h .inOrder;
-        tabled = subst (λ n. Tabled W n results) (h .tabled .words) (h .tabled);
-        chained = subst (λ n. Chained n results chains) (min-eq-left few ∙ h .tabled .words) chained;
-      };
+      tables = h .tables;
       entriesOf = (whole-of, tt);
       patternsOf = patterns;
-      count = book-count;
+      few = let k = h .held .few in omega arith;
       stands = part-is 1 book ∙ rest;
       area = stored-two near (getD book 1 0) 255 (areas .some) ∙ ap (λ k. k ∷ 255 ∷ []) book-kind;
       inside = let k = areas .some in let l = begun-length in omega arith;
@@ -107,14 +104,11 @@ module _ {book results : List ℕ} {words : ℕ} (h : BookAt book words results)
       marks = areas .marks;
     }
       where
-        few : words ≤ mostWords
-        few = let w = h .tabled .words in let k = h .inOrder .fewWords in omega arith
-
         patterns : All (PatternOf W s) (h .patterns)
         patterns = all-implies (Listable W s) (PatternOf W s) pattern-of (h .patterns) (h .held .patterns)
 
     pub first-listed : (out after : List ℕ) (r : Turned) →
-        Turns (part 1 book) 0 (getD book 0 0) begun 2 1 far copied marked words results chains out after r →
+        Turns (part 1 book) 0 begun 2 1 far copied marked siblings out after r →
         HasEffect (turned W s (length near) 0 (any ∷ []) (h .patterns) out) (turnNumbers r) after
     unfolding first-turn
     first-listed out after r turns =

@@ -1,6 +1,5 @@
 -- Calls: the whole call from its parts.
 --
---   vocabulary-refuses, book-refuses    the reply for a vocabulary or a book that is refused refuses
 --   book-refused          where reading the inputs refuses, so does list_book, in the same way
 --   some-bytes            an accepted vocabulary has a word count
 --   book-at, book-listed  the call where both are accepted
@@ -20,48 +19,11 @@ use Rattle.wire.specs.BookComputed.{Book, readBook, BookJudged, listable, unlis
 use Rattle.wire.proofs.Bytes.{bytes-of}
 use Rattle.wire.proofs.VocabulariesInverse.{vocabularies-inverse}
 use Rattle.wire.proofs.Theorems.{books-inverse, book-keeps}
-use Rattle.signature.specs.Answers.{vocabularyRefused}
-use Rattle.signature.specs.declared.VocabularyRefusal.{VocabularyRefusal}
-use Rattle.signature.specs.declared.VocabularyRefusal.the-variants.{Head, WordCount, Ends, NoSuchKind, Continues, EmptyKind}
 use Rattle.signature.specs.Tables.{wordsBefore, resultsOf, laid}
 use Rattle.signature.proofs.Accepted.{laid-tabled}
-use Rattle.reader.specs.Answers.{termRefusedAt, bookRefused}
-use Rattle.reader.specs.declared.refusal.TermRefusal.{TermRefusal}
-use Rattle.reader.specs.declared.refusal.TermRefusal.the-variants as T
-use Rattle.reader.specs.declared.book.BookRefusal.{BookRefusal}
-use Rattle.reader.specs.declared.book.BookRefusal.the-variants as B
+use Rattle.reader.proofs.Refused.{Refuses}
 use Rattle.books.specs.Turning.{BookAt}
 use Rattle.books.specs.Calls.{ListsBook}
-
-abbrev pub Refuses : Reply → Type 0
-Refuses (accepted l) = ⊥
-Refuses (refused n i q) = Unit {0}
-
-pub vocabulary-refuses : (why : VocabularyRefusal) → Refuses (vocabularyRefused why)
-vocabulary-refuses Head = tt
-vocabulary-refuses WordCount = tt
-vocabulary-refuses (Ends q) = tt
-vocabulary-refuses (NoSuchKind q) = tt
-vocabulary-refuses (Continues q) = tt
-vocabulary-refuses (EmptyKind k) = tt
-
-term-refuses : (input at : ℕ) (why : TermRefusal) → Refuses (termRefusedAt input at why)
-term-refuses input at T.Size = tt
-term-refuses input at T.NoSuchKind = tt
-term-refuses input at (T.Ends q) = tt
-term-refuses input at (T.TooDeep q) = tt
-term-refuses input at (T.NoWordOrName q) = tt
-term-refuses input at (T.WrongKind q) = tt
-term-refuses input at (T.Clashes q) = tt
-term-refuses input at (T.StrayBit q) = tt
-term-refuses input at (T.Continues q) = tt
-
-pub book-refuses : (why : BookRefusal) → Refuses (bookRefused why)
-book-refuses B.Count = tt
-book-refuses (B.Pattern at why) = term-refuses 5 at why
-book-refuses (B.Repeated q) = tt
-book-refuses (B.OtherKind q) = tt
-book-refuses (B.Continues q) = tt
 
 -- The inputs that are judged to be in order are read so.
 record Found (v b : List ℕ) : Type 0 where
@@ -129,6 +91,8 @@ module _ (v b before : List ℕ) (vocabularyBytes : (i : ℕ) → getD v i 0 < 2
         held = books-inverse W b (x .kind) (x .patterns) (held .good .inOrder) bb .0 (found .reads);
       }
 
-      pub book-listed : {r : Reply} {after : List ℕ} → ListsBook b words results before after r → BookPromise v b before after r
+      pub book-listed : {r r′ : Reply} {after : List ℕ} → r ≡ r′ → ListsBook b words results before after r′ → BookPromise v b before after r
       unfolding book-at
-      book-listed {r} {after} s = promised (subst (λ l. HasEffect l r after) (sym (ap (bookWith before) (found .judged))) (s book-at))
+      book-listed {r} {r′} {after} same s =
+          subst (λ l. BookPromise v b before after l) (sym same)
+          (promised (subst (λ l. HasEffect l r′ after) (sym (ap (bookWith before) (found .judged))) (s book-at)))

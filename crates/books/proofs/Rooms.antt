@@ -1,15 +1,20 @@
 -- Rooms: what a book's turns by areas of some size answer of the whole.
 --
+--   read-at            a book that is accepted, and the table of siblings
 --   large-listed       areas as large as the entries may be
+--   not-past           an answer that is none of line 26
 --   small-listed       smaller ones, where the entries have room in them
 --   past-listed        and where they have none there, large ones behind them: the lent slice is as before
 --
 use mathlib.Core.Path.{_≡_, refl, sym, ap, ap₂, _∙_, subst}
 use mathlib.Core.Bool.{Bool, true, false, _||_, cond, true≢false, false≢true}
 use mathlib.Core.List.{List, [], _∷_}
+use mathlib.Core.Logic.{_⊎_, inl, inr}
 use mathlib.Core.Option.{Option, some, none, Option·some-ne-none}
-use Prim.Native.Nat.{ℕ, suc, _≤_}
+use Prim.Native.Nat.{ℕ, suc, _≤_, min}
+use native.Mathlib.Nat.{min-eq-left}
 use native.Mathlib.Omega.{arith}
+use denote.Enum.Declared.{tagOf}
 use lib.Dec.{ltb, leb, eqb}
 use lib.ListN.{length}
 use borrow.Author.Tests.{le-ltb, ltb-false}
@@ -18,16 +23,19 @@ use Rattle.terms.specs.Book.{against, behind}
 use Rattle.terms.proofs.Bools.{or-parts}
 use Rattle.wire.specs.Reply.{Reply, accepted, refused}
 use Rattle.wire.specs.Effect.{Effect, HasEffect}
-use Rattle.wire.specs.Vocabulary.{Vocabulary, signature}
+use Rattle.wire.specs.Vocabulary.{Vocabulary, signature, mostWords}
+use Rattle.kinds.specs.Kinds.{SiblingTable}
+use Rattle.signature.specs.Tables.{Tabled}
 use Rattle.wire.specs.BookBytes.{patternsBytes}
 use Rattle.wire.specs.BookLeftovers.{mostListed}
 use Rattle.wire.specs.ListComputed.{listedInto}
 use Rattle.wire.specs.BookComputed.{someLong, passes, firstPast, bookInto}
 use Rattle.wire.proofs.Cond.{cond-false, choice}
-use Rattle.books.specs.Turning.{turnNumbers, turnedBy, turned, ListsIn}
+use Rattle.books.specs.Turning.{turnNumbers, turnedBy, BookAt, ReadAt, ListsIn}
 use Rattle.books.specs.Calls.{ListsBook}
 use Rattle.books.specs.declared.turns.Turned.{Turned}
-use Rattle.books.specs.declared.turns.Turned.the-variants.{Past}
+use Rattle.books.specs.declared.turns.Turned.the-variants.{Listed, NoRoom, Past}
+use Rattle.books.proofs.turns.Turned.{the-type}
 
 -- ---- larger areas
 
@@ -57,6 +65,13 @@ abbrev isPast : Reply → Bool
 isPast (accepted l) = false
 isPast (refused n i q) = eqb n 26
 
+-- A turn that ends by another variant.
+pub not-past : (t : Turned) → (tagOf the-type t ≡ 0) ⊎ (tagOf the-type t ≡ 1) → isPast (turnNumbers t) ≡ false
+not-past (Listed entries bytes) h = refl
+not-past (NoRoom bytes) h = refl
+not-past (Past i) (inl e) = absurd (omega arith)
+not-past (Past i) (inr e) = absurd (omega arith)
+
 listed-no-past : (out : List ℕ) (n : ℕ) (b : List ℕ) → isPast (listedInto out n b .reply) ≡ false
 listed-no-past out n b = choice (λ (e : Effect). isPast (e .reply) ≡ false) (leb (length b) (length out)) _ _ (λ h. refl) (λ h. refl)
 
@@ -78,32 +93,54 @@ same-effect W s ts out none = refl
 
 -- ---- the calls
 
-module _ {book results : List ℕ} {words : ℕ} (out after : List ℕ) (t : Turned) (r : Reply) (same : r ≡ turnNumbers t) where
-  pub large-listed : ListsIn book words results mostListed out after t → ListsBook book words results out after r
-  large-listed lists h =
-      subst (λ e. HasEffect e r after)
-      (same-effect (h .vocabulary) (h .kind) (h .patterns) out (firstPast (h .vocabulary) (h .kind) mostListed 0 (any ∷ []) (h .patterns)))
-      (subst (λ l. HasEffect (turned (h .vocabulary) (h .kind) mostListed 0 (any ∷ []) (h .patterns) out) l after) (sym same) (lists h))
+-- The table of siblings is made.
+pub read-at : {book results : List ℕ} {words : ℕ} → BookAt book words results → (siblings : List ℕ) → SiblingTable (min words mostWords) results siblings → ReadAt book siblings
+read-at {book} {results} {words} h siblings table = record {
+  vocabulary = h .vocabulary;
+  kind = h .kind;
+  patterns = h .patterns;
+  tables = record {
+    results = results;
+    inOrder = h .inOrder;
+    tabled = subst (λ n. Tabled (h .vocabulary) n results) (h .tabled .words) (h .tabled);
+    siblings = subst (λ n. SiblingTable n results siblings) (min-eq-left few ∙ h .tabled .words) table;
+  };
+  held = h .held;
+}
+  where
+    few : words ≤ mostWords
+    few = let w = h .tabled .words in let k = h .inOrder .fewWords in omega arith
 
-  pub small-listed : (room : ℕ) → ListsIn book words results room out after t → room ≤ mostListed → isPast r ≡ false → ListsBook book words results out after r
+module _ {book results : List ℕ} {words : ℕ} (siblings : List ℕ) (made : SiblingTable (min words mostWords) results siblings)
+    (out after : List ℕ) (t : Turned) where
+  pub large-listed : ListsIn book siblings mostListed out after t → ListsBook book words results out after (turnNumbers t)
+  unfolding read-at
+  large-listed lists h =
+      subst (λ e. HasEffect e (turnNumbers t) after)
+      (same-effect (h .vocabulary) (h .kind) (h .patterns) out (firstPast (h .vocabulary) (h .kind) mostListed 0 (any ∷ []) (h .patterns)))
+      (lists (read-at h siblings made))
+
+  pub small-listed : (room : ℕ) → ListsIn book siblings room out after t → room ≤ mostListed → isPast (turnNumbers t) ≡ false →
+      ListsBook book words results out after (turnNumbers t)
   small-listed room lists less p = large-listed large
     where
-      large : ListsIn book words results mostListed out after t
+      large : ListsIn book siblings mostListed out after t
       large h =
           let W = h .vocabulary in
           let s = h .kind in
           let ts = h .patterns in
           let left : List Term = behind (signature W) ts (any ∷ []) in
           let e : firstPast W s room 0 (any ∷ []) ts ≡ none =
-          no-past W s left out (turnNumbers t) after (firstPast W s room 0 (any ∷ []) ts) (lists h) (sym (ap isPast same) ∙ p) in
+          no-past W s left out (turnNumbers t) after (firstPast W s room 0 (any ∷ []) ts) (lists h) p in
           subst (λ o. HasEffect (turnedBy W s left out o) (turnNumbers t) after) (e ∙ sym (past-less W s room mostListed less 0 (any ∷ []) ts e)) (lists h)
 
-  pub past-listed : (mid : List ℕ) (t₀ : Turned) (room : ℕ) {i : ℕ} → ListsIn book words results room out mid t₀ → t₀ ≡ Past i →
-      ListsIn book words results mostListed mid after t → ListsBook book words results out after r
+  pub past-listed : (mid : List ℕ) (t₀ : Turned) (room : ℕ) {i : ℕ} → ListsIn book siblings room out mid t₀ → t₀ ≡ Past i →
+      ListsIn book siblings mostListed mid after t → ListsBook book words results out after (turnNumbers t)
+  unfolding read-at
   past-listed mid t₀ room small e lists h =
-      large-listed (subst (λ l. ListsIn book words results mostListed l after t) kept lists) h
+      large-listed (subst (λ l. ListsIn book siblings mostListed l after t) kept lists) h
     where
       kept : mid ≡ out
       kept =
           past-kept (h .vocabulary) (h .kind) (behind (signature (h .vocabulary)) (h .patterns) (any ∷ [])) out (turnNumbers t₀) mid
-          (firstPast (h .vocabulary) (h .kind) room 0 (any ∷ []) (h .patterns)) (small h) (ap (λ x. isPast (turnNumbers x)) e)
+          (firstPast (h .vocabulary) (h .kind) room 0 (any ∷ []) (h .patterns)) (small (read-at h siblings made)) (ap (λ x. isPast (turnNumbers x)) e)

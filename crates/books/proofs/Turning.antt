@@ -2,9 +2,8 @@
 --
 --   together-patterns, fits-passes, passes-fits    entries fit into an area exactly where they pass no limit of it
 --   turn-ends                no pattern is left
---   turn-bytes, turn-size    one is left, and this is where the next one begins
---   turn-area                the entries are taken against it
---   turn-past                they do not fit
+--   turn-few, turn-bytes, turn-size, turn-less, turn-short    one is left, and this is where the next one begins
+--   turn-past                the entries that are taken against it do not fit
 --   turn-next, turn-goes     they do, and this is due
 --
 use mathlib.Core.Path.{_≡_, refl, sym, ap, ap₂, _∙_, subst}
@@ -12,9 +11,10 @@ use mathlib.Core.Bool.{Bool, true, false, _||_}
 use mathlib.Core.List.{List, [], _∷_, _++_, map}
 use mathlib.Core.Option.{some}
 use Prim.Native.Nat.{ℕ, suc, _+_, _-_, _<_, _≤_, min}
+use native.Mathlib.Nat.{le-trans}
 use native.Mathlib.Omega.{arith}
 use lib.Dec.{ltb}
-use lib.ListN.{length, take, drop, length-append, length-map}
+use lib.ListN.{length, take, drop, length-append, length-drop, length-map}
 use lib.Seq.{take-at, drop-at, length-take-le}
 use borrow.Author.Tests.{le-ltb, ltb-false}
 use Rattle.terms.specs.Lists.{All}
@@ -28,24 +28,22 @@ use Rattle.wire.specs.Reply.{refused}
 use Rattle.wire.specs.Effect.{HasEffect}
 use Rattle.wire.specs.Vocabulary.{Vocabulary, signature}
 use Rattle.wire.specs.TermBytes.{encodeRoot, encodeTerm, levels, mostBytes, mostLevels}
-use Rattle.wire.specs.BookBytes.{patternsBytes}
+use Rattle.wire.specs.BookBytes.{mostPatterns, patternsBytes}
 use Rattle.wire.specs.ListComputed.{listedInto}
 use Rattle.wire.specs.BookComputed.{someLong, passes, firstPast}
 use Rattle.wire.proofs.Cond.{cond-true, cond-false}
 use Rattle.wire.proofs.BookLevels.{against-levels}
 use Rattle.extents.specs.Extents.{termSize}
 use Rattle.slices.proofs.Writing.{part, part-is}
-use Rattle.books.specs.Entries.{together, FitBehind}
-use Rattle.marks.specs.Marking.{MarksOf}
-use Rattle.marks.specs.Marking as M
-use Rattle.marks.proofs.Marks.{marks-right}
-use Rattle.books.specs.Striking.{Put, LeftOf, EntryOf, PatternOf, leavesOf, AreaAt, StrikesArea}
+use Rattle.others.specs.Listed.{together, FitBehind}
+use Rattle.cuts.specs.Entries.{EntryOf, PatternOf}
+use Rattle.strikes.specs.Calls.{Put, LeftOf, leavesOf, AreaAt, StrikesArea}
 use Rattle.books.specs.Turning.{turnNumbers, turnedBy, turned, TurnAt, Turns}
-use Rattle.books.specs.declared.strike.Left.{Left}
-use Rattle.books.specs.declared.strike.Left.the-variants.{Bytes, Full}
+use Rattle.strikes.specs.declared.Left.{Left}
+use Rattle.strikes.specs.declared.Left.the-variants.{Bytes, Full}
 use Rattle.books.specs.declared.turns.Turned.{Turned}
-use Rattle.books.proofs.Putting.{put-count, put-length}
-use Rattle.books.proofs.Area.{entry-size}
+use Rattle.strikes.proofs.Putting.{put-count, put-length}
+use Rattle.strikes.proofs.Area.{no-patterns, entry-whole}
 
 -- ---- entries that fit
 
@@ -88,7 +86,14 @@ module _ (W : Vocabulary) (s room : ℕ) (l : List Term) where
 
 -- ---- a turn
 
-module _ {book from results chains : List ℕ} {left n entries room copied marked words : ℕ} (h : TurnAt book left from n entries room copied marked words results chains) where
+-- Plain numbers: omega would look into what is known of a size.
+fewer : (all size : ℕ) → 1 + size ≤ all → all - (1 + size) < all
+fewer all size h = omega arith
+
+first-inside : (all size one more : ℕ) → all ≡ one + more → 1 + size ≡ one → 1 + size ≤ all
+first-inside all size one more e f = omega arith
+
+module _ {book from siblings : List ℕ} {i n entries room copied marked : ℕ} (h : TurnAt book i from n entries room copied marked siblings) where
   abbrev W : Vocabulary
   W = h .vocabulary
 
@@ -98,17 +103,13 @@ module _ {book from results chains : List ℕ} {left n entries room copied marke
   area-size : length (patternsBytes W s (h .es)) ≡ n
   area-size = sym (ap length (h .area)) ∙ length-take-le n from (h .inside)
 
-  no-more : (ts : List Term) → 0 ≡ length ts → ts ≡ []
-  no-more [] e = refl
-  no-more (t ∷ ts) e = absurd (omega arith)
-
   -- No pattern is left: what is there is the listing.
-  pub turn-ends : left ≡ 0 → (i : ℕ) (out after : List ℕ) (r : Turned) → HasEffect (listedInto out entries (take n from)) (turnNumbers r) after →
+  pub turn-ends : length book ≡ 0 → (out after : List ℕ) (r : Turned) → HasEffect (listedInto out entries (take n from)) (turnNumbers r) after →
       HasEffect (turned W s room i (h .es) (h .ts) out) (turnNumbers r) after
-  turn-ends e i out after r =
+  turn-ends e out after r =
       subst (λ l. HasEffect l (turnNumbers r) after)
       (sym
-      (ap (λ ts. turned W s room i (h .es) ts out) (no-more (h .ts) (sym e ∙ h .count))
+      (ap (λ ts. turned W s room i (h .es) ts out) (no-patterns W s (h .ts) (sym (ap length (h .stands)) ∙ e))
       ∙ ap₂ (listedInto out) (sym (h .many)) (sym (h .area))))
 
   -- What is known of the first pattern.
@@ -122,11 +123,11 @@ module _ {book from results chains : List ℕ} {left n entries room copied marke
     spans : All (λ t. length (encodeTerm W s t) ≤ h .span) others
     begins : book ≡ encodeTerm W s first ++ patternsBytes W s others
 
-  turn-begins : (left ≡ 0 → ⊥) → Turning
+  turn-begins : (length book ≡ 0 → ⊥) → Turning
   turn-begins e = go (h .ts) refl
     where
       go : (l : List Term) → h .ts ≡ l → Turning
-      go [] q = absurd (e (h .count ∙ ap length q))
+      go [] q = absurd (e (ap length (h .stands ∙ ap (patternsBytes W s) q)))
       go (t ∷ l) q =
           let g = subst (All (PatternOf W s)) q (h .patternsOf) in
           let p = subst (All (λ t. length (encodeTerm W s t) ≤ h .span)) q (h .spans) in
@@ -153,8 +154,8 @@ module _ {book from results chains : List ℕ} {left n entries room copied marke
         let d = x .span in
         (omega arith, short-entries l (omega arith) (g .1))
 
-    area-of : (pattern marks : List ℕ) → pattern ≡ encodeTerm W s (x .first) → MarksOf W (x .first) marks → AreaAt (take n from) pattern marks results chains copied
-    area-of pattern marks b m = record {
+    area-of : (pattern : List ℕ) → pattern ≡ encodeTerm W s (x .first) → AreaAt (take n from) pattern siblings copied
+    area-of pattern b = record {
       vocabulary = W;
       kind = s;
       entries = h .es;
@@ -164,7 +165,6 @@ module _ {book from results chains : List ℕ} {left n entries room copied marke
       patternOf = x .good;
       stands = h .area;
       begins = b;
-      marked = m;
       copy = short-entries (h .es) (let r = h .rooms in let i = h .inside in let a = area-size in omega arith) (h .entriesOf);
       small = h .small;
     }
@@ -172,20 +172,20 @@ module _ {book from results chains : List ℕ} {left n entries room copied marke
     abbrev next : List Term
     next = against (signature W) (x .first) (h .es)
 
-    unfolded : (i : ℕ) (out : List ℕ) → turned W s room i (h .es) (h .ts) out ≡ turned W s room i (h .es) (x .first ∷ x .others) out
-    unfolded i out = ap (λ ts. turned W s room i (h .es) ts out) (x .is)
+    unfolded : (out : List ℕ) → turned W s room i (h .es) (h .ts) out ≡ turned W s room i (h .es) (x .first ∷ x .others) out
+    unfolded out = ap (λ ts. turned W s room i (h .es) ts out) (x .is)
 
-    past-is : (i : ℕ) (out : List ℕ) → (FitBehind (leavesOf W s (x .first) (h .es)) 0 room → ⊥) →
+    past-is : (out : List ℕ) → (FitBehind (leavesOf W s (x .first) (h .es)) 0 room → ⊥) →
         turned W s room i (h .es) (h .ts) out ≡ record { reply = refused 26 5 i; after = out }
-    past-is i out full =
-        unfolded i out
+    past-is out full =
+        unfolded out
         ∙ ap (turnedBy W s (behind (signature W) (x .others) next) out)
         (cond-true (passes W s room next) (some i) (firstPast W s room (suc i) next (x .others)) (full-passes W s room next full))
 
-    goes-on : (i : ℕ) (out : List ℕ) → FitBehind (leavesOf W s (x .first) (h .es)) 0 room →
+    goes-on : (out : List ℕ) → FitBehind (leavesOf W s (x .first) (h .es)) 0 room →
         turned W s room i (h .es) (h .ts) out ≡ turned W s room (i + 1) next (x .others) out
-    goes-on i out fits =
-        unfolded i out
+    goes-on out fits =
+        unfolded out
         ∙ ap (turnedBy W s (behind (signature W) (x .others) next) out)
         (cond-false (passes W s room next) (some i) (firstPast W s room (suc i) next (x .others)) (fits-passes W s room next fits)
         ∙ ap (λ j. firstPast W s room j next (x .others)) (let e : suc i ≡ i + 1 = omega arith in e))
@@ -202,121 +202,112 @@ module _ {book from results chains : List ℕ} {left n entries room copied marke
         (all-unmap (λ b. length b ≤ mostBytes) (encodeTerm W s) next (fits .each))))
 
     -- The areas change places.
-    next-turn : (to to′ : List ℕ) (n′ k′ size : ℕ) → length to ≡ room → Put (leavesOf W s (x .first) (h .es)) 0 0 to to′ n′ k′ →
+    next-turn : (to to′ : List ℕ) (n′ k′ size : ℕ) → length to ≡ room → Put (leavesOf W s (x .first) (h .es)) 0 to to′ n′ k′ →
         size ≡ length (encodeTerm W s (x .first)) →
-        TurnAt (drop size book) (left - 1) to′ n′ k′ (length from) copied marked words results chains
+        TurnAt (drop size book) (i + 1) to′ n′ k′ (length from) copied marked siblings
     next-turn to to′ n′ k′ size same put e = record {
       vocabulary = W;
       kind = s;
       es = next;
       ts = x .others;
       span = h .span;
-      known = h .known;
       tables = h .tables;
       entriesOf = next-entries (subst (FitBehind (leavesOf W s (x .first) (h .es)) 0) same (put .listed .fits));
       patternsOf = x .goods;
-      count = let c = h .count ∙ ap length (x .is) in omega arith;
+      few = let c = h .few in let l = ap length (x .is) in omega arith;
       stands = ap (drop size) (x .begins) ∙ drop-at (encodeTerm W s (x .first)) (patternsBytes W s (x .others)) size (sym e);
       area =
           ap (take n′) (put .listed .written .same)
           ∙ take-at (together (leavesOf W s (x .first) (h .es))) (drop (length (together (leavesOf W s (x .first) (h .es)))) to) n′ (sym (put .listed .written .count))
           ∙ together-patterns W s next;
       inside = let c = put-count put in let l = put-length put in let f = put .listed .fits .all in omega arith;
-      many = put .count ∙ (let e : 0 + length (leavesOf W s (x .first) (h .es)) ≡ length next = length-map′ in e);
+      many = put .count ∙ length-map next (encodeTerm W s);
       rooms = put-length put ∙ same ∙ sym (h .rooms);
       spans = x .spans;
       copy = subst (λ r. min r mostBytes + h .span ≤ copied) (sym (h .rooms)) (h .copy);
       small = h .small;
       marks = h .marks;
     }
-      where
-        length-map′ : 0 + length (leavesOf W s (x .first) (h .es)) ≡ length next
-        length-map′ = let m = length-map next (encodeTerm W s) in omega arith
 
   -- A pattern is left.
-  module _ (some : left ≡ 0 → ⊥) where
+  module _ (some : length book ≡ 0 → ⊥) where
     x : Turning
     x = turn-begins some
 
-    abbrev root : List ℕ
-    root = encodeRoot W (x .first)
-
-    behind-kind : part 1 book ≡ root ++ patternsBytes W s (x .others)
+    behind-kind : part 1 book ≡ encodeRoot W (x .first) ++ patternsBytes W s (x .others)
     behind-kind = part-is 1 book ∙ ap (drop 1) (x .begins)
 
     pub turn-bytes : 1 ≤ length book
     turn-bytes = subst (λ l. 1 ≤ length l) (sym (x .begins)) (omega arith)
 
+    pub turn-few : i + 1 ≤ mostPatterns
+    turn-few = let c = h .few in let l = ap length (x .is) in omega arith
+
     -- Its size was found behind its kind byte.
     module _ (size : ℕ) (ends : size ≡ termSize (part 1 book)) where
       whole-size : 1 + size ≡ length (encodeTerm W s (x .first))
       whole-size =
-          let t : size ≡ length root =
-          ends ∙ ap termSize behind-kind ∙ entry-size W (h .tables .inOrder) s (x .first) (x .good .sorted) (x .good .short) (patternsBytes W s (x .others)) in
-          omega arith
+          entry-whole W (h .tables .inOrder) s (x .first) (x .good .sorted) (x .good .short) (patternsBytes W s (x .others)) (part 1 book) behind-kind size ends
 
       pub turn-size : 1 + size ≤ length book
       turn-size =
-          let l = ap length (x .begins) ∙ length-append (encodeTerm W s (x .first)) (patternsBytes W s (x .others)) in
-          let e = whole-size in
-          omega arith
+          first-inside (length book) size (length (encodeTerm W s (x .first))) (length (patternsBytes W s (x .others)))
+          (ap length (x .begins) ∙ length-append (encodeTerm W s (x .first)) (patternsBytes W s (x .others))) whole-size
+
+      pub turn-less : (t : ℕ) → length book ≡ t → length (part (1 + size) book) < t
+      turn-less t e =
+          subst (λ l. length l < t) (sym (part-is (1 + size) book))
+          (subst (λ k. k < t) (sym (length-drop (1 + size) book)) (subst (λ k. length book - (1 + size) < k) e (fewer (length book) size turn-size)))
+
+      pub turn-short : 1 + size ≤ mostBytes
+      turn-short = subst (λ n. n ≤ mostBytes) (sym whole-size) (x .good .short)
 
       pattern-is : take (1 + size) book ≡ encodeTerm W s (x .first)
       pattern-is = ap (take (1 + size)) (x .begins) ∙ take-at (encodeTerm W s (x .first)) (patternsBytes W s (x .others)) (1 + size) (sym whole-size)
 
-      -- It is noted.
-      module _ (marks marks′ : List ℕ) (sized : length marks ≡ marked) (notes : marks′ ≡ M.marked words results (part 1 book) marks) where
-        noted : MarksOf W (x .first) marks′
-        noted =
-            let g = x .good in
-            let short = g .short in
-            let span = x .span in
-            let room = h .marks in
-            subst (MarksOf W (x .first)) (sym (notes ∙ ap (λ l. M.marked words results l marks) behind-kind))
-            (marks-right W (h .tables .inOrder) words results (h .known)
-            (λ f k. h .tables .tabled .result f (subst (λ n. f < n) (h .known) k)) (x .first) s (g .sorted) (g .low) (omega arith)
-            (patternsBytes W s (x .others)) marks (omega arith))
+      turn-strikes : AreaAt (take n from) (take (1 + size) book) siblings copied
+      turn-strikes = area-of x (take (1 + size) book) pattern-is
 
-        pub turn-area : AreaAt (take n from) (take (1 + size) book) marks′ results chains copied
-        turn-area = area-of x (take (1 + size) book) marks′ pattern-is noted
+      turn-marks : length (take (1 + size) book) ≤ marked
+      turn-marks = subst (λ l. length l ≤ marked) (sym pattern-is) (le-trans (x .span) (h .marks))
 
-        module _ (to to′ : List ℕ) (same : length to ≡ room) (r : Left)
-            (strikes : StrikesArea (take n from) (take (1 + size) book) marks′ results chains copied to to′ r) where
-          struck : LeftOf (leavesOf W s (x .first) (h .es)) 0 0 to to′ r
-          unfolding turn-area area-of
-          struck = strikes turn-area
+      module _ (to to′ : List ℕ) (same : length to ≡ room) (r : Left)
+          (strikes : StrikesArea (take n from) (take (1 + size) book) marked siblings copied to to′ r) where
+        struck : LeftOf (leavesOf W s (x .first) (h .es)) 0 to to′ r
+        unfolding turn-strikes area-of
+        struck = strikes turn-strikes turn-marks
 
-          pub turn-past : r ≡ Full → (i : ℕ) (out : List ℕ) → HasEffect (turned W s room i (h .es) (h .ts) out) (refused 26 5 i) out
-          turn-past e i out =
-              subst (λ l. HasEffect l (refused 26 5 i) out)
-              (sym
-              (past-is x i out
-              (λ f. subst (LeftOf (leavesOf W s (x .first) (h .es)) 0 0 to to′) e struck (subst (FitBehind (leavesOf W s (x .first) (h .es)) 0) (sym same) f))))
-              (record { reply = refl; after = refl })
+        pub turn-past : r ≡ Full → (out : List ℕ) → HasEffect (turned W s room i (h .es) (h .ts) out) (refused 26 5 i) out
+        turn-past e out =
+            subst (λ l. HasEffect l (refused 26 5 i) out)
+            (sym
+            (past-is x out
+            (λ f. subst (LeftOf (leavesOf W s (x .first) (h .es)) 0 to to′) e struck (subst (FitBehind (leavesOf W s (x .first) (h .es)) 0) (sym same) f))))
+            (record { reply = refl; after = refl })
 
-          module _ {n′ k′ : ℕ} (e : r ≡ Bytes n′ k′) where
-            put : Put (leavesOf W s (x .first) (h .es)) 0 0 to to′ n′ k′
-            put = subst (LeftOf (leavesOf W s (x .first) (h .es)) 0 0 to to′) e struck
+        module _ {n′ k′ : ℕ} (e : r ≡ Bytes n′ k′) where
+          put : Put (leavesOf W s (x .first) (h .es)) 0 to to′ n′ k′
+          put = subst (LeftOf (leavesOf W s (x .first) (h .es)) 0 to to′) e struck
 
-            -- The copy and the marks are as long as before.
-            module _ (copied′ marked′ : ℕ) (copies : copied′ ≡ copied) (marking : marked′ ≡ marked) where
-              pub turn-next : TurnAt (part (1 + size) book) (left - 1) to′ n′ k′ (length from) copied′ marked′ words results chains
-              turn-next =
-                  subst (λ l. TurnAt l (left - 1) to′ n′ k′ (length from) copied′ marked′ words results chains) (sym (part-is (1 + size) book))
-                  (subst (λ c. TurnAt (drop (1 + size) book) (left - 1) to′ n′ k′ (length from) c marked′ words results chains) (sym copies)
-                  (subst (λ m. TurnAt (drop (1 + size) book) (left - 1) to′ n′ k′ (length from) copied m words results chains) (sym marking)
-                  (next-turn x to to′ n′ k′ (1 + size) same put whole-size)))
+          -- The copy and the marks are as long as before.
+          module _ (copied′ marked′ : ℕ) (copies : copied′ ≡ copied) (marking : marked′ ≡ marked) where
+            pub turn-next : TurnAt (part (1 + size) book) (i + 1) to′ n′ k′ (length from) copied′ marked′ siblings
+            turn-next =
+                subst (λ l. TurnAt l (i + 1) to′ n′ k′ (length from) copied′ marked′ siblings) (sym (part-is (1 + size) book))
+                (subst (λ c. TurnAt (drop (1 + size) book) (i + 1) to′ n′ k′ (length from) c marked′ siblings) (sym copies)
+                (subst (λ m. TurnAt (drop (1 + size) book) (i + 1) to′ n′ k′ (length from) copied m siblings) (sym marking)
+                (next-turn x to to′ n′ k′ (1 + size) same put whole-size)))
 
-              pub turn-goes : (i : ℕ) (out after : List ℕ) (t : Turned) →
-                  Turns (part (1 + size) book) (i + 1) (left - 1) to′ n′ k′ (length from) copied′ marked′ words results chains out after t →
-                  HasEffect (turned W s room i (h .es) (h .ts) out) (turnNumbers t) after
-              unfolding next-turn
-              turn-goes i out after t goes =
-                  let turns =
-                  subst (λ m. Turns (drop (1 + size) book) (i + 1) (left - 1) to′ n′ k′ (length from) copied m words results chains out after t) marking
-                  (subst (λ c. Turns (drop (1 + size) book) (i + 1) (left - 1) to′ n′ k′ (length from) c marked′ words results chains out after t) copies
-                  (subst (λ l. Turns l (i + 1) (left - 1) to′ n′ k′ (length from) copied′ marked′ words results chains out after t) (part-is (1 + size) book) goes)) in
-                  let due : turned W s room i (h .es) (h .ts) out ≡ turned W s (length from) (i + 1) (next x) (x .others) out =
-                  goes-on x i out (subst (FitBehind (leavesOf W s (x .first) (h .es)) 0) same (put .listed .fits))
-                  ∙ ap (λ m. turned W s m (i + 1) (next x) (x .others) out) (sym (h .rooms)) in
-                  subst (λ l. HasEffect l (turnNumbers t) after) (sym due) (turns (next-turn x to to′ n′ k′ (1 + size) same put whole-size))
+            pub turn-goes : (out after : List ℕ) (t : Turned) →
+                Turns (part (1 + size) book) (i + 1) to′ n′ k′ (length from) copied′ marked′ siblings out after t →
+                HasEffect (turned W s room i (h .es) (h .ts) out) (turnNumbers t) after
+            unfolding next-turn
+            turn-goes out after t goes =
+                let turns =
+                subst (λ m. Turns (drop (1 + size) book) (i + 1) to′ n′ k′ (length from) copied m siblings out after t) marking
+                (subst (λ c. Turns (drop (1 + size) book) (i + 1) to′ n′ k′ (length from) c marked′ siblings out after t) copies
+                (subst (λ l. Turns l (i + 1) to′ n′ k′ (length from) copied′ marked′ siblings out after t) (part-is (1 + size) book) goes)) in
+                let due : turned W s room i (h .es) (h .ts) out ≡ turned W s (length from) (i + 1) (next x) (x .others) out =
+                goes-on x out (subst (FitBehind (leavesOf W s (x .first) (h .es)) 0) same (put .listed .fits))
+                ∙ ap (λ m. turned W s m (i + 1) (next x) (x .others) out) (sym (h .rooms)) in
+                subst (λ l. HasEffect l (turnNumbers t) after) (sym due) (turns (next-turn x to to′ n′ k′ (1 + size) same put whole-size))

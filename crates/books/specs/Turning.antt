@@ -5,6 +5,7 @@
 --                            number i, by areas of `room` bytes, and the lent slice after it
 --   TurnAt, Turns            where turn begins, and what it does
 --   BookAt book words results    the book is accepted under a vocabulary in order, whose result kinds the table has
+--   ReadAt book siblings     the same, and the table has the siblings of its words
 --   AreasFor                 the areas, the copy and the table of marks are long enough for a book
 --   ListsIn                  what list_in does
 --
@@ -20,13 +21,12 @@ use Rattle.wire.specs.Reply.{Reply, accepted, refused}
 use Rattle.wire.specs.Effect.{Effect, HasEffect}
 use Rattle.wire.specs.Vocabulary.{Vocabulary, InOrder, signature}
 use Rattle.wire.specs.TermBytes.{encodeTerm, mostBytes}
-use Rattle.wire.specs.BookBytes.{patternsBytes, HoldsBook}
+use Rattle.wire.specs.BookBytes.{mostPatterns, patternsBytes, HoldsBook}
 use Rattle.wire.specs.ListComputed.{listedInto}
 use Rattle.wire.specs.BookComputed.{firstPast}
 use Rattle.extents.specs.Extents.{mostExtent}
 use Rattle.signature.specs.Tables.{Tabled}
-use Rattle.books.specs.Entries.{TablesOf}
-use Rattle.books.specs.Striking.{EntryOf, PatternOf}
+use Rattle.cuts.specs.Entries.{EntryOf, PatternOf, TablesOf}
 use Rattle.books.specs.declared.turns.Turned.{Turned}
 use Rattle.books.specs.declared.turns.Turned.the-variants.{Listed, NoRoom, Past}
 
@@ -43,17 +43,16 @@ abbrev pub turned : Vocabulary → ℕ → ℕ → ℕ → List Term → List Te
 turned W s room i es ts out = turnedBy W s (behind (signature W) ts es) out (firstPast W s room i es ts)
 
 -- Every pattern has at most `span` bytes, and an entry no more than an area or a pattern may have.
-pub record TurnAt (book : List ℕ) (left : ℕ) (from : List ℕ) (n entries room copied marked words : ℕ) (results chains : List ℕ) : Type 0 where
+pub record TurnAt (book : List ℕ) (i : ℕ) (from : List ℕ) (n entries room copied marked : ℕ) (siblings : List ℕ) : Type 0 where
   pub vocabulary : Vocabulary
   pub kind : ℕ
   pub es : List Term
   pub ts : List Term
   pub span : ℕ
-  pub known : words ≡ length (vocabulary .words)
-  pub tables : TablesOf vocabulary results chains
+  pub tables : TablesOf vocabulary siblings
   pub entriesOf : All (EntryOf vocabulary kind) es
   pub patternsOf : All (PatternOf vocabulary kind) ts
-  pub count : left ≡ length ts
+  pub few : i + length ts ≤ mostPatterns
   pub stands : book ≡ patternsBytes vocabulary kind ts
   pub area : take n from ≡ patternsBytes vocabulary kind es
   pub inside : n ≤ length from
@@ -64,9 +63,9 @@ pub record TurnAt (book : List ℕ) (left : ℕ) (from : List ℕ) (n entries ro
   pub small : copied ≤ mostExtent
   pub marks : span ≤ marked
 
-abbrev pub Turns : List ℕ → ℕ → ℕ → List ℕ → ℕ → ℕ → ℕ → ℕ → ℕ → ℕ → List ℕ → List ℕ → List ℕ → List ℕ → Turned → Type 0
-Turns book i left from n entries room copied marked words results chains before after r =
-    (h : TurnAt book left from n entries room copied marked words results chains) →
+abbrev pub Turns : List ℕ → ℕ → List ℕ → ℕ → ℕ → ℕ → ℕ → ℕ → List ℕ → List ℕ → List ℕ → Turned → Type 0
+Turns book i from n entries room copied marked siblings before after r =
+    (h : TurnAt book i from n entries room copied marked siblings) →
     HasEffect (turned (h .vocabulary) (h .kind) room i (h .es) (h .ts) before) (turnNumbers r) after
 
 pub record BookAt (book : List ℕ) (words : ℕ) (results : List ℕ) : Type 0 where
@@ -75,6 +74,13 @@ pub record BookAt (book : List ℕ) (words : ℕ) (results : List ℕ) : Type 0 
   pub patterns : List Term
   pub inOrder : InOrder vocabulary
   pub tabled : Tabled vocabulary words results
+  pub held : HoldsBook vocabulary book kind patterns
+
+pub record ReadAt (book siblings : List ℕ) : Type 0 where
+  pub vocabulary : Vocabulary
+  pub kind : ℕ
+  pub patterns : List Term
+  pub tables : TablesOf vocabulary siblings
   pub held : HoldsBook vocabulary book kind patterns
 
 pub record AreasFor (book : List ℕ) (near far copied marked : ℕ) : Type 0 where
@@ -86,7 +92,7 @@ pub record AreasFor (book : List ℕ) (near far copied marked : ℕ) : Type 0 wh
   pub small : copied ≤ mostExtent
   pub marks : span ≤ marked
 
-abbrev pub ListsIn : List ℕ → ℕ → List ℕ → ℕ → List ℕ → List ℕ → Turned → Type 0
-ListsIn book words results room before after r =
-    (h : BookAt book words results) →
+abbrev pub ListsIn : List ℕ → List ℕ → ℕ → List ℕ → List ℕ → Turned → Type 0
+ListsIn book siblings room before after r =
+    (h : ReadAt book siblings) →
     HasEffect (turned (h .vocabulary) (h .kind) room 0 (any ∷ []) (h .patterns) before) (turnNumbers r) after

@@ -3,12 +3,10 @@ ghost use mathlib.Core.Path.{_≡_};
 ghost use Prim.Native.Nat.{_≤_};
 ghost use lib.ListN.{length};
 ghost use Rattle.wire.specs.BookLeftovers.{mostListed, BookPromise};
-ghost use Rattle.books.specs.Turning.{turnNumbers, BookAt, ListsIn};
+ghost use Rattle.books.specs.Turning.{turnNumbers, BookAt, ReadAt, ListsIn};
 ghost use Rattle.books.specs.Calls.{ListsBook};
 ghost use Rattle.books.specs.Answers.{bookListNumbers};
 
-mod cutting;
-mod strike;
 mod turns;
 
 use crate::turns::Turned;
@@ -27,10 +25,10 @@ pub enum BookListAnswer {
 }
 
 // Lists a short book by small areas, which are sooner set up.
-fn list_small(book: &[u8], words: usize, results: &[u8; 96], out: &mut [u8]) -> Turned
-    requires { ⌜ BookAt (now book) words (now results) ⌝ }
+fn list_small(book: &[u8], siblings: &[u8; 384], out: &mut [u8]) -> Turned
+    requires { ⌜ ReadAt (now book) (now siblings) ⌝ }
     requires { ⌜ length (now book) ≤ 256 ⌝ }
-    ensures { λ r. ⌜ ListsIn (now (book .entry)) words (now (results .entry)) 1024 (now (out .entry)) (now (out .exit)) r ⌝ }
+    ensures { λ r. ⌜ ListsIn (now (book .entry)) (now (siblings .entry)) 1024 (now (out .entry)) (now (out .exit)) r ⌝ }
 {
     let mut near = [0u8; 1024];
     let mut far = [0u8; 1024];
@@ -38,8 +36,7 @@ fn list_small(book: &[u8], words: usize, results: &[u8; 96], out: &mut [u8]) -> 
     let mut marks = [0u32; 256];
     turns::list_in(
         book,
-        words,
-        results,
+        siblings,
         &mut near,
         &mut far,
         &mut copy,
@@ -49,9 +46,9 @@ fn list_small(book: &[u8], words: usize, results: &[u8; 96], out: &mut [u8]) -> 
 }
 
 // Lists a book by areas as large as the entries may be.
-fn list_large(book: &[u8], words: usize, results: &[u8; 96], out: &mut [u8]) -> Turned
-    requires { ⌜ BookAt (now book) words (now results) ⌝ }
-    ensures { λ r. ⌜ ListsIn (now (book .entry)) words (now (results .entry)) mostListed (now (out .entry)) (now (out .exit)) r ⌝ }
+fn list_large(book: &[u8], siblings: &[u8; 384], out: &mut [u8]) -> Turned
+    requires { ⌜ ReadAt (now book) (now siblings) ⌝ }
+    ensures { λ r. ⌜ ListsIn (now (book .entry)) (now (siblings .entry)) mostListed (now (out .entry)) (now (out .exit)) r ⌝ }
 {
     let mut near = [0u8; 32768];
     let mut far = [0u8; 32768];
@@ -59,8 +56,7 @@ fn list_large(book: &[u8], words: usize, results: &[u8; 96], out: &mut [u8]) -> 
     let mut marks = [0u32; 4096];
     turns::list_in(
         book,
-        words,
-        results,
+        siblings,
         &mut near,
         &mut far,
         &mut copy,
@@ -69,7 +65,22 @@ fn list_large(book: &[u8], words: usize, results: &[u8; 96], out: &mut [u8]) -> 
     )
 }
 
-// The answer that a turn's answer is by large areas.
+// The listing of a book that is accepted. Most are short, and their entries few.
+fn list_read(book: &[u8], words: usize, results: &[u8; 96], out: &mut [u8]) -> Turned
+    requires { ⌜ BookAt (now book) words (now results) ⌝ }
+    ensures { λ r. ⌜ ListsBook (now (book .entry)) words (now (results .entry)) (now (out .entry)) (now (out .exit)) (turnNumbers r) ⌝ }
+{
+    let siblings = kinds::siblings(words, results);
+    if 256 < book.len() {
+        return list_large(book, &siblings, out);
+    }
+    match list_small(book, &siblings, out) {
+        Turned::Past(_) => list_large(book, &siblings, out),
+        small => small,
+    }
+}
+
+// The call's answer.
 fn answer(turned: Turned) -> BookListAnswer
     ensures { λ r. ⌜ bookListNumbers r ≡ turnNumbers turned ⌝ }
 {
@@ -77,21 +88,6 @@ fn answer(turned: Turned) -> BookListAnswer
         Turned::Listed(entries, bytes) => BookListAnswer::Listed(entries, bytes),
         Turned::NoRoom(bytes) => BookListAnswer::NoRoom(bytes),
         Turned::Past(i) => BookListAnswer::TooLarge(i),
-    }
-}
-
-// The listing of a book that is accepted. Most are short, and their entries few.
-fn list_read(book: &[u8], words: usize, results: &[u8; 96], out: &mut [u8]) -> BookListAnswer
-    requires { ⌜ BookAt (now book) words (now results) ⌝ }
-    ensures { λ r. ⌜ ListsBook (now (book .entry)) words (now (results .entry)) (now (out .entry)) (now (out .exit)) (bookListNumbers r) ⌝ }
-{
-    if 256 < book.len() {
-        return answer(list_large(book, words, results, out));
-    }
-    match list_small(book, words, results, out) {
-        Turned::Listed(entries, bytes) => BookListAnswer::Listed(entries, bytes),
-        Turned::NoRoom(bytes) => BookListAnswer::NoRoom(bytes),
-        Turned::Past(_) => answer(list_large(book, words, results, out)),
     }
 }
 
@@ -104,6 +100,6 @@ pub fn list_book(vocabulary: &[u8], book: &[u8], out: &mut [u8]) -> BookListAnsw
     match reader::read_book(vocabulary, book, &mut results) {
         BookAnswer::Vocabulary(why) => BookListAnswer::Vocabulary(why),
         BookAnswer::Book(why) => BookListAnswer::Book(why),
-        BookAnswer::Read => list_read(book, vocabulary[1] as usize, &results, out),
+        BookAnswer::Read => answer(list_read(book, vocabulary[1] as usize, &results, out)),
     }
 }

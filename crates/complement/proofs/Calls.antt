@@ -1,7 +1,6 @@
 -- Calls: the whole call from its parts.
 --
 --   pattern-repeated, pattern-linear   an accepted pattern, where a name stands twice and where none does
---   vocabulary-refuses, term-refuses   these answers are refusals
 --   refused-listed                     where the check of the term refuses, so does list, in the same way
 --   list-vocabulary, list-term         the two refusals of the call
 --   some-bytes                         an accepted vocabulary has a word count
@@ -32,11 +31,10 @@ use Rattle.repeats.proofs.Passing.{pattern-repeats}
 use Rattle.signature.specs.Answers.{vocabularyRefused}
 use Rattle.signature.specs.Tables.{acceptedIn, vocabularyIn, wordsBefore, resultsOf, laid}
 use Rattle.signature.specs.declared.VocabularyRefusal.{VocabularyRefusal}
-use Rattle.signature.specs.declared.VocabularyRefusal.the-variants.{Head, WordCount, Ends, NoSuchKind, Continues, EmptyKind}
 use Rattle.signature.proofs.Accepted.{laid-tabled}
 use Rattle.reader.specs.Answers.{termRefused}
 use Rattle.reader.specs.declared.refusal.TermRefusal.{TermRefusal}
-use Rattle.reader.specs.declared.refusal.TermRefusal.the-variants as T
+use Rattle.reader.proofs.Refused.{Refuses, vocabulary-refuses, term-refuses}
 use Rattle.complement.specs.Calls.{Patterned, ListsPattern}
 
 -- ---- a name that stands twice
@@ -69,29 +67,6 @@ module _ {p : List ℕ} {words : ℕ} {results : List ℕ} (h : Patterned p word
       subst (λ l. HasEffect l reply after) (sym g) s
 
 -- ---- refusals of the vocabulary and of the pattern
-
-abbrev Refuses : Reply → Type 0
-Refuses (accepted l) = ⊥
-Refuses (refused n i q) = Unit {0}
-
-vocabulary-refuses : (why : VocabularyRefusal) → Refuses (vocabularyRefused why)
-vocabulary-refuses Head = tt
-vocabulary-refuses WordCount = tt
-vocabulary-refuses (Ends q) = tt
-vocabulary-refuses (NoSuchKind q) = tt
-vocabulary-refuses (Continues q) = tt
-vocabulary-refuses (EmptyKind k) = tt
-
-term-refuses : (why : TermRefusal) → Refuses (termRefused 1 why)
-term-refuses T.Size = tt
-term-refuses T.NoSuchKind = tt
-term-refuses (T.Ends q) = tt
-term-refuses (T.TooDeep q) = tt
-term-refuses (T.NoWordOrName q) = tt
-term-refuses (T.WrongKind q) = tt
-term-refuses (T.Clashes q) = tt
-term-refuses (T.StrayBit q) = tt
-term-refuses (T.Continues q) = tt
 
 -- Where the check of the term refuses, so does list, in the same way.
 refused-listed : (v p before : List ℕ) (r : Reply) → Refuses r → r ≡ termReply v p → HasEffect (listed v p before) r before
@@ -129,7 +104,7 @@ module _ (v p before : List ℕ) (vocabularyBytes : (i : ℕ) → getD v i 0 < 2
   list-vocabulary why e = promised (refused-listed v p before (vocabularyRefused why) (vocabulary-refuses why) e)
 
   pub list-term : (why : TermRefusal) → termRefused 1 why ≡ termReply v p → Ensured (termRefused 1 why) before
-  list-term why e = promised (refused-listed v p before (termRefused 1 why) (term-refuses why) e)
+  list-term why e = promised (refused-listed v p before (termRefused 1 why) (term-refuses 1 0 why) e)
 
   -- Both are accepted.
   module _ (l : List ℕ) (e : accepted l ≡ termReply v p) where

@@ -2,7 +2,8 @@
 --
 --   least-from, -inside, -low, -outside   the lowest number of a range that passes a test
 --   Following                 h is the next word of the kind of f, and the words hs are the others from there on
---   following-first, -none    the chain begins, and it ends
+--   following-first, -sibling   the chain begins, by chains or by a table of siblings
+--   following-none            it ends
 --   following-inside          where h is below 96 it is a word
 --   following-higher          the next word is a higher one
 --   following-other, -self    a step from another word, and from f itself
@@ -19,7 +20,7 @@ use Rattle.terms.specs.Lists.{range, keep}
 use Rattle.terms.proofs.Keep.{keep-keep, keep-same}
 use Rattle.wire.specs.Vocabulary.{mostWords}
 use Rattle.wire.proofs.Cond.{cond-true, cond-false}
-use Rattle.kinds.specs.Kinds.{kindIn, hasKind, isOther, othersIn, lowest, Chained}
+use Rattle.kinds.specs.Kinds.{kindIn, hasKind, isOther, othersIn, lowest, Chained, SiblingTable}
 
 -- ---- the lowest number of a range that passes a test
 
@@ -98,7 +99,7 @@ left-all words results f =
 -- h is the next word of the kind of f, and the words hs are the others from there on.
 pub record Following (words : ℕ) (results chains : List ℕ) (f h : ℕ) (hs : List ℕ) : Type 0 where
   pub small : words ≤ mostWords
-  pub chained : Chained words results chains
+  pub chained : (g : ℕ) → g < words → getD chains g 0 ≡ lowest words results (kindIn results g) (g + 1)
   pub from : ℕ
   pub below : from ≤ words
   pub next : h ≡ lowest words results (kindIn results f) from
@@ -113,7 +114,25 @@ pub record Step (words : ℕ) (results chains : List ℕ) (f h m : ℕ) (hs : Li
 module _ {words : ℕ} {results chains : List ℕ} {f h : ℕ} where
   pub following-first : words ≤ mostWords → Chained words results chains → h ≡ lowest words results (kindIn results f) 0 →
       Following words results chains f h (othersIn words results f)
-  following-first small c s = record { small = small; chained = c; from = 0; below = omega arith; next = s; same = left-all words results f }
+  following-first small c s = record {
+    small = small;
+    chained = λ g k. c .next g (omega arith);
+    from = 0;
+    below = omega arith;
+    next = s;
+    same = left-all words results f;
+  }
+
+  pub following-sibling : words ≤ mostWords → SiblingTable words results chains → f < words → h ≡ getD chains (128 + f) 0 →
+      Following words results chains f h (othersIn words results f)
+  following-sibling small t known s = record {
+    small = small;
+    chained = t .next;
+    from = 0;
+    below = omega arith;
+    next = s ∙ t .first f known;
+    same = left-all words results f;
+  }
 
   module _ {hs : List ℕ} (w : Following words results chains f h hs) where
     pub following-inside : h < mostWords → h < words
@@ -138,7 +157,7 @@ module _ {words : ℕ} {results chains : List ℕ} {f h : ℕ} where
 
       next-word : m ≡ lowest words results (kindIn results f) (h + 1)
       next-word =
-          step ∙ w .chained .next h (let s = w .small in omega arith)
+          step ∙ w .chained h inside
           ∙ ap (λ k. lowest words results k (h + 1)) (eqb-true (kindIn results h) (kindIn results f) (here .0))
 
       pub following-higher : h < m

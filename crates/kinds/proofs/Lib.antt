@@ -7,3 +7,5 @@ pub mod Chaining
 pub mod Others
 -- The others, one by one along a chain.
 pub mod Following
+-- One table of them.
+pub mod Tabling

@@ -11,11 +11,13 @@
 --   Tallied n results counts   counts says of each kind how many of the first n words have it
 --   Chained n results chains   chains has for each word the next of the first n words that has its kind, and behind them
 --                              for each kind the lowest of these words that has it
+--   SiblingTable n results t   t has for each of the first n words its next one of the same result kind, from 128 on the lowest one of its kind, and from
+--                              256 on how many others its kind has
 --
 use mathlib.Core.Path.{_≡_}
 use mathlib.Core.Bool.{Bool, not, _&&_}
 use mathlib.Core.List.{List}
-use Prim.Native.Nat.{ℕ, _+_, _-_, _%_, _<_}
+use Prim.Native.Nat.{ℕ, _+_, _-_, _%_, _<_, _≤_}
 use lib.Dec.{eqb}
 use lib.ListN.{length, getD}
 use Rattle.terms.specs.Lists.{range, keep}
@@ -49,3 +51,10 @@ pub record Chained (n : ℕ) (results chains : List ℕ) : Type 0 where
   pub size : length chains ≡ mostWords + mostKinds
   pub next : (h : ℕ) → h < mostWords → getD chains h 0 ≡ lowest n results (kindIn results h) (h + 1)
   pub first : (k : ℕ) → k < mostKinds → getD chains (mostWords + k) 0 ≡ lowest n results k 0
+
+pub record SiblingTable (n : ℕ) (results table : List ℕ) : Type 0 where
+  pub size : length table ≡ 384
+  pub next : (h : ℕ) → h < n → getD table h 0 ≡ lowest n results (kindIn results h) (h + 1)
+  pub first : (h : ℕ) → h < n → getD table (128 + h) 0 ≡ lowest n results (kindIn results h) 0
+  pub many : (h : ℕ) → h < n → getD table (256 + h) 0 ≡ length (othersIn n results h)
+  pub none : (h : ℕ) → n ≤ h → h < 128 → (getD table h 0 ≡ 255) × ((getD table (128 + h) 0 ≡ 255) × (getD table (256 + h) 0 ≡ 0))

@@ -1,8 +1,5 @@
--- The bits of maps, and what stands at an offset.
+-- The bits of maps.
 pub mod Bits
-pub mod Bytes
--- The table of the words' siblings.
-pub mod Siblings
 -- The function that notes a term.
 pub mod Noting
 -- On trees: what stands at an offset, and the notes.

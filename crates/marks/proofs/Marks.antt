@@ -10,7 +10,7 @@ use mathlib.Core.Path.{_≡_, refl, sym, ap, ap₂, _∙_, subst}
 use mathlib.Core.Bool.{Bool, true, false, true≢false}
 use mathlib.Core.List.{List, [], _∷_, _++_, map, append-assoc}
 use Prim.Native.Nat.{ℕ, zero, suc, _+_, _-_, _*_, _<_, _≤_}
-use native.Mathlib.Nat.{le-max-left, le-max-right, min-eq-left}
+use native.Mathlib.Nat.{le-max-left, le-max-right}
 use native.Mathlib.Omega.{arith}
 use lib.ListN.{length, getD, take, drop, set, length-append, length-map, length-set}
 use lib.Seq.{getD-drop, drop-drop, drop-set-lt, getD-set-same, getD-set-other, take-append-add}
@@ -19,15 +19,14 @@ use Rattle.terms.specs.Signature.{Signature}
 use Rattle.terms.specs.Term.{Term, any, var, app, Terms, nil, cons, Sorted, SortedAll}
 use Rattle.terms.specs.Listing.{others, bare, openEvery, listing, listingAll}
 use Rattle.wire.specs.Map.{mapBytes, flags, ones, isOpen, writtenFlags}
-use Rattle.wire.specs.Vocabulary.{Vocabulary, InOrder, signature, word, mapOf, mostWords}
+use Rattle.wire.specs.Vocabulary.{Vocabulary, InOrder, signature, word, mapOf}
 use Rattle.wire.specs.TermBytes.{firstNameByte, nameByte, writtenMap, encodeAt, encodeAll, encodeRoot, levels, levelsAll, mostBytes, mostLevels}
 use Rattle.wire.proofs.Cond.{cond-true, cond-false}
 use Rattle.wire.proofs.Words.{length-symbols, arguments-word, word-in-order}
 use Rattle.kinds.proofs.Others.{others-tabled}
-use Rattle.marks.specs.Bytes.{termByte}
-use Rattle.marks.specs.Marking.{markScale, sibling, siblingCounts, siblingAt, Marking, marking, then, withNote, markPlaces, markBelow, markTerm, tableOf, entryCount, MarksOf, MarksOfAll, MarksRight}
+use Rattle.extents.specs.Bytes.{termByte}
+use Rattle.marks.specs.Marking.{markScale, siblingAt, Marking, marking, then, withNote, markPlaces, markBelow, markTerm, tableOf, entryCount, MarksOf, MarksOfAll, MarksRight}
 use Rattle.marks.proofs.Standing.{first-byte, inside, behind, flags-there}
-use Rattle.marks.proofs.Siblings.{sibling-of}
 use Rattle.marks.proofs.Noting.{mark-some, head-name, head-word, below-name, below-word}
 
 -- ---- notes that are kept
@@ -221,7 +220,7 @@ module _ (W : Vocabulary) (inOrder : InOrder W) (siblings l : List ℕ) where
     name-right left n at r m h room =
         let byte : termByte l at ≡ nameByte n = first-byte l at h in
         let high : firstNameByte ≤ termByte l at = omega arith in
-        let none : siblingAt siblings (termByte l at) ≡ 0 = cond-false _ _ _ (le-ltb (termByte l at) mostWords (omega arith)) in
+        let none : siblingAt siblings (termByte l at) ≡ 0 = cond-false _ _ _ (le-ltb (termByte l at) firstNameByte high) in
         let size : at + 1 - at + markScale * 0 ≡ 1 = omega arith in
         record {
           table = set m at 1;
@@ -253,21 +252,13 @@ front-of x r h =
     ap (λ n. take n (x ++ r)) (let e : mostBytes ≡ length x + (mostBytes - length x) = omega arith in e) ∙ take-append-add x r (mostBytes - length x)
 
 pub marks-right : MarksRight
-marks-right W inOrder words results counted table p s sorted deep most r m room = go p sorted deep most room
+marks-right W inOrder results siblings tabled table p s sorted deep most r m room = go p sorted deep most room
   where
-    siblings : List ℕ
-    siblings = siblingCounts words results
-
-    few : words ≤ mostWords
-    few = omega (arith, counted, inOrder .fewWords)
-
     counts : (f : ℕ) → f < length (W .words) → siblingAt siblings f ≡ length (others (signature W) f)
     counts f h =
-        cond-true _ _ _ (lt-ltb f mostWords (omega arith))
-        ∙ sibling-of words results f (omega arith)
-        ∙ ap (λ n. sibling n results f) (min-eq-left few)
-        ∙ cond-true _ _ _ (lt-ltb f words (omega arith))
-        ∙ ap length (sym (others-tabled W inOrder words results counted table f (omega arith)))
+        cond-true _ _ _ (lt-ltb f firstNameByte (omega (arith, inOrder .fewWords)))
+        ∙ table .many f h
+        ∙ ap length (sym (others-tabled W inOrder (length (W .words)) results refl tabled f h))
 
     closed-marks : (p : Term) → Sorted (signature W) p s → isOpen p ≡ false → levels p ≤ mostLevels → length (encodeAt W p) < mostBytes →
         length (encodeAt W p) ≤ length m → MarksOf W p (tableOf (markTerm mostLevels siblings (take mostBytes (encodeAt W p ++ r)) 0 m))

@@ -16,15 +16,14 @@ use lib.Dec.{ltb, eqb}
 use lib.ListN.{length, set, length-set}
 use borrow.Author.Tests.{lt-ltb, le-ltb, ltb-true, ltb-false, eq-eqb, ne-eqb}
 use Rattle.wire.specs.Map.{mapBits, mapBytes, flagsIn}
-use Rattle.wire.specs.Vocabulary.{mostWords}
 use Rattle.wire.specs.TermBytes.{firstNameByte, mostBytes}
 use Rattle.wire.proofs.Cond.{cond-true, cond-false}
 use Rattle.maps.specs.Reading.{mapAt}
-use Rattle.marks.specs.Bytes.{termByte}
+use Rattle.extents.specs.Bytes.{termByte, Small}
+use Rattle.extents.proofs.Bytes.{missing}
 use Rattle.marks.specs.Marking.{markScale, siblingAt, headSize, bitsBelow, Marking, marking, then, withNote, markPlaces, markBelow, markTerm}
-use Rattle.marks.specs.Inside.{Small, mostEntries, Notes}
+use Rattle.marks.specs.Inside.{mostEntries, Notes}
 use Rattle.marks.proofs.Bits.{some-left, first-bit, fewer-bits}
-use Rattle.marks.proofs.Bytes.{missing}
 
 -- ---- the head of a term
 
@@ -49,8 +48,8 @@ module _ (l : List ℕ) (at : ℕ) where
       (at + headSize l at ≤ length l + 1) × (2 * n ≤ 255 * headSize l at)
   head-few siblings {n} within s = go (ltb at (length l)) refl (ltb (termByte l at) firstNameByte) refl
     where
-      none : mostWords ≤ termByte l at → n ≡ 0
-      none h = s .same ∙ cond-false _ _ _ (le-ltb (termByte l at) mostWords h)
+      none : firstNameByte ≤ termByte l at → n ≡ 0
+      none h = s .same ∙ cond-false _ _ _ (le-ltb (termByte l at) firstNameByte h)
 
       go : (a : Bool) → ltb at (length l) ≡ a → (b : Bool) → ltb (termByte l at) firstNameByte ≡ b →
           (at + headSize l at ≤ length l + 1) × (2 * n ≤ 255 * headSize l at)
@@ -62,12 +61,12 @@ module _ (l : List ℕ) (at : ℕ) where
           let h = ltb-true at (length l) x in
           let d = ltb-false (termByte l at) firstNameByte y in
           let z = head-name h d in
-          let k = none (let w : mostWords ≤ termByte l at = omega arith in w) in (omega arith, omega arith)
+          let k = none (let w : firstNameByte ≤ termByte l at = omega arith in w) in (omega arith, omega arith)
       go false x b y =
           let h = ltb-false at (length l) x in
           let z = head-none h in
           let d = missing l at h in
-          let k = none (let w : mostWords ≤ termByte l at = omega arith in w) in (omega arith, omega arith)
+          let k = none (let w : firstNameByte ≤ termByte l at = omega arith in w) in (omega arith, omega arith)
 
 -- ---- a term
 

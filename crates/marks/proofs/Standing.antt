@@ -19,7 +19,7 @@ use Rattle.wire.specs.TermBytes.{writtenMap}
 use Rattle.wire.proofs.Map.{flags-written}
 use Rattle.maps.specs.Reading.{mapAt}
 use Rattle.maps.proofs.Reading.{map-at}
-use Rattle.marks.specs.Bytes.{termByte}
+use Rattle.extents.specs.Bytes.{termByte}
 
 pub at-offset : (d : ℕ) (l : List ℕ) (i k : ℕ) {x : List ℕ} → drop i l ≡ x → getD l (i + k) d ≡ getD x k d
 at-offset d l i k h = sym (getD-drop i l k d) ∙ ap (λ x. getD x k d) h

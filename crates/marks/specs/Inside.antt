@@ -1,6 +1,5 @@
 -- Inside: what the private functions need and promise each other; no public contract cites it.
 --
---   Small r v         r is v, which is below 256
 --   mostEntries       a note has at most so many entries
 --   Notes             what is noted is right, and no more than there is room for
 --
@@ -9,10 +8,6 @@ use mathlib.Core.List.{List}
 use Prim.Native.Nat.{ℕ, _+_, _-_, _*_, _<_, _≤_}
 use lib.ListN.{length}
 use Rattle.marks.specs.Marking.{Marking, marking}
-
-pub record Small (r v : ℕ) : Type 0 where
-  pub same : r ≡ v
-  pub low : r < 256
 
 abbrev pub mostEntries : ℕ
 mostEntries = 524288

@@ -1,8 +1,6 @@
 -- What the contract of mark cites, and the law that fixes it.
 --
---   Bytes      a byte at an offset
 --   Marking    what mark notes, on bytes and on trees
 --   Inside     what the private functions need; no public contract cites it
-pub mod Bytes
 pub mod Marking
 pub mod Inside

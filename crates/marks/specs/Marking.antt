@@ -3,9 +3,7 @@
 -- The first part is an algorithm, and nothing in it has to be believed: MarksRight fixes what it gives.
 --
 --   markScale                  a note is the size and so many times the entries (8192)
---   sibling n results f        how many others of the first n words have the result kind of f; 0 where f is none of them
---   siblingCounts words results   the same for each of the 96 words that a table has room for
---   siblingAt siblings f       the number of f in such a table
+--   siblingAt siblings f       how many others the result kind of the word f has, by a table of siblings; 0 where f is no word's byte
 --   Marking                    how far the notes have come: the offset behind a term, its entries, and the table
 --   then x next                what is noted next
 --   withNote at x              x, with its size from the offset `at` on and its entries noted there
@@ -15,39 +13,32 @@
 --   markBelow rec s l at m     the terms below the word of l at the offset `at`, with the word's own entries
 --   markTerm left s l at m     the term of l at the offset `at`, with so many levels left
 --   tableOf x                  the table
---   marked words results l m   what mark leaves in the table
+--   marked siblings l m        what mark leaves in the table
 --   entryCount S t              how many entries the listing of t has
 --   MarksOf W t m, MarksOfAll W ts m   the table m has at its front the notes of t, or of ts
 --   MarksRight                 a pattern's notes are right
 --
 use mathlib.Core.Path.{_≡_}
 use mathlib.Core.Bool.{Bool, true, false, cond}
-use mathlib.Core.List.{List, [], _∷_, _++_, map}
-use Prim.Native.Nat.{ℕ, zero, suc, _+_, _-_, _*_, _<_, _≤_, min}
+use mathlib.Core.List.{List, [], _∷_, _++_}
+use Prim.Native.Nat.{ℕ, zero, suc, _+_, _-_, _*_, _<_, _≤_}
 use lib.Dec.{ltb}
 use lib.ListN.{length, getD, take, drop, set}
-use Rattle.terms.specs.Lists.{range}
 use Rattle.terms.specs.Signature.{Signature}
 use Rattle.terms.specs.Term.{Term, any, var, app, Terms, nil, cons, Sorted}
 use Rattle.terms.specs.Listing.{listing}
 use Rattle.wire.specs.Map.{mapBytes, flags}
-use Rattle.wire.specs.Vocabulary.{Vocabulary, InOrder, signature, word, mostWords}
+use Rattle.wire.specs.Vocabulary.{Vocabulary, InOrder, signature, word}
 use Rattle.wire.specs.TermBytes.{firstNameByte, encodeAt, encodeRoot, levels, mostBytes, mostLevels}
 use Rattle.maps.specs.Reading.{mapAt}
-use Rattle.kinds.specs.Kinds.{othersIn}
-use Rattle.marks.specs.Bytes.{termByte}
+use Rattle.extents.specs.Bytes.{termByte}
+use Rattle.kinds.specs.Kinds.{SiblingTable}
 
 abbrev pub markScale : ℕ
 markScale = 8192
 
-abbrev pub sibling : ℕ → List ℕ → ℕ → ℕ
-sibling n results f = cond (ltb f n) (length (othersIn n results f)) 0
-
-unfoldable pub siblingCounts : ℕ → List ℕ → List ℕ
-siblingCounts words results = map (sibling (min words mostWords) results) (range 0 mostWords)
-
 abbrev pub siblingAt : List ℕ → ℕ → ℕ
-siblingAt siblings f = cond (ltb f mostWords) (getD siblings f 0) 0
+siblingAt siblings f = cond (ltb f firstNameByte) (getD siblings (256 + f) 0) 0
 
 pub data Marking : Type 0 where
   marking : ℕ → ℕ → List ℕ → Marking
@@ -79,8 +70,8 @@ markTerm (suc left) siblings l at m = withNote at (markBelow (markTerm left sibl
 abbrev pub tableOf : Marking → List ℕ
 tableOf (marking at n m) = m
 
-abbrev pub marked : ℕ → List ℕ → List ℕ → List ℕ → List ℕ
-marked words results l m = tableOf (markTerm mostLevels (siblingCounts words results) (take mostBytes l) 0 m)
+abbrev pub marked : List ℕ → List ℕ → List ℕ → List ℕ
+marked siblings l m = tableOf (markTerm mostLevels siblings (take mostBytes l) 0 m)
 
 -- ---- on trees
 
@@ -100,7 +91,7 @@ abbrev mutual
   MarksOfAll W (cons t ts) m = MarksOf W t m × MarksOfAll W ts (drop (length (encodeAt W t)) m)
 
 abbrev pub MarksRight : Type 0
-MarksRight = (W : Vocabulary) → InOrder W → (words : ℕ) (results : List ℕ) → words ≡ length (W .words) →
-    ((f : ℕ) → f < words → getD results f 0 ≡ word W f .result) →
+MarksRight = (W : Vocabulary) → InOrder W → (results siblings : List ℕ) →
+    ((f : ℕ) → f < length (W .words) → getD results f 0 ≡ word W f .result) → SiblingTable (length (W .words)) results siblings →
     (p : Term) (s : ℕ) → Sorted (signature W) p s → levels p ≤ mostLevels → length (encodeRoot W p) < mostBytes →
-    (r m : List ℕ) → length (encodeRoot W p) ≤ length m → MarksOf W p (marked words results (encodeRoot W p ++ r) m)
+    (r m : List ℕ) → length (encodeRoot W p) ≤ length m → MarksOf W p (marked siblings (encodeRoot W p ++ r) m)

@@ -3,10 +3,9 @@ ghost use mathlib.Core.Path.{_≡_};
 ghost use Prim.Native.Nat.{_+_, _*_, _≤_, _<_, min};
 ghost use lib.ListN.{length, set};
 ghost use Rattle.wire.specs.TermBytes.{mostBytes};
-ghost use Rattle.maps.specs.Reading.{mapAt};
-ghost use Rattle.marks.specs.Bytes.{termByte};
-ghost use Rattle.marks.specs.Marking.{markScale, siblingCounts, siblingAt, headSize, bitsBelow, markTerm, marked};
-ghost use Rattle.marks.specs.Inside.{Small, mostEntries, Notes};
+ghost use Rattle.extents.specs.Bytes.{Small};
+ghost use Rattle.marks.specs.Marking.{markScale, siblingAt, headSize, bitsBelow, markTerm, marked};
+ghost use Rattle.marks.specs.Inside.{mostEntries, Notes};
 
 fn least(a: usize, b: usize) -> usize
     ensures { λ r. ⌜ r ≡ min a b ⌝ }
@@ -20,47 +19,14 @@ fn wide(b: u8) -> usize
     b as usize
 }
 
-// The byte at an offset, 255 where it is missing.
-fn byte(bytes: &[u8], at: usize) -> usize
-    ensures { λ r. ⌜ Small r (termByte (now (bytes .entry)) at) ⌝ }
-{
-    if bytes.len() <= at {
-        return 255;
-    }
-    wide(bytes[at])
-}
-
-// The map at an offset.
-fn map(bytes: &[u8], at: usize) -> usize
-    ensures { λ r. ⌜ Small r (mapAt (now (bytes .entry)) at) ⌝ }
-{
-    wide(maps::read(bytes, at))
-}
-
-// How many other words each word's result kind has; 0 for what is no word.
-fn sibling_counts(words: usize, results: &[u8; 96]) -> [u8; 96]
-    ensures { λ r. ⌜ r ≡ siblingCounts words (now (results .entry)) ⌝ }
-{
-    let n = least(words, 96);
-    let counts = kinds::tally(n, results);
-    let mut siblings = [0u8; 96];
-    let mut f = 0;
-    while f < n {
-        let kind = wide(results[f]) % 16;
-        let many = counts[kind];
-        siblings[f] = many - 1;
-        f += 1;
-    }
-    siblings
-}
-
-fn sibling_count(f: usize, siblings: &[u8; 96]) -> usize
+// How many other words the result kind of the word f has; 0 for what is no word.
+fn sibling_count(f: usize, siblings: &[u8; 384]) -> usize
     ensures { λ r. ⌜ Small r (siblingAt (now (siblings .entry)) f) ⌝ }
 {
-    if 96 <= f {
+    if 127 < f {
         return 0;
     }
-    wide(siblings[f])
+    wide(siblings[256 + f])
 }
 
 // How far the notes have come: the offset behind a term, and its entries.
@@ -87,7 +53,7 @@ fn head(term: &[u8], at: usize) -> usize
     if term.len() <= at {
         return 0;
     }
-    if 127 < byte(term, at) {
+    if 127 < extents::byte(term, at) {
         return 1;
     }
     maps::NODE
@@ -97,15 +63,21 @@ fn head(term: &[u8], at: usize) -> usize
 fn map_below(term: &[u8], at: usize) -> usize
     ensures { λ r. ⌜ Small r (bitsBelow (now (term .entry)) at) ⌝ }
 {
-    if 127 < byte(term, at) {
+    if 127 < extents::byte(term, at) {
         return 0;
     }
-    map(term, at + 1)
+    extents::map(term, at + 1)
 }
 
 // Notes what the term at an offset has, with so many levels left: the terms at its written places first, the lowest before the
 // others.
-fn mark_term(term: &[u8], word: usize, siblings: &[u8; 96], left: usize, marks: &mut [u32]) -> Noted
+fn mark_term(
+    term: &[u8],
+    word: usize,
+    siblings: &[u8; 384],
+    left: usize,
+    marks: &mut [u32],
+) -> Noted
     requires { ⌜ length (now term) ≤ mostBytes ⌝ }
     requires { ⌜ word ≤ length (now term) + 1 ⌝ }
     ensures { λ r. ⌜ Notes (markTerm left (now (siblings .entry)) (now (term .entry)) word (now (marks .entry))) (length (now (term .entry))) word (now (marks .entry)) (r .at) (r .entries) (now (marks .exit)) ⌝ }
@@ -116,7 +88,7 @@ fn mark_term(term: &[u8], word: usize, siblings: &[u8; 96], left: usize, marks: 
             entries: 0,
         };
     }
-    let mut entries = sibling_count(byte(term, word), siblings);
+    let mut entries = sibling_count(extents::byte(term, word), siblings);
     let mut bits = map_below(term, word);
     let mut at = word + head(term, word);
     while bits != 0 {
@@ -133,11 +105,11 @@ fn mark_term(term: &[u8], word: usize, siblings: &[u8; 96], left: usize, marks: 
 }
 
 // Notes for each subterm of a pattern's term its size in bytes and how many entries its listing has: size + 8192 * entries, at
-// the subterm's offset. Bytes from the 4,096th on and words from the 96th on are not looked at.
-pub fn mark(term: &[u8], words: usize, results: &[u8; 96], marks: &mut [u32])
-    ensures { λ _. ⌜ now (marks .exit) ≡ marked words (now (results .entry)) (now (term .entry)) (now (marks .entry)) ⌝ }
+// the subterm's offset. How many others a word's result kind has is read from a table of siblings, from 256 on. Bytes from the
+// 4,096th on are not looked at.
+pub fn mark(term: &[u8], siblings: &[u8; 384], marks: &mut [u32])
+    ensures { λ _. ⌜ now (marks .exit) ≡ marked (now (siblings .entry)) (now (term .entry)) (now (marks .entry)) ⌝ }
 {
-    let siblings = sibling_counts(words, results);
     let end = least(term.len(), 4096);
-    let _ = mark_term(&term[..end], 0, &siblings, 32, marks);
+    let _ = mark_term(&term[..end], 0, siblings, 32, marks);
 }

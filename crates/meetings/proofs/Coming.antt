@@ -26,15 +26,15 @@ use Rattle.wire.specs.TermBytes.{firstNameByte, mostBytes, mostLevels}
 use Rattle.wire.proofs.Cond.{cond-true, cond-false}
 use Rattle.maps.specs.Reading.{mapAt}
 use Rattle.extents.proofs.Extents.{front-is}
-use Rattle.marks.specs.Bytes.{termByte}
+use Rattle.extents.specs.Bytes.{termByte, Small}
 use Rattle.meetings.specs.Passing.{passed, passedIf}
 use Rattle.meetings.specs.Walking.{sizeIn, entriesIn, onward, meetPlaces, meetWord, meetTerm, answer, meeting}
-use Rattle.marks.specs.Inside.{Small, mostEntries}
+use Rattle.marks.specs.Inside.{mostEntries}
 use Rattle.meetings.specs.Inside.{NoteAt, farthest, Bounded, Met}
 use Rattle.meetings.specs.declared.Walk.{Walk}
 use Rattle.meetings.specs.declared.Walk.the-variants.{Parted, Came}
 use Rattle.marks.proofs.Bits.{some-left, first-bit, fewer-bits}
-use Rattle.marks.proofs.Bytes.{word-inside}
+use Rattle.extents.proofs.Bytes.{word-inside}
 use Rattle.meetings.proofs.Passing.{passed-within}
 
 -- ---- levels and measures

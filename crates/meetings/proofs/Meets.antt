@@ -27,7 +27,7 @@ use Rattle.wire.specs.Map.{mapBytes, flags, ones, isOpen, writtenFlags}
 use Rattle.wire.specs.Vocabulary.{Vocabulary, InOrder, signature, word, mapOf}
 use Rattle.wire.specs.TermBytes.{firstNameByte, wholeByte, writtenMap, encodeAt, encodeAll, encodeRoot, levels, levelsAll, mostBytes, mostLevels}
 use Rattle.wire.proofs.Words.{length-symbols, arguments-word, word-in-order}
-use Rattle.marks.specs.Bytes.{termByte}
+use Rattle.extents.specs.Bytes.{termByte}
 use Rattle.marks.specs.Marking.{markScale, entryCount, MarksOf, MarksOfAll}
 use Rattle.meetings.specs.Walking.{sizeIn, entriesIn, onward, meetPlaces, meetWord, meetTerm, answer, meeting, meetingOf, MeetingRight}
 use Rattle.meetings.specs.declared.Meeting.the-variants.{Apart, Shares}

@@ -27,7 +27,7 @@ use Rattle.wire.specs.Map.{mapBytes, flags}
 use Rattle.wire.specs.Vocabulary.{Vocabulary, InOrder, signature}
 use Rattle.wire.specs.TermBytes.{firstNameByte, encodeRoot, levels, mostBytes, mostLevels}
 use Rattle.maps.specs.Reading.{mapAt}
-use Rattle.marks.specs.Bytes.{termByte}
+use Rattle.extents.specs.Bytes.{termByte}
 use Rattle.meetings.specs.Passing.{passed}
 use Rattle.marks.specs.Marking.{markScale, MarksOf}
 use Rattle.meetings.specs.declared.Meeting.{Meeting}

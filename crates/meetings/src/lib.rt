@@ -3,9 +3,6 @@ ghost use mathlib.Core.Path.{_≡_};
 ghost use Prim.Native.Nat.{_+_, _≤_, _<_, min};
 ghost use lib.Dec.{eqb};
 ghost use lib.ListN.{length, getD};
-ghost use Rattle.maps.specs.Reading.{mapAt};
-ghost use Rattle.marks.specs.Bytes.{termByte};
-ghost use Rattle.marks.specs.Inside.{Small};
 ghost use Rattle.meetings.specs.Passing.{passedIf};
 ghost use Rattle.meetings.specs.Walking.{meetTerm, meetWord, meeting};
 ghost use Rattle.meetings.specs.Inside.{NoteAt, Walks, Met};
@@ -20,29 +17,6 @@ fn least(a: usize, b: usize) -> usize
     ensures { λ r. ⌜ r ≡ min a b ⌝ }
 {
     if a < b { a } else { b }
-}
-
-fn wide(b: u8) -> usize
-    ensures { λ r. ⌜ Small r b ⌝ }
-{
-    b as usize
-}
-
-// The byte at an offset, 255 where it is missing.
-fn byte(bytes: &[u8], at: usize) -> usize
-    ensures { λ r. ⌜ Small r (termByte (now (bytes .entry)) at) ⌝ }
-{
-    if bytes.len() <= at {
-        return 255;
-    }
-    wide(bytes[at])
-}
-
-// The map at an offset.
-fn map(bytes: &[u8], at: usize) -> usize
-    ensures { λ r. ⌜ Small r (mapAt (now (bytes .entry)) at) ⌝ }
-{
-    wide(maps::read(bytes, at))
 }
 
 // The offset behind the term at an offset, where a bit says that a term is due there.
@@ -83,11 +57,11 @@ fn meet_term(entry: &[u8], i: usize, pattern: &[u8], j: usize, marks: &[u32], le
     if left == 0 {
         return Walk::Parted;
     }
-    let p = byte(pattern, j);
+    let p = extents::byte(pattern, j);
     if 127 < p {
         return Walk::Came(pass(entry, i, 1), 0);
     }
-    let e = byte(entry, i);
+    let e = extents::byte(entry, i);
     if 127 < e {
         return Walk::Came(pass(entry, i, 1), mark_at(marks, j) / 8192);
     }
@@ -104,8 +78,8 @@ fn meet_places(entry: &[u8], i: usize, pattern: &[u8], j: usize, marks: &[u32], 
     requires { ⌜ j < length (now pattern) ⌝ }
     ensures { λ r. ⌜ Met (meetWord (meetTerm left (now (entry .entry)) (now (pattern .entry)) (now (marks .entry))) (now (entry .entry)) (now (pattern .entry)) (now (marks .entry)) i j) (length (now (entry .entry))) i r ⌝ }
 {
-    let mut ours = map(entry, i + 1);
-    let mut theirs = map(pattern, j + 1);
+    let mut ours = extents::map(entry, i + 1);
+    let mut theirs = extents::map(pattern, j + 1);
     let mut at = i + maps::NODE;
     let mut from = j + maps::NODE;
     let mut n = 0;

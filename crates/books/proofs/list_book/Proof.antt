@@ -4,7 +4,9 @@ use mathlib.Core.Path.{refl, sym, ap, _∙_}
 use denote.Ref.{now}
 use native.Mathlib.Omega.{arith}
 use Rattle.reader.specs.Answers.{bookNumbers}
-use Rattle.books.proofs.Calls.{vocabulary-refuses, book-refuses, book-refused, some-bytes, book-at, book-listed}
+use Rattle.reader.proofs.Refused.{vocabulary-refuses, book-refuses}
+use Rattle.books.proofs.Calls.{book-refused, some-bytes, book-at, book-listed}
+use borrow.Author.Needs.{needs}
 use Rattle.books.proofs.list_book.Statement.{statement}
 use Rattle.books.proofs.list_book.Tie as tie
 
@@ -12,13 +14,13 @@ read-book-requires : tie.Need-read-book-requires
 read-book-requires c κs = search needs
 
 enum-known-why : tie.Need-enum-known-why
-enum-known-why c = search needs
+enum-known-why c = c .match .keys1
 
 enum-known-why-2 : tie.Need-enum-known-why-2
-enum-known-why-2 c = search needs
+enum-known-why-2 c = c .match .keys2
 
 enum-told : tie.Need-enum-told
-enum-told c = search needs
+enum-told c = c .match .keys3
 
 shared-slice-read-list-read : tie.Need-shared-slice-read-list-read
 shared-slice-read-list-read c =
@@ -46,6 +48,9 @@ list-read-requires c κs =
     (λ i. at-shared-slice-known .shared-slice-known .given i .fits) (λ i. at-shared-slice-known2 .shared-slice-known2 .given i .fits)
     (ap bookNumbers (sym (at-enum-told .enum-told .given .1)) ∙ at-read-book .read-book .ensures .answer) refl _ (at-read-book .read-book .ensures .results)
 
+answer-requires : tie.Need-answer-requires
+answer-requires c κs = search needs
+
 returns : tie.Need-returns
 returns c =
     let at-read-book = c .before .before .before in
@@ -71,7 +76,7 @@ same-length c = search needs
 
 returns-3 : tie.Need-returns-3
 returns-3 c =
-    let at-list-read = c .before .before in
+    let at-list-read = c .before .before .before in
     let at-enum-told = at-list-read .before .before .before .before in
     let at-read-book = at-enum-told .before .before in
     let at-shared-slice-known2 = at-read-book .before .before .before in
@@ -79,7 +84,7 @@ returns-3 c =
     let start = at-shared-slice-known .before in
     book-listed (now (start .args .vocabulary)) (now (start .args .book)) (now (start .args .out))
     (λ i. at-shared-slice-known .shared-slice-known .given i .fits) (λ i. at-shared-slice-known2 .shared-slice-known2 .given i .fits)
-    (ap bookNumbers (sym (at-enum-told .enum-told .given .1)) ∙ at-read-book .read-book .ensures .answer) refl _ (at-read-book .read-book .ensures .results) (at-list-read .list-read .ensures)
+    (ap bookNumbers (sym (at-enum-told .enum-told .given .1)) ∙ at-read-book .read-book .ensures .answer) refl _ (at-read-book .read-book .ensures .results) (c .answer .ensures) (at-list-read .list-read .ensures)
 
 pub list-book-spec : {M : Type 1} → statement M
 list-book-spec =
@@ -92,6 +97,7 @@ list-book-spec =
     shared-slice-read-list-read
     cast-list-read
     list-read-requires
+    answer-requires
     returns
     returns-2
     same-length

@@ -1,6 +1,6 @@
 -- `books::list_large` meets its contract: no pattern is longer than 4,096 bytes.
-use mathlib.Core.Path.{refl}
-use native.Mathlib.Omega.{arith}
+use denote.Ref.{now}
+use Rattle.books.proofs.Beginning.{large-areas}
 use borrow.Author.Needs.{needs}
 use Rattle.books.proofs.list_large.Statement.{statement}
 use Rattle.books.proofs.list_large.Tie as tie
@@ -20,13 +20,17 @@ slice-aggregate-list-in-4 c = search needs
 list-in-requires : tie.Need-list-in-requires
 list-in-requires c κs =
     let start = c .before .before .before .before .before .before .before in
-    (start .pre, record { span = 4096; same = refl; some = omega arith; spans = omega arith; copy = omega arith; small = omega arith; marks = omega arith })
+    (start .pre, large-areas (now (start .args .book)))
 
 same-length : tie.Need-same-length
-same-length c = search needs
+same-length c =
+    let at-list-in = c .before .before .before .before .before .before in
+    at-list-in .list-in .kept .1 .1 .1 .1 .1 .1 .0
 
 returns : tie.Need-returns
-returns c = search needs
+returns c =
+    let at-list-in = c .before .before .before .before .before .before in
+    at-list-in .list-in .ensures
 
 pub list-large-spec : {M : Type 1} → statement M
 list-large-spec =

@@ -1,92 +1,81 @@
 -- `books::list_read` meets its contract.
-use mathlib.Core.Path.{refl, sym, ap}
 use denote.Ref.{now}
 use native.Mathlib.Omega.{arith}
-use Rattle.books.specs.Turning.{turnNumbers}
-use Rattle.books.proofs.Rooms.{large-listed, small-listed, past-listed}
+use Rattle.books.proofs.Rooms.{read-at, not-past, large-listed, small-listed, past-listed}
+use borrow.Author.Needs.{needs}
 use borrow.Author.Needs.{needs}
 use Rattle.books.proofs.list_read.Statement.{statement}
 use Rattle.books.proofs.list_read.Tie as tie
 
-list-large-requires : tie.Need-list-large-requires
-list-large-requires c κs = search needs
+siblings-requires : tie.Need-siblings-requires
+siblings-requires c κs = search needs
 
-answer-requires : tie.Need-answer-requires
-answer-requires c κs = search needs
+list-large-requires : tie.Need-list-large-requires
+list-large-requires c κs =
+    let at-siblings = c .before .before .before in
+    let start = at-siblings .before .before .before in
+    read-at (start .pre) _ (at-siblings .siblings .ensures)
 
 same-length : tie.Need-same-length
 same-length c = search needs
 
 returns : tie.Need-returns
 returns c =
-    let at-list-large = c .before .before .before in
-    let start = at-list-large .before .before .before .before .before in
-    large-listed (now (start .args .out)) _ (at-list-large .list-large .result) _ (c .answer .ensures) (at-list-large .list-large .ensures)
+    let at-list-large = c .before .before in
+    let at-siblings = at-list-large .before .before .before .before in
+    let start = at-siblings .before .before .before in
+    large-listed _ (at-siblings .siblings .ensures) (now (start .args .out)) _ (at-list-large .list-large .result) (at-list-large .list-large .ensures)
 
 list-small-requires : tie.Need-list-small-requires
-list-small-requires c κs = search needs
-
-enum-known-entries : tie.Need-enum-known-entries
-enum-known-entries c = search needs
-
-enum-known-bytes : tie.Need-enum-known-bytes
-enum-known-bytes c = search needs
+list-small-requires c κs =
+    let at-if1 = c .before .before in
+    let at-siblings = at-if1 .before in
+    let start = at-siblings .before .before .before in
+    (read-at (start .pre) _ (at-siblings .siblings .ensures), at-if1 .if1 .left)
 
 enum-told : tie.Need-enum-told
-enum-told c = search needs
+enum-told c = c .match .keys1
 
 list-large-requires-2 : tie.Need-list-large-requires-2
-list-large-requires-2 c κs = search needs
-
-answer-requires-2 : tie.Need-answer-requires-2
-answer-requires-2 c κs = search needs
+list-large-requires-2 c κs =
+    let at-siblings = c .before .before .before .before .before .before .before .before .before .before in
+    let start = at-siblings .before .before .before in
+    read-at (start .pre) _ (at-siblings .siblings .ensures)
 
 same-length-2 : tie.Need-same-length-2
 same-length-2 c = search needs
 
 returns-2 : tie.Need-returns-2
 returns-2 c =
-    let at-list-small = c .before .before .before .before .before in
-    let start = at-list-small .before .before .before .before .before in
-    small-listed (now (start .args .out)) _ (at-list-small .list-small .result) _ (sym (ap turnNumbers (c .before .entries .given .1))) 1024 (at-list-small .list-small .ensures) (omega arith) refl
+    let at-list-large2 = c .before .before in
+    let at-enum-told = at-list-large2 .before .before .before in
+    let at-list-small = at-enum-told .before .before .before .before in
+    let at-siblings = at-list-small .before .before .before .before in
+    let start = at-siblings .before .before .before in
+    past-listed _ (at-siblings .siblings .ensures) (now (start .args .out)) _ (at-list-large2 .list-large2 .result) _ (at-list-small .list-small .result) 1024 (at-list-small .list-small .ensures) (at-enum-told .enum-told .given .1) (at-list-large2 .list-large2 .ensures)
 
 same-length-3 : tie.Need-same-length-3
 same-length-3 c = search needs
 
 returns-3 : tie.Need-returns-3
 returns-3 c =
-    let at-list-small = c .before .before .before .before .before in
-    let start = at-list-small .before .before .before .before .before in
-    small-listed (now (start .args .out)) _ (at-list-small .list-small .result) _ (sym (ap turnNumbers (c .before .bytes .given .1))) 1024 (at-list-small .list-small .ensures) (omega arith) refl
-
-same-length-4 : tie.Need-same-length-4
-same-length-4 c = search needs
-
-returns-4 : tie.Need-returns-4
-returns-4 c =
-    let at-list-large2 = c .before .before .before in
-    let at-enum-told = at-list-large2 .before .before in
-    let at-list-small = at-enum-told .before .before .before .before in
-    let start = at-list-small .before .before .before .before .before in
-    past-listed (now (start .args .out)) _ (at-list-large2 .list-large2 .result) _ (c .answer2 .ensures) _ (at-list-small .list-small .result) 1024 (at-list-small .list-small .ensures) (at-enum-told .enum-told .given .1) (at-list-large2 .list-large2 .ensures)
+    let at-list-small = c .before .before .before in
+    let at-siblings = at-list-small .before .before .before .before in
+    let start = at-siblings .before .before .before in
+    small-listed _ (at-siblings .siblings .ensures) (now (start .args .out)) _ (at-list-small .list-small .result) 1024 (at-list-small .list-small .ensures) (omega arith) (not-past (at-list-small .list-small .result) (c .match .keys2))
 
 pub list-read-spec : {M : Type 1} → statement M
 list-read-spec =
     tie.close
     (tie.spec
+    siblings-requires
     list-large-requires
-    answer-requires
     same-length
     returns
     list-small-requires
-    enum-known-entries
-    enum-known-bytes
     enum-told
     list-large-requires-2
-    answer-requires-2
     same-length-2
     returns-2
     same-length-3
-    returns-3
-    same-length-4
-    returns-4)
+    returns-3)

@@ -13,7 +13,7 @@ use borrow.Fn.PlainCycle.{Measures, is, falls, and}
 use Rattle.marks.proofs.mark_term.Reads as mark-term
 use Rattle.marks.proofs.mark_term.Kinds as mark-term-kinds
 use Rattle.marks.proofs.+mark_term.Lts-mark_term as mark-term-lts
-use Rattle.marks.proofs.byte.Reads as byte-reads
+use Rattle.extents.proofs.byte.Reads as byte-reads
 use Rattle.marks.proofs.head.Reads as head-reads
 use Rattle.marks.proofs.map_below.Reads as map-below-reads
 use Rattle.marks.proofs.note.Reads as note-reads

@@ -2,7 +2,7 @@
 use mathlib.Core.Path.{sym, _∙_}
 use native.Mathlib.Omega.{arith}
 use denote.Ref.{now}
-use Rattle.marks.proofs.Bytes.{word-inside}
+use Rattle.extents.proofs.Bytes.{word-inside}
 use Rattle.marks.proofs.Noting.{below-name, below-word}
 use borrow.Author.Needs.{needs}
 use Rattle.marks.proofs.map_below.Statement.{statement}

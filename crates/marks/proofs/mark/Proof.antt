@@ -1,5 +1,5 @@
 -- `marks::mark` meets its contract.
-use mathlib.Core.Path.{sym, ap, ap₂, _∙_}
+use mathlib.Core.Path.{sym, ap, _∙_}
 use native.Mathlib.Omega.{arith}
 use denote.Ref.{now}
 use lib.ListN.{take}
@@ -11,22 +11,19 @@ use borrow.Author.Needs.{needs}
 use Rattle.marks.proofs.mark.Statement.{statement}
 use Rattle.marks.proofs.mark.Tie as tie
 
-sibling-counts-requires : tie.Need-sibling-counts-requires
-sibling-counts-requires c κs = search needs
-
 least-requires : tie.Need-least-requires
 least-requires c κs = search needs
 
 slice-aggregate-mark-term : tie.Need-slice-aggregate-mark-term
 slice-aggregate-mark-term c =
     let at-least = c .before in
-    let start = at-least .before .before .before .before in
+    let start = at-least .before .before .before in
     sym (length-take-le (at-least .least .result) (now (start .args .term)) (omega (arith, at-least .least .ensures)))
 
 mark-term-requires : tie.Need-mark-term-requires
 mark-term-requires c κs =
-    let at-least = c .before .before .before in
-    let start = at-least .before .before .before .before in
+    let at-least = c .before .before in
+    let start = at-least .before .before .before in
     (omega (arith, at-least .least .ensures, length-take-le (at-least .least .result) (now (start .args .term)) (omega (arith, at-least .least .ensures))), omega arith)
 
 same-length : tie.Need-same-length
@@ -34,16 +31,14 @@ same-length c = search needs
 
 returns : tie.Need-returns
 returns c =
-    let at-least = c .before .before .before .before .before .before in
-    let at-sibling-counts = at-least .before in
-    let start = at-sibling-counts .before .before .before in
-    sym (ap tableOf (sym (ap₂ (λ s l. markTerm 32 s l 0 (now (start .args .marks))) (at-sibling-counts .sibling-counts .ensures) (ap (λ n. take n (now (start .args .term))) (at-least .least .ensures) ∙ front-is mostBytes (now (start .args .term)))) ∙ c .before .before .mark-term .ensures .same))
+    let at-least = c .before .before .before .before .before in
+    let start = at-least .before .before .before in
+    sym (ap tableOf (sym (ap (λ l. markTerm 32 (now (start .args .siblings)) l 0 (now (start .args .marks))) (ap (λ n. take n (now (start .args .term))) (at-least .least .ensures) ∙ front-is mostBytes (now (start .args .term)))) ∙ c .before .before .mark-term .ensures .same))
 
 pub mark-spec : {M : Type 1} → statement M
 mark-spec =
     tie.close
     (tie.spec
-    sibling-counts-requires
     least-requires
     slice-aggregate-mark-term
     mark-term-requires

@@ -16,8 +16,8 @@ use Rattle.meetings.proofs.+meet_places+meet_term.Lts-meet_places as me
 use Rattle.meetings.proofs.meet_term.Reads as meet-term
 use Rattle.meetings.proofs.meet_term.Kinds as meet-term-kinds
 use Rattle.meetings.proofs.+meet_places+meet_term.Lts-meet_term as meet-term-lts
-use Rattle.meetings.proofs.byte.Reads as byte-reads
-use Rattle.meetings.proofs.map.Reads as map-reads
+use Rattle.extents.proofs.byte.Reads as byte-reads
+use Rattle.extents.proofs.map.Reads as map-reads
 use Rattle.meetings.proofs.mark_at.Reads as mark-at-reads
 use Rattle.meetings.proofs.pass.Reads as pass-reads
 use Rattle.meetings.proofs.+meet_places+meet_term.{statement}

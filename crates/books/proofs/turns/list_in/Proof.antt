@@ -4,15 +4,13 @@ use denote.Ref.{now}
 use native.Mathlib.Omega.{arith}
 use Rattle.books.proofs.Beginning.{book-length, begun-length, first-turn, first-listed}
 use borrow.Author.Needs.{needs}
+use borrow.Author.Needs.{needs}
 use Rattle.books.proofs.turns.list_in.Statement.{statement}
 use Rattle.books.proofs.turns.list_in.Tie as tie
 
-chain-requires : tie.Need-chain-requires
-chain-requires c κs = search needs
-
 shared-slice-read-near : tie.Need-shared-slice-read-near
 shared-slice-read-near c =
-    let start = c .before .before .before .before .before .before .before .before in
+    let start = c .before .before .before .before .before .before .before in
     let b = book-length (start .pre .0) in omega arith
 
 slice-write-near : tie.Need-slice-write-near
@@ -23,71 +21,64 @@ slice-write-near-2 c = search needs
 
 sub-turn : tie.Need-sub-turn
 sub-turn c =
-    let start = c .before .before .before .before .before .before .before .before in
+    let start = c .before .before .before .before .before .before .before in
     let b = book-length (start .pre .0) in omega arith
 
 part-turn-start : tie.Need-part-turn-start
 part-turn-start c =
-    let start = c .before .before .before .before .before .before .before .before in
+    let start = c .before .before .before .before .before .before .before in
     let b = book-length (start .pre .0) in omega arith
 
 part-turn-end : tie.Need-part-turn-end
 part-turn-end c = search needs
 
-shared-slice-read-turn : tie.Need-shared-slice-read-turn
-shared-slice-read-turn c =
-    let start = c .before .before .before .before .before .before .before .before .before .before in
-    let b = book-length (start .pre .0) in omega arith
-
-cast-turn : tie.Need-cast-turn
-cast-turn c = omega (arith, c .shared-slice-known3 .given 0)
-
 turn-requires : tie.Need-turn-requires
 turn-requires c κs =
-    let at-shared-slice-known3 = c .before .before .before .before .before .before in
-    let at-chain = at-shared-slice-known3 .before .before .before in
-    let start = at-chain .before .before .before .before .before .before .before in
-    (first-turn (start .pre .0) (now (start .args .near)) (start .pre .1) _ (at-chain .chain .ensures), omega (arith, at-shared-slice-known3 .shared-slice-known3 .given 0))
+    let start = c .before .before .before .before .before .before .before .before .before .before .before .before .before in
+    first-turn (start .pre .0) (now (start .args .near)) (start .pre .1)
 
 same-length : tie.Need-same-length
 same-length c =
     let at-turn = c .before .before .before .before .before .before .before .before .before .before in
-    let at-chain = at-turn .before .before .before .before .before .before .before .before .before .before in
-    let start = at-chain .before .before .before .before .before .before .before in
-    at-turn .turn .kept .1 .1 .1 .0 ∙ begun-length (start .pre .0) (now (start .args .near)) (start .pre .1) _ (at-chain .chain .ensures)
+    let start = at-turn .before .before .before .before .before .before .before .before .before .before .before .before .before .before in
+    at-turn .turn .kept .1 .1 .0 ∙ begun-length (start .pre .0) (now (start .args .near)) (start .pre .1)
 
 same-length-2 : tie.Need-same-length-2
-same-length-2 c = search needs
+same-length-2 c =
+    let at-turn = c .before .before .before .before .before .before .before .before .before .before in
+    at-turn .turn .kept .1 .1 .1 .1 .1 .0
 
 same-length-3 : tie.Need-same-length-3
-same-length-3 c = search needs
+same-length-3 c =
+    let at-turn = c .before .before .before .before .before .before .before .before .before .before in
+    at-turn .turn .kept .1 .1 .1 .1 .1 .1 .0
 
 same-length-4 : tie.Need-same-length-4
-same-length-4 c = search needs
+same-length-4 c =
+    let at-turn = c .before .before .before .before .before .before .before .before .before .before in
+    at-turn .turn .kept .1 .1 .1 .1 .1 .1 .1 .0
 
 same-length-5 : tie.Need-same-length-5
-same-length-5 c = search needs
+same-length-5 c =
+    let at-turn = c .before .before .before .before .before .before .before .before .before .before in
+    at-turn .turn .kept .1 .1 .1 .1 .1 .1 .1 .1 .1 .0
 
 returns : tie.Need-returns
 returns c =
     let at-turn = c .before .before .before .before .before .before .before .before .before .before in
-    let at-chain = at-turn .before .before .before .before .before .before .before .before .before .before in
-    let start = at-chain .before .before .before .before .before .before .before in
-    λ h. first-listed h (now (start .args .near)) (start .pre .1) _ (at-chain .chain .ensures) (now (start .args .out)) _ (at-turn .turn .result) (at-turn .turn .ensures)
+    let start = at-turn .before .before .before .before .before .before .before .before .before .before .before .before .before .before in
+    λ h. first-listed h (now (start .args .near)) (start .pre .1) (now (start .args .out)) _ (at-turn .turn .result) (at-turn .turn .ensures)
 
 pub list-in-spec : {M : Type 1} → statement M
 list-in-spec =
     tie.close
     (tie.spec
-    chain-requires
     shared-slice-read-near
     slice-write-near
     slice-write-near-2
     sub-turn
     part-turn-start
     part-turn-end
-    shared-slice-read-turn
-    cast-turn
     turn-requires
     same-length
     same-length-2
