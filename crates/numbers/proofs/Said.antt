@@ -1,7 +1,8 @@
 -- Said: the numbers of an answer say which reply it is.
 --
---   vocabulary-said, term-said, match-said, list-said, fill-said    the reply read back from the numbers of an answer
---   accepted-said, refused-said                          which one with two values it is, by the first number
+--   vocabulary-said, term-said, match-said, list-said, book-said, fill-said
+--                                  the reply read back from the numbers of an answer
+--   accepted-said, refused-said    which one with two values it is, by the first number
 --
 use mathlib.Core.Path.{_≡_, refl, sym, ap, subst, _∙_}
 use mathlib.Core.Bool.{Bool, true, false, cond}
@@ -16,13 +17,15 @@ use Rattle.signature.specs.declared.VocabularyRefusal.{VocabularyRefusal}
 use Rattle.signature.specs.declared.VocabularyRefusal.the-variants as W
 use Rattle.signature.specs.declared.VocabularyAnswer.{VocabularyAnswer}
 use Rattle.signature.specs.declared.VocabularyAnswer.the-variants as C
-use Rattle.reader.specs.Answers.{termRefused, termNumbers, fillingRefused}
+use Rattle.reader.specs.Answers.{termRefusedAt, termNumbers, fillingRefused, bookRefused}
 use Rattle.reader.specs.declared.refusal.TermRefusal.{TermRefusal}
 use Rattle.reader.specs.declared.refusal.TermRefusal.the-variants as T
 use Rattle.reader.specs.declared.TermAnswer.{TermAnswer}
 use Rattle.reader.specs.declared.TermAnswer.the-variants as A
 use Rattle.reader.specs.declared.filling.FillingRefusal.{FillingRefusal}
 use Rattle.reader.specs.declared.filling.FillingRefusal.the-variants as F
+use Rattle.reader.specs.declared.book.BookRefusal.{BookRefusal}
+use Rattle.reader.specs.declared.book.BookRefusal.the-variants as B
 use Rattle.inputs.specs.Answers.{inputsRefused}
 use Rattle.inputs.specs.declared.InputsRefusal.{InputsRefusal}
 use Rattle.inputs.specs.declared.InputsRefusal.the-variants as I
@@ -32,6 +35,9 @@ use Rattle.matcher.specs.declared.MatchAnswer.the-variants as M
 use Rattle.complement.specs.Answers.{listNumbers}
 use Rattle.complement.specs.declared.ListAnswer.{ListAnswer}
 use Rattle.complement.specs.declared.ListAnswer.the-variants as L
+use Rattle.books.specs.Answers.{bookListNumbers}
+use Rattle.books.specs.declared.BookListAnswer.{BookListAnswer}
+use Rattle.books.specs.declared.BookListAnswer.the-variants as K
 use Rattle.filler.specs.Answers.{fillNumbers}
 use Rattle.filler.specs.declared.FillAnswer.{FillAnswer}
 use Rattle.filler.specs.declared.FillAnswer.the-variants as G
@@ -48,29 +54,36 @@ module _ (k : ℕ) where
   vocabulary-refused-said (W.Continues q) = refl
   vocabulary-refused-said (W.EmptyKind q) = refl
 
-  term-refused-said : (i : ℕ) (why : TermRefusal) → replyIn k (replyNumbers (termRefused i why)) ≡ termRefused i why
-  term-refused-said i T.Size = refl
-  term-refused-said i T.NoSuchKind = refl
-  term-refused-said i (T.Ends q) = refl
-  term-refused-said i (T.TooDeep q) = refl
-  term-refused-said i (T.NoWordOrName q) = refl
-  term-refused-said i (T.WrongKind q) = refl
-  term-refused-said i (T.Clashes q) = refl
-  term-refused-said i (T.StrayBit q) = refl
-  term-refused-said i (T.Continues q) = refl
+  term-refused-said : (i at : ℕ) (why : TermRefusal) → replyIn k (replyNumbers (termRefusedAt i at why)) ≡ termRefusedAt i at why
+  term-refused-said i at T.Size = refl
+  term-refused-said i at T.NoSuchKind = refl
+  term-refused-said i at (T.Ends q) = refl
+  term-refused-said i at (T.TooDeep q) = refl
+  term-refused-said i at (T.NoWordOrName q) = refl
+  term-refused-said i at (T.WrongKind q) = refl
+  term-refused-said i at (T.Clashes q) = refl
+  term-refused-said i at (T.StrayBit q) = refl
+  term-refused-said i at (T.Continues q) = refl
 
   inputs-refused-said : (why : InputsRefusal) → replyIn k (replyNumbers (inputsRefused why)) ≡ inputsRefused why
   inputs-refused-said (I.Vocabulary why) = vocabulary-refused-said why
-  inputs-refused-said (I.Pattern why) = term-refused-said 1 why
-  inputs-refused-said (I.Situation why) = term-refused-said 2 why
+  inputs-refused-said (I.Pattern why) = term-refused-said 1 0 why
+  inputs-refused-said (I.Situation why) = term-refused-said 2 0 why
   inputs-refused-said (I.Incomplete q) = refl
   inputs-refused-said I.KindsDiffer = refl
 
   filling-refused-said : (why : FillingRefusal) → replyIn k (replyNumbers (fillingRefused why)) ≡ fillingRefused why
   filling-refused-said (F.Vocabulary why) = vocabulary-refused-said why
-  filling-refused-said (F.Pattern why) = term-refused-said 1 why
+  filling-refused-said (F.Pattern why) = term-refused-said 1 0 why
   filling-refused-said (F.Names n) = refl
   filling-refused-said (F.Value q) = refl
+
+  book-refused-said : (why : BookRefusal) → replyIn k (replyNumbers (bookRefused why)) ≡ bookRefused why
+  book-refused-said B.Count = refl
+  book-refused-said (B.Pattern at why) = term-refused-said 5 at why
+  book-refused-said (B.Repeated q) = refl
+  book-refused-said (B.OtherKind q) = refl
+  book-refused-said (B.Continues q) = refl
 
 -- ---- answers
 
@@ -81,7 +94,7 @@ vocabulary-said (C.Refused why) = vocabulary-refused-said 0 why
 pub term-said : (a : TermAnswer) → replyIn 2 (replyNumbers (termNumbers a)) ≡ termNumbers a
 term-said (A.Accepted n d) = refl
 term-said (A.Vocabulary why) = vocabulary-refused-said 2 why
-term-said (A.Term why) = term-refused-said 2 1 why
+term-said (A.Term why) = term-refused-said 2 1 0 why
 
 pub match-said : (a : MatchAnswer) → replyIn 1 (replyNumbers (matchNumbers a)) ≡ matchNumbers a
 match-said M.Yes = refl
@@ -92,9 +105,16 @@ match-said M.TableLength = refl
 pub list-said : (a : ListAnswer) → replyIn 2 (replyNumbers (listNumbers a)) ≡ listNumbers a
 list-said (L.Listed n m) = refl
 list-said (L.Vocabulary why) = vocabulary-refused-said 2 why
-list-said (L.Pattern why) = term-refused-said 2 1 why
+list-said (L.Pattern why) = term-refused-said 2 1 0 why
 list-said (L.Repeated q) = refl
 list-said (L.NoRoom m) = refl
+
+pub book-said : (a : BookListAnswer) → replyIn 2 (replyNumbers (bookListNumbers a)) ≡ bookListNumbers a
+book-said (K.Listed n m) = refl
+book-said (K.Vocabulary why) = vocabulary-refused-said 2 why
+book-said (K.Book why) = book-refused-said 2 why
+book-said (K.TooLarge i) = refl
+book-said (K.NoRoom m) = refl
 
 pub fill-said : (a : FillAnswer) → replyIn 1 (replyNumbers (fillNumbers a)) ≡ fillNumbers a
 fill-said (G.Written m) = refl

@@ -4,16 +4,19 @@ ghost use mathlib.Core.Path.{_≡_};
 ghost use mathlib.Core.List.{[], _∷_};
 ghost use Rattle.wire.specs.Reply.{accepted as Reply·accepted, refused as Reply·refused};
 ghost use Rattle.signature.specs.Answers.{vocabularyRefused, vocabularyNumbers};
-ghost use Rattle.reader.specs.Answers.{termRefused, termNumbers, fillingRefused};
+ghost use Rattle.reader.specs.Answers.{termRefusedAt, termNumbers, fillingRefused, bookRefused};
 ghost use Rattle.inputs.specs.Answers.{inputsRefused};
 ghost use Rattle.matcher.specs.Answers.{matchNumbers};
 ghost use Rattle.complement.specs.Answers.{listNumbers};
+ghost use Rattle.books.specs.Answers.{bookListNumbers};
 ghost use Rattle.filler.specs.Answers.{fillNumbers};
 ghost use Rattle.numbers.specs.Numbers.{replyNumbers};
+use books::BookListAnswer;
 use complement::ListAnswer;
 use filler::FillAnswer;
 use inputs::InputsRefusal;
 use matcher::MatchAnswer;
+use reader::BookRefusal;
 use reader::FillingRefusal;
 use reader::TermAnswer;
 use reader::TermRefusal;
@@ -51,13 +54,13 @@ fn vocabulary_refused(why: VocabularyRefusal) -> Numbers
     }
 }
 
-// Lines 7 to 15, of the given input.
-fn term_refused(input: u64, why: TermRefusal) -> Numbers
-    ensures { λ r. ⌜ r ≡ replyNumbers (termRefused input why) ⌝ }
+// Lines 7 to 15, of the given input, in which the term begins at an offset.
+fn term_refused(input: u64, at: u64, why: TermRefusal) -> Numbers
+    ensures { λ r. ⌜ r ≡ replyNumbers (termRefusedAt input at why) ⌝ }
 {
     match why {
-        TermRefusal::Size => refused(7, input, 0),
-        TermRefusal::NoSuchKind => refused(8, input, 0),
+        TermRefusal::Size => refused(7, input, at),
+        TermRefusal::NoSuchKind => refused(8, input, at),
         TermRefusal::Ends(q) => refused(9, input, q as u64),
         TermRefusal::TooDeep(q) => refused(10, input, q as u64),
         TermRefusal::NoWordOrName(q) => refused(11, input, q as u64),
@@ -74,8 +77,8 @@ fn inputs_refused(why: InputsRefusal) -> Numbers
 {
     match why {
         InputsRefusal::Vocabulary(why) => vocabulary_refused(why),
-        InputsRefusal::Pattern(why) => term_refused(1, why),
-        InputsRefusal::Situation(why) => term_refused(2, why),
+        InputsRefusal::Pattern(why) => term_refused(1, 0, why),
+        InputsRefusal::Situation(why) => term_refused(2, 0, why),
         InputsRefusal::Incomplete(q) => refused(16, 2, q as u64),
         InputsRefusal::KindsDiffer => refused(17, 2, 0),
     }
@@ -87,9 +90,22 @@ fn filling_refused(why: FillingRefusal) -> Numbers
 {
     match why {
         FillingRefusal::Vocabulary(why) => vocabulary_refused(why),
-        FillingRefusal::Pattern(why) => term_refused(1, why),
+        FillingRefusal::Pattern(why) => term_refused(1, 0, why),
         FillingRefusal::Names(n) => refused(21, 4, n as u64),
         FillingRefusal::Value(q) => refused(22, 4, q as u64),
+    }
+}
+
+// Lines 7 to 15, 18, 24 and 25 of a book.
+fn book_refused(why: BookRefusal) -> Numbers
+    ensures { λ r. ⌜ r ≡ replyNumbers (bookRefused why) ⌝ }
+{
+    match why {
+        BookRefusal::Count => refused(24, 5, 0),
+        BookRefusal::Pattern(at, why) => term_refused(5, at as u64, why),
+        BookRefusal::Repeated(q) => refused(18, 5, q as u64),
+        BookRefusal::OtherKind(q) => refused(25, 5, q as u64),
+        BookRefusal::Continues(q) => refused(15, 5, q as u64),
     }
 }
 
@@ -110,7 +126,7 @@ pub fn term_numbers(answer: TermAnswer) -> Numbers
     match answer {
         TermAnswer::Accepted(words, deepest) => accepted(words as u64, deepest as u64),
         TermAnswer::Vocabulary(why) => vocabulary_refused(why),
-        TermAnswer::Term(why) => term_refused(1, why),
+        TermAnswer::Term(why) => term_refused(1, 0, why),
     }
 }
 
@@ -133,9 +149,22 @@ pub fn list_numbers(answer: ListAnswer) -> Numbers
     match answer {
         ListAnswer::Listed(entries, bytes) => accepted(entries as u64, bytes as u64),
         ListAnswer::Vocabulary(why) => vocabulary_refused(why),
-        ListAnswer::Pattern(why) => term_refused(1, why),
+        ListAnswer::Pattern(why) => term_refused(1, 0, why),
         ListAnswer::Repeated(q) => refused(18, 1, q as u64),
         ListAnswer::NoRoom(bytes) => refused(20, 3, bytes as u64),
+    }
+}
+
+// The values are the number of entries and of bytes.
+pub fn book_numbers(answer: BookListAnswer) -> Numbers
+    ensures { λ r. ⌜ r ≡ replyNumbers (bookListNumbers answer) ⌝ }
+{
+    match answer {
+        BookListAnswer::Listed(entries, bytes) => accepted(entries as u64, bytes as u64),
+        BookListAnswer::Vocabulary(why) => vocabulary_refused(why),
+        BookListAnswer::Book(why) => book_refused(why),
+        BookListAnswer::TooLarge(i) => refused(26, 5, i as u64),
+        BookListAnswer::NoRoom(bytes) => refused(20, 3, bytes as u64),
     }
 }
 

@@ -7,6 +7,7 @@ use Rattle.wire.specs.Checking.{VocabularyPromise, TermPromise}
 use Rattle.wire.specs.Matching.{MatchPromise}
 use Rattle.wire.specs.Leftovers.{ListPromise}
 use Rattle.wire.specs.Filled.{FillPromise}
+use Rattle.wire.specs.BookLeftovers.{BookPromise}
 use Rattle.wire.specs.Effect.{HasEffect}
 use Rattle.wire.specs.CheckComputed.{vocabularyReply, termReply}
 use Rattle.wire.specs.MatchComputed.{matched}
@@ -22,9 +23,11 @@ use Rattle.complement.specs.Answers.{listNumbers}
 use Rattle.complement.specs.declared.ListAnswer.{ListAnswer}
 use Rattle.filler.specs.Answers.{fillNumbers}
 use Rattle.filler.specs.declared.FillAnswer.{FillAnswer}
+use Rattle.books.specs.Answers.{bookListNumbers}
+use Rattle.books.specs.declared.BookListAnswer.{BookListAnswer}
 use Rattle.numbers.specs.Numbers.{replyNumbers, replyIn}
-use Rattle.numbers.proofs.Said.{vocabulary-said, term-said, match-said, list-said, fill-said}
-use Rattle.pheasantry.specs.Replies.{VocabularyReplied, TermReplied, MatchReplied, ListReplied, FillReplied}
+use Rattle.numbers.proofs.Said.{vocabulary-said, term-said, match-said, list-said, fill-said, book-said}
+use Rattle.pheasantry.specs.Replies.{VocabularyReplied, TermReplied, MatchReplied, ListReplied, FillReplied, BookReplied}
 
 -- The numbers of an answer that can be read back are those of the reply that they say.
 formed : (k : ℕ) {numbers : List ℕ} (r : Reply) → numbers ≡ replyNumbers r → replyIn k (replyNumbers r) ≡ r →
@@ -71,3 +74,9 @@ fill-replied {v} {p} {b} {before} {after} a e (promise, shown) =
       record { form = f .0; promise = subst (FillPromise v p b before after) (sym (f .1)) promise },
       record { reply = f .1 ∙ shown .reply; after = shown .after },
     )
+
+pub book-replied : {v b before after numbers : List ℕ} (a : BookListAnswer) → numbers ≡ replyNumbers (bookListNumbers a) →
+    BookPromise v b before after (bookListNumbers a) → BookReplied v b before after numbers
+book-replied {v} {b} {before} {after} a e promise =
+    let f = formed 2 (bookListNumbers a) e (book-said a) in
+    record { form = f .0; promise = subst (BookPromise v b before after) (sym (f .1)) promise }

@@ -6,6 +6,7 @@
 --   PartReplied            what part promises
 --   ListReplied            what list promises
 --   FillReplied            what fill promises
+--   BookReplied            what list_book promises
 --
 -- In each, `form` says that the numbers are those of the reply that they say, and `promise` is what the call
 -- promises of that reply.
@@ -18,6 +19,7 @@ use Rattle.wire.specs.Checking.{VocabularyPromise, TermPromise}
 use Rattle.wire.specs.Matching.{cutOut, MatchPromise, PartPromise}
 use Rattle.wire.specs.Leftovers.{ListPromise}
 use Rattle.wire.specs.Filled.{FillPromise}
+use Rattle.wire.specs.BookLeftovers.{BookPromise}
 use Rattle.numbers.specs.Numbers.{replyNumbers, replyIn, spanSaid}
 
 pub record VocabularyReplied (v numbers : List ℕ) : Type 0 where
@@ -44,3 +46,7 @@ pub record ListReplied (v p before after numbers : List ℕ) : Type 0 where
 pub record FillReplied (v p b before after numbers : List ℕ) : Type 0 where
   pub form : numbers ≡ replyNumbers (replyIn 1 numbers)
   pub promise : FillPromise v p b before after (replyIn 1 numbers)
+
+pub record BookReplied (v b before after numbers : List ℕ) : Type 0 where
+  pub form : numbers ≡ replyNumbers (replyIn 2 numbers)
+  pub promise : BookPromise v b before after (replyIn 2 numbers)

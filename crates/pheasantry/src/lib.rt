@@ -6,7 +6,7 @@ ghost use Rattle.wire.specs.MatchComputed.{matched, partSpan};
 ghost use Rattle.wire.specs.ListComputed.{listed};
 ghost use Rattle.wire.specs.FillComputed.{filled};
 ghost use Rattle.numbers.specs.Numbers.{replyIn, spanSaid};
-ghost use Rattle.pheasantry.specs.Replies.{VocabularyReplied, TermReplied, MatchReplied, PartReplied, ListReplied, FillReplied};
+ghost use Rattle.pheasantry.specs.Replies.{VocabularyReplied, TermReplied, MatchReplied, PartReplied, ListReplied, FillReplied, BookReplied};
 use numbers::Numbers;
 
 fn wide(x: u16) -> u64
@@ -104,4 +104,18 @@ pub extern "C" fn pheasantry_fill(
     ensures { λ _. ⌜ HasEffect (filled (now (vocabulary .entry)) (now (pattern .entry)) (now (filling .entry)) (now (out .entry))) (replyIn 1 (now (reply .exit))) (now (out .exit)) ⌝ }
 {
     *reply = numbers::fill_numbers(filler::fill(vocabulary, pattern, filling, out));
+}
+
+// Writes the leftovers of a book into out, in an order that is not promised. The values are the number of entries
+// and of bytes. A refusal leaves out as it was.
+#[no_mangle]
+pub extern "C" fn pheasantry_list_book(
+    vocabulary: &[u8],
+    book: &[u8],
+    out: &mut [u8],
+    reply: &mut Numbers,
+)
+    ensures { λ _. ⌜ BookReplied (now (vocabulary .entry)) (now (book .entry)) (now (out .entry)) (now (out .exit)) (now (reply .exit)) ⌝ }
+{
+    *reply = numbers::book_numbers(books::list_book(vocabulary, book, out));
 }
