@@ -1,9 +1,10 @@
 /*
  * Pheasantry: which situations does a pattern of a waiting step leave over?
  *
- * Six functions over lent memory. They check a vocabulary, check a term, match a pattern with a
- * complete situation, say which part of a situation a name covers, list the leftovers of a pattern, and
- * fill the names of a pattern. docs/FORMAT.md of the repository has the formats and the rules.
+ * Seven functions over lent memory. They check a vocabulary, check a term, match a pattern with a
+ * complete situation, say which part of a situation a name covers, list the leftovers of a pattern, fill
+ * the names of a pattern, and list the leftovers of a book, which holds several patterns.
+ * docs/FORMAT.md of the repository has the formats and the rules.
  *
  * Link
  *   `make install` installs this header, libpheasantry.a and a file for pkg-config: compile with
@@ -18,8 +19,8 @@
  *   where there is none.
  *   Refused: reply[0] is a number of enum pheasantry_refusal, reply[1] the input, a number of enum
  *   pheasantry_input, and reply[2] the place. A refusal leaves every lent output as it was.
- *   The vocabulary is checked first, then the pattern, then the situation or the filling file, then the
- *   lent output.
+ *   The vocabulary is checked first, then the pattern or the book, then the situation or the filling
+ *   file, then the lent output.
  *
  * Memory
  *   - A slice is passed as a pointer and the number of its elements: bytes, and for `table` the
@@ -29,10 +30,12 @@
  *   - What a call writes (table, out, reply) overlaps with nothing else that is handed to that
  *     call. Inputs are only read, and may overlap each other.
  *   - Nothing is allocated, kept or freed.
- *   - 16 KiB of stack are enough for every call. Measured by bindings/c/stack.c, on 32 levels, terms
- *     of 4,096 bytes, 96 words of 16 kinds and listings of 12 MB: pheasantry_list took at most 13,096
- *     bytes, pheasantry_fill 4,872 and the others at most 4,552, of which the dynamic linker takes some
- *     2,800 where it has to look up a function of the C library during the call.
+ *   - 16 KiB of stack are enough for every call but pheasantry_list_book. Measured by bindings/c/stack.c,
+ *     on 32 levels, terms of 4,096 bytes, 96 words of 16 kinds and listings of 12 MB: pheasantry_list
+ *     took at most 13,128 bytes, pheasantry_fill 4,840 and the others at most 4,584, of which the dynamic
+ *     linker takes some 2,800 where it has to look up a function of the C library during the call.
+ *   - For pheasantry_list_book 160 KiB are enough: it works on two listings of its own. On books of 64
+ *     patterns of 32 levels it took at most 148,680 bytes, of which its areas are 90,112.
  *
  * Threads
  *   There is no global state. Calls may run at the same time, as long as nothing writes the memory
@@ -45,9 +48,9 @@
 #include <stdint.h>
 
 /* The version of this header and of the archive that it is installed with. */
-#define PHEASANTRY_VERSION "0.2.0"
+#define PHEASANTRY_VERSION "0.3.0"
 #define PHEASANTRY_VERSION_MAJOR 0
-#define PHEASANTRY_VERSION_MINOR 2
+#define PHEASANTRY_VERSION_MINOR 3
 #define PHEASANTRY_VERSION_PATCH 0
 
 /* The length that `reply` must have. A later version may have more numbers. */
@@ -56,9 +59,13 @@
 /* The length that the table of pheasantry_match must have, in uint16_t: two for each of 64 names. */
 #define PHEASANTRY_TABLE_LENGTH 128
 
+/* The most bytes that pheasantry_list_book writes: an out of this length is never too short for it. */
+#define PHEASANTRY_BOOK_LISTING_LENGTH 32768
+
 /*
  * Why a call is refused: reply[0]. The place, reply[2], is the offset of the byte at fault or of the
- * missing byte, unless said. Later versions may add numbers; none changes its meaning.
+ * missing byte, unless said. In a book it counts from the book's first byte, and what is said of a term
+ * is meant of each pattern by itself. Later versions may add numbers; none changes its meaning.
  */
 enum pheasantry_refusal {
     PHEASANTRY_ACCEPTED = 0,
@@ -76,7 +83,7 @@ enum pheasantry_refusal {
     /* a kind has no complete situation (place: the lowest such kind) */
     PHEASANTRY_REFUSED_EMPTY_KIND = 6,
 
-    /* the term has fewer than 2 or more than 4,096 bytes (place 0) */
+    /* the term has fewer than 2 or more than 4,096 bytes (place 0, in a book the pattern's first byte) */
     PHEASANTRY_REFUSED_SIZE = 7,
     /* the term's first byte is not below the number of kinds */
     PHEASANTRY_REFUSED_TERM_KIND = 8,
@@ -92,7 +99,7 @@ enum pheasantry_refusal {
     PHEASANTRY_REFUSED_CLASH = 13,
     /* the written map has a bit that the word's place map lacks */
     PHEASANTRY_REFUSED_STRAY_BIT = 14,
-    /* bytes follow the term */
+    /* bytes follow the term (place: the first of them, in a book behind the last pattern) */
     PHEASANTRY_REFUSED_TERM_CONTINUES = 15,
 
     /* the situation is not complete (place: its first name, 255 or short map) */
@@ -112,7 +119,15 @@ enum pheasantry_refusal {
     /* a filling is no complete term of its name's kind within 32 levels, or bytes follow */
     PHEASANTRY_REFUSED_FILLING = 22,
     /* the result is longer than 4,096 bytes or deeper than 32 levels (place 0) */
-    PHEASANTRY_REFUSED_RESULT_SIZE = 23
+    PHEASANTRY_REFUSED_RESULT_SIZE = 23,
+
+    /* the book's count is missing or not 1 to 64 (place 0) */
+    PHEASANTRY_REFUSED_PATTERN_COUNT = 24,
+    /* the pattern's kind differs from that of the book's first (place: its kind byte) */
+    PHEASANTRY_REFUSED_OTHER_KIND = 25,
+    /* the entries left behind a pattern have more than 32,768 bytes, or one of them more than 4,096
+     * (place: the number of the first such pattern, from 0) */
+    PHEASANTRY_REFUSED_LISTING_SIZE = 26
 };
 
 /* Which input is refused: reply[1]. */
@@ -126,7 +141,9 @@ enum pheasantry_input {
     /* the lent table or the lent bytes: 19 and 20 */
     PHEASANTRY_INPUT_OUTPUT = 3,
     /* the filling file: 21 to 23 */
-    PHEASANTRY_INPUT_FILLING = 4
+    PHEASANTRY_INPUT_FILLING = 4,
+    /* the book: 7 to 15, 18 and 24 to 26 */
+    PHEASANTRY_INPUT_BOOK = 5
 };
 
 #ifdef __cplusplus
@@ -216,6 +233,29 @@ void pheasantry_fill(const uint8_t *vocabulary, size_t vocabulary_length,
                      const uint8_t *filling, size_t filling_length,
                      uint8_t *out, size_t out_length,
                      uint64_t reply[PHEASANTRY_REPLY_LENGTH]);
+
+/*
+ * Writes the leftovers of a whole book into out: whole patterns without names, each with its kind byte,
+ * each directly behind the one before it. Every complete situation of the kind fits some pattern of the
+ * book or exactly one of these entries, never both.
+ *
+ * A book is a count byte, 1 to 64, and then so many whole patterns in a row, each with its kind byte, all
+ * of one kind. Names are a pattern's own: the same name in two patterns means nothing.
+ *
+ * Which entries are left depends on the order of the patterns. The order of the entries is not promised:
+ * a later version may write the same entries in another.
+ *
+ * Accepted: 0, the number of entries, the number of bytes written. Bytes of out behind them stay as
+ *   they were.
+ * Refused: 1 to 15, 18, 20 and 24 to 26. Behind the vocabulary 24 is checked, then for each pattern in
+ *   turn 7 to 14, 18 and 25, then 15, 26 and 20. A call with an out_length of 0 measures: where the
+ *   inputs are in order and there are leftovers it is refused with 20, and reply[2] is the length that
+ *   out has to have, at most PHEASANTRY_BOOK_LISTING_LENGTH.
+ */
+void pheasantry_list_book(const uint8_t *vocabulary, size_t vocabulary_length,
+                          const uint8_t *book, size_t book_length,
+                          uint8_t *out, size_t out_length,
+                          uint64_t reply[PHEASANTRY_REPLY_LENGTH]);
 
 #ifdef __cplusplus
 }

@@ -25,10 +25,15 @@
  *   wait(n0, full) with wait(up, free): no
  *   wait(n0, full) with down for n0: 00000302000400
  *   wait(n0, full) with a filling cut short: refused 22 4 9
+ *   the book of wait(up, free) and done: 2 entries, 12 bytes
+ *   0000010200
+ *   00000301000400
+ *   the book cut short: refused 7 5 8
  */
 #include <inttypes.h>
 #include <stdio.h>
 #include <stdlib.h>
+#include <string.h>
 
 #include "pheasantry.h"
 
@@ -40,6 +45,9 @@ static const uint8_t wait_name_full[] = {0, 0, 3, 0x80, 4, 0};
 
 /* A filling file: eight bytes of bit map, in which name 0 stands, and down for it. */
 static const uint8_t name_is_down[] = {1, 0, 0, 0, 0, 0, 0, 0, 2, 0};
+
+/* A book: two patterns, wait(up, free) and done. */
+static const uint8_t book[] = {2, 0, 0, 3, 1, 0, 3, 0, 0, 5, 0};
 
 static void print_bytes(const uint8_t *bytes, size_t length)
 {
@@ -131,6 +139,45 @@ static void fill(void)
                reply[0], reply[1], reply[2]);
 }
 
+struct entry {
+    const uint8_t *bytes;
+    size_t length;
+};
+
+/* By the bytes from the front. No entry is the beginning of another. */
+static int compare(const void *one, const void *other)
+{
+    const struct entry *a = one, *b = other;
+    return memcmp(a->bytes, b->bytes, a->length < b->length ? a->length : b->length);
+}
+
+static void list_book(void)
+{
+    uint64_t reply[PHEASANTRY_REPLY_LENGTH];
+    static uint8_t out[PHEASANTRY_BOOK_LISTING_LENGTH];
+    pheasantry_list_book(vocabulary, sizeof vocabulary, book, sizeof book, out, sizeof out, reply);
+    if (reply[0] != PHEASANTRY_ACCEPTED)
+        exit(1);
+    printf("the book of wait(up, free) and done: %" PRIu64 " entries, %" PRIu64 " bytes\n", reply[1],
+           reply[2]);
+
+    /* The order of these entries is not promised, so they are sorted before they are printed. An entry
+     * has at least 2 bytes. */
+    static struct entry entries[PHEASANTRY_BOOK_LISTING_LENGTH / 2];
+    size_t count = 0;
+    for (size_t at = 0; at < reply[2]; at += entries[count++].length)
+        entries[count] = (struct entry){out + at, entry_length(out + at)};
+    qsort(entries, count, sizeof *entries, compare);
+    for (size_t i = 0; i < count; i++)
+        print_bytes(entries[i].bytes, entries[i].length);
+
+    /* Without its last 3 bytes the second pattern, which begins at 8, is missing. */
+    pheasantry_list_book(vocabulary, sizeof vocabulary, book, sizeof book - 3, out, sizeof out, reply);
+    if (reply[0] == PHEASANTRY_REFUSED_SIZE && reply[1] == PHEASANTRY_INPUT_BOOK)
+        printf("the book cut short: refused %" PRIu64 " %" PRIu64 " %" PRIu64 "\n", reply[0], reply[1],
+               reply[2]);
+}
+
 int main(void)
 {
     uint64_t reply[PHEASANTRY_REPLY_LENGTH];
@@ -143,5 +190,6 @@ int main(void)
     list();
     match();
     fill();
+    list_book();
     return 0;
 }

@@ -1,5 +1,6 @@
 /*
- * How many bytes of stack does each call take, on the largest and the deepest inputs?
+ * How many bytes of stack does each call take, on the largest and the deepest inputs? Books of one
+ * pattern have a column, others a table of their own.
  *
  *   make stack
  *
@@ -20,14 +21,15 @@
 
 #include "pheasantry.h"
 
-/* What the header says is enough, in bytes. */
-enum { ENOUGH = 16 * 1024 };
+/* What the header says is enough, in bytes: for pheasantry_list_book, for the others. */
+enum { ENOUGH_FOR_BOOKS = 160 * 1024, ENOUGH = 16 * 1024 };
 
-enum { STACK_WORDS = 32768, OUT_LENGTH = 1 << 24 };
-enum call { CHECK_VOCABULARY, CHECK_TERM, MATCH, PART, FILL, LIST, CALLS };
+enum { STACK_WORDS = 65536, OUT_LENGTH = 1 << 24 };
+enum call { CHECK_VOCABULARY, CHECK_TERM, MATCH, PART, FILL, LIST, LIST_BOOK, CALLS };
 
+/* Room for the largest book: a count and 64 patterns of 4,096 bytes. */
 struct bytes {
-    uint8_t at[8192];
+    uint8_t at[1 + 64 * 4096];
     size_t length;
 };
 
@@ -40,11 +42,11 @@ static uint64_t reply[PHEASANTRY_REPLY_LENGTH];
 static ucontext_t before, during;
 static uintptr_t top;
 static enum call call;
-static const struct bytes *vocabulary, *pattern, *situation, *filling;
+static const struct bytes *vocabulary, *pattern, *situation, *filling, *book;
 
 static void call_it(void)
 {
-    const struct bytes *v = vocabulary, *p = pattern, *s = situation, *f = filling;
+    const struct bytes *v = vocabulary, *p = pattern, *s = situation, *f = filling, *b = book;
     top = (uintptr_t)__builtin_frame_address(0);
     switch (call) {
     case CHECK_VOCABULARY:
@@ -63,8 +65,11 @@ static void call_it(void)
     case FILL:
         pheasantry_fill(v->at, v->length, p->at, p->length, f->at, f->length, out, OUT_LENGTH, reply);
         break;
-    default:
+    case LIST:
         pheasantry_list(v->at, v->length, p->at, p->length, out, OUT_LENGTH, reply);
+        break;
+    default:
+        pheasantry_list_book(v->at, v->length, b->at, b->length, out, OUT_LENGTH, reply);
     }
 }
 
@@ -142,6 +147,14 @@ static void chain(struct bytes *t, unsigned kinds, unsigned full)
     put(t, kind), put(t, 0);
 }
 
+/* Under words_96: the chain up to level 30, at level 31 another word with eight places, and below it the
+ * end. An entry of the chain is as this, with that word's places open. */
+static void beside_chain(struct bytes *t, unsigned kinds)
+{
+    chain(t, kinds, 0);
+    t->at[t->length - 4] += kinds;
+}
+
 /* Under C: the full tree of pairs, with words or with the names from 0 on at its leaves. */
 static void pairs(struct bytes *t, unsigned levels, int names)
 {
@@ -156,11 +169,11 @@ static void pairs(struct bytes *t, unsigned levels, int names)
         put(t, 0), put(t, 0);
 }
 
-/* Under C: the tree of 11 levels, with other bytes for its last leaf. */
-static void tree_to(struct bytes *t, const char *leaf)
+/* Under C: the tree of so many levels, with other bytes for its last leaf. */
+static void tree_to(struct bytes *t, unsigned levels, const char *leaf)
 {
     put(t, 0);
-    pairs(t, 11, 0);
+    pairs(t, levels, 0);
     t->length -= 2;
     hex(t, leaf);
 }
@@ -187,7 +200,74 @@ static void fill_with(struct bytes *f, unsigned names, const struct bytes *term)
             put(f, term->at[i]);
 }
 
-/* ---------------------------------------------------------------- the table */
+/* Vocabulary E: grid(1, 1, 1, 1, 0) 0, on 1 and off 2 make kind 0. Each other kind has one word, 3 to 6,
+ * that takes eight of the next kind, and the last one nothing: these leave nothing over, so patterns and
+ * entries can be long where the listing is short. */
+static void grids(struct bytes *v)
+{
+    hex(v, "0507001f010101010000000000");
+    for (unsigned kind = 1; kind < 4; kind++) {
+        put(v, kind), put(v, 255);
+        for (unsigned place = 0; place < 8; place++)
+            put(v, kind + 1);
+    }
+    hex(v, "0400");
+}
+
+/* Under E: a word and all below it, but for the last words, of which only so many are written. */
+static void block(struct bytes *t, unsigned word, unsigned *last)
+{
+    unsigned places = word < 5 ? 8 : word == 6 ? 0 : *last < 8 ? *last : 8;
+    if (word == 5)
+        *last -= places;
+    put(t, word), put(t, (1u << places) - 1);
+    for (; places > 0; places--)
+        block(t, word + 1, last);
+}
+
+/* Under E: a grid with blocks at the places of a map, so many last words in all, and its place 4. */
+static void grid(struct bytes *t, unsigned map, unsigned last, const char *place_4)
+{
+    put(t, 0), put(t, 0), put(t, map + 16);
+    for (; map > 0; map /= 2)
+        if (map % 2 > 0)
+            block(t, 3, &last);
+    hex(t, place_4);
+}
+
+static void append(struct bytes *b, const struct bytes *t)
+{
+    for (size_t i = 0; i < t->length; i++)
+        put(b, t->at[i]);
+}
+
+/* A book: so many times the one pattern, and then the other, if there is one. */
+static const struct bytes *book_of(unsigned times, const struct bytes *one, const struct bytes *other)
+{
+    static struct bytes b;
+    b.length = 0;
+    put(&b, other == NULL ? times : times + 1);
+    for (; times > 0; times--)
+        append(&b, one);
+    if (other != NULL)
+        append(&b, other);
+    return &b;
+}
+
+/* Under B: the book of 1 to 32 levels and of 32 to 1. */
+static const struct bytes *book_of_levels(void)
+{
+    static struct bytes b, term;
+    put(&b, 64);
+    for (unsigned i = 0; i < 64; i++) {
+        term.length = 0;
+        more(&term, i < 32 ? i + 1 : 64 - i);
+        append(&b, &term);
+    }
+    return &b;
+}
+
+/* ---------------------------------------------------------------- the tables */
 
 struct said {
     size_t taken;
@@ -195,33 +275,56 @@ struct said {
 };
 
 static volatile struct said *said;
-static size_t most;
+static size_t most[CALLS];
+
+/* Runs a call in a process of its own. */
+static void run(enum call c)
+{
+    int status;
+    call = c;
+    fflush(stdout);
+    if (fork() == 0) {
+        said->taken = taken();
+        for (int i = 0; i < PHEASANTRY_REPLY_LENGTH; i++)
+            said->reply[i] = reply[i];
+        _exit(0);
+    }
+    if (wait(&status) < 0 || status != 0)
+        exit(1);
+    printf("%7zu", said->taken);
+    if (most[c] < said->taken)
+        most[c] = said->taken;
+}
+
+/* What the listing that ran last answered. */
+static void answer(void)
+{
+    if (said->reply[0] == 0)
+        printf("%10" PRIu64 " bytes", said->reply[2]);
+    else
+        printf("%13s %2" PRIu64, "refused", said->reply[0]);
+}
 
 static void row(const char *name, const struct bytes *v, const struct bytes *p, const struct bytes *s,
                 const struct bytes *f)
 {
-    vocabulary = v, pattern = p, situation = s, filling = f;
-    printf("%5zu %5zu  %-45s", v->length, p->length, name);
-    for (int c = 0; c < CALLS; c++) {
-        int status;
-        call = (enum call)c;
-        fflush(stdout);
-        if (fork() == 0) {
-            said->taken = taken();
-            for (int i = 0; i < PHEASANTRY_REPLY_LENGTH; i++)
-                said->reply[i] = reply[i];
-            _exit(0);
-        }
-        if (wait(&status) < 0 || status != 0)
-            exit(1);
-        printf("%7zu", said->taken);
-        if (most < said->taken)
-            most = said->taken;
-    }
-    if (said->reply[0] == 0)
-        printf("%10" PRIu64 " bytes\n", said->reply[2]);
-    else
-        printf("   refused %" PRIu64 "\n", said->reply[0]);
+    vocabulary = v, pattern = p, situation = s, filling = f, book = book_of(1, p, NULL);
+    printf("%5zu %6zu  %-45s", v->length, p->length, name);
+    for (int c = 0; c < LIST_BOOK; c++)
+        run((enum call)c);
+    answer();
+    run(LIST_BOOK);
+    answer();
+    printf("\n");
+}
+
+static void book_row(const char *name, const struct bytes *v, const struct bytes *b)
+{
+    vocabulary = v, book = b;
+    printf("%5zu %6zu  %-45s", v->length, b->length, name);
+    run(LIST_BOOK);
+    answer();
+    printf("\n");
 }
 
 int main(void)
@@ -247,9 +350,9 @@ int main(void)
 
     static struct bytes with_trees, tree, other_tree, largest, names, twice;
     trees(&with_trees);
-    tree_to(&tree, "0000");
-    tree_to(&other_tree, "0100");
-    tree_to(&largest, "020180");
+    tree_to(&tree, 11, "0000");
+    tree_to(&other_tree, 11, "0100");
+    tree_to(&largest, 11, "020180");
     hex(&names, "00");
     pairs(&names, 7, 1);
     hex(&twice, "0002038080");
@@ -276,7 +379,7 @@ int main(void)
     if (said == MAP_FAILED)
         return 1;
     printf("vocabulary and pattern in bytes, and what they are; stack taken, in bytes, by\n");
-    printf("%57s%7s%7s%7s%7s%7s%7s   listing\n", "", "vocab.", "term", "match", "part", "fill", "list");
+    printf("%59s%7s%7s%7s%7s%7s%7s%23s\n", "", "vocab.", "term", "match", "part", "fill", "list", "book");
     row("A, wait(up, free)", &a, &up_free, &up_free, &bare);
     row("B, 32 levels", &b, &deep, &deep, &bare);
     row("B, 33 levels", &b, &too_deep, &too_deep, &bare);
@@ -296,6 +399,52 @@ int main(void)
     row("C, the tree with a name at its end", &c, &largest, &tree, &n0_leaf);
     row("C, 64 names, filled with trees", &c, &names, &tree, &names_small);
     row("C, a name twice, filled with trees", &c, &twice, &tree, &n0_half);
-    printf("the most: %zu bytes of %d\n", most, ENOUGH);
-    return most > ENOUGH;
+
+    /* Neighbours share situations with entries of the first pattern, and go further down in them. */
+    static struct bytes done, less_deep, written_16, beside_16;
+    static struct bytes tree_7, other_7, tree_6, half_6, tree_5, half_5;
+    hex(&done, "000500");
+    more(&less_deep, 31);
+    chain(&written_16, 16, 5);
+    beside_chain(&beside_16, 16);
+    tree_to(&tree_7, 7, "0000");
+    tree_to(&other_7, 7, "0100");
+    tree_to(&tree_6, 6, "0000");
+    tree_to(&tree_5, 5, "0000");
+    hex(&half_6, "000202");
+    pairs(&half_6, 5, 0);
+    hex(&half_5, "000202");
+    pairs(&half_5, 3, 0);
+
+    static struct bytes e, two, other_two, one_more, four;
+    grids(&e);
+    grid(&two, 3, 876, "0100");
+    grid(&other_two, 12, 876, "00100100");
+    grid(&one_more, 12, 877, "00100100");
+    grid(&four, 15, 1754, "80");
+
+    printf("vocabulary and book in bytes, and what they are; stack taken, in bytes\n");
+    book_row("A, wait(up, free) and done", &a, book_of(1, &up_free, &done));
+    book_row("B, 1 to 32 levels, and back", &b, book_of_levels());
+    book_row("B, 31 levels 63 times, and 32", &b, book_of(63, &less_deep, &deep));
+    book_row("96 words of 16 kinds, 32 levels 64 times", &sixteen, book_of(64, &open_16, NULL));
+    book_row("the same 63 times, and a neighbour", &sixteen, book_of(63, &open_16, &beside_16));
+    book_row("the same 64 times, with more places written", &sixteen, book_of(64, &written_16, NULL));
+    book_row("C, a tree of 7 levels", &c, book_of(1, &tree_7, NULL));
+    book_row("the same 64 times", &c, book_of(64, &tree_7, NULL));
+    book_row("the same 63 times, and one that differs", &c, book_of(63, &tree_7, &other_7));
+    book_row("C, a tree of 5 levels, and a neighbour", &c, book_of(1, &tree_5, &half_5));
+    book_row("C, a tree of 6 levels, and a neighbour", &c, book_of(1, &tree_6, &half_6));
+    book_row("C, the tree of 4,096 bytes 64 times", &c, book_of(64, &largest, NULL));
+    book_row("E, a neighbour, and entries of 4,095 bytes", &e, book_of(1, &two, &other_two));
+    book_row("E, a neighbour, and entries of 4,097 bytes", &e, book_of(1, &two, &one_more));
+    book_row("E, 4,096 bytes 64 times", &e, book_of(64, &four, NULL));
+
+    size_t others = 0;
+    for (int i = 0; i < LIST_BOOK; i++)
+        if (others < most[i])
+            others = most[i];
+    printf("the most: %zu bytes of %d, and for a book %zu of %d\n", others, ENOUGH, most[LIST_BOOK],
+           ENOUGH_FOR_BOOKS);
+    return others > ENOUGH || most[LIST_BOOK] > ENOUGH_FOR_BOOKS;
 }

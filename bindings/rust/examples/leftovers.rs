@@ -1,4 +1,4 @@
-//! The leftovers of wait(up, free) in words, and what is said of inputs that are refused.
+//! The leftovers of wait(up, free), and of a book, in words, and what is said of inputs that are refused.
 //!
 //!     rt staticlib pheasantry
 //!     cd bindings/rust
@@ -8,6 +8,9 @@
 //!
 //!     wait(up, free) leaves over
 //!       done
+//!       wait(down, _)
+//!       wait(up, full)
+//!     the book of wait(up, free) and done leaves over
 //!       wait(down, _)
 //!       wait(up, full)
 //!     wait(n0, n0): refused 13 1 4: the name stood earlier at a place of another kind (pattern, byte 4)
@@ -67,6 +70,17 @@ fn main() -> Result<(), Refusal> {
     let wait_up_free = [0, 0, 3, 1, 0, 3, 0];
     println!("{} leaves over", whole(&wait_up_free));
     for entry in vocabulary.leftovers(&wait_up_free)? {
+        println!("  {}", whole(&entry));
+    }
+
+    // A book: the number of its patterns, and these. Its entries are sorted, since their order is not promised.
+    let done = [0, 5, 0];
+    let book = [&[2][..], &wait_up_free, &done].concat();
+    let mut left = vocabulary.book_leftovers(&book)?;
+    left.sort();
+    let (one, other) = (whole(&wait_up_free), whole(&done));
+    println!("the book of {one} and {other} leaves over");
+    for entry in left {
         println!("  {}", whole(&entry));
     }
 

@@ -12,7 +12,7 @@ pub struct Checked {
     pub deepest: usize,
 }
 
-/// How much [`list`](crate::list) wrote.
+/// How much [`list`](crate::list) or [`list_book`](crate::list_book) wrote.
 #[derive(Clone, Copy, Debug, PartialEq, Eq)]
 #[must_use = "only the first bytes of the lent slice, as many as are said, are the listing"]
 #[non_exhaustive]
@@ -52,8 +52,9 @@ impl Spans {
     }
 }
 
-/// Takes a listing apart: the entries in the bytes that [`list`](crate::list) wrote,
-/// `&out[..listed.bytes]`. Bytes behind them would be taken for more entries.
+/// Takes a listing apart: the entries in the bytes that [`list`](crate::list) or
+/// [`list_book`](crate::list_book) wrote, `&out[..listed.bytes]`. Bytes behind them would be taken for more
+/// entries.
 ///
 /// ```
 /// let listing = [0, 5, 0, 0, 0, 1, 2, 0, 0, 0, 3, 1, 0, 4, 0];

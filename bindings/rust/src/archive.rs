@@ -57,6 +57,15 @@ extern "C" {
         out_length: usize,
         reply: &mut Reply,
     );
+    pub(crate) fn pheasantry_list_book(
+        vocabulary: *const u8,
+        vocabulary_length: usize,
+        book: *const u8,
+        book_length: usize,
+        out: *mut u8,
+        out_length: usize,
+        reply: &mut Reply,
+    );
 }
 
 #[cfg(test)]

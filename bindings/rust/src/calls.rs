@@ -1,6 +1,6 @@
 //! The archive's calls over a vocabulary's bytes.
 use crate::archive::{self, Reply};
-use crate::{entries, Checked, Listed, Reason, Refusal, Spans, TABLE_LENGTH};
+use crate::{entries, Checked, Listed, Reason, Refusal, Spans, BOOK_LISTING_LENGTH, TABLE_LENGTH};
 
 // The two values of a reply. Both are below 2⁶⁴, and a `usize` has 64 bits where the archive runs.
 fn values(reply: Reply) -> Result<(usize, usize), Refusal> {
@@ -267,4 +267,80 @@ pub fn fill(
         );
     }
     values(reply).map(|(length, _)| length)
+}
+
+/// Writes the leftovers of a whole book into `out`: whole patterns without names, each directly behind the
+/// one before it, which [`entries`] takes apart. Bytes behind the last stay as they were. Every complete
+/// situation of the kind fits some pattern of the book or exactly one of these entries, never both.
+///
+/// A book is a count byte, 1 to 64, and then so many whole patterns in a row, all of one kind. Names are a
+/// pattern's own: the same name in two patterns means nothing.
+///
+/// Which entries are left depends on the order of the patterns. The order of the entries is not promised: a
+/// later version may write the same entries in another.
+///
+/// ```
+/// use pheasantry::{list_book, Reason, BOOK_LISTING_LENGTH};
+///
+/// let vocabulary = [3, 6, 0, 3, 1, 2, 1, 0, 1, 0, 2, 0, 2, 0, 0, 0];
+/// let wait_up_free_and_done = [2, 0, 0, 3, 1, 0, 3, 0, 0, 5, 0];
+/// let refusal = list_book(&vocabulary, &wait_up_free_and_done, &mut [0; 11]).unwrap_err();
+/// assert_eq!((refusal.reason(), refusal.place()), (Reason::NoRoom, 12));
+///
+/// // So many bytes are enough for every book.
+/// let mut out = vec![0; BOOK_LISTING_LENGTH];
+/// let listed = list_book(&vocabulary, &wait_up_free_and_done, &mut out)?;
+/// assert_eq!((listed.entries, listed.bytes), (2, 12));
+/// # Ok::<(), pheasantry::Refusal>(())
+/// ```
+///
+/// # Errors
+///
+/// Refused with 1 to 6 for the vocabulary; then for the book with 24, for each of its patterns in turn with
+/// 7 to 14, 18 and 25, and with 15 and 26; and with 20 where `out` is too short: the place is then the length
+/// that is needed, at most [`BOOK_LISTING_LENGTH`]. A refusal leaves `out` as it was.
+pub fn list_book(vocabulary: &[u8], book: &[u8], out: &mut [u8]) -> Result<Listed, Refusal> {
+    let mut reply = Reply::default();
+    // SAFETY: the pointers and lengths are those of slices that live through the call, and out and
+    // the reply, which it writes, are borrowed for it alone.
+    unsafe {
+        archive::pheasantry_list_book(
+            vocabulary.as_ptr(),
+            vocabulary.len(),
+            book.as_ptr(),
+            book.len(),
+            out.as_mut_ptr(),
+            out.len(),
+            &mut reply,
+        );
+    }
+    let (entries, bytes) = values(reply)?;
+    Ok(Listed { entries, bytes })
+}
+
+/// The leftovers of a whole book, each a whole pattern with its kind byte and without names: the entries
+/// that [`list_book`] writes, in an order that is not promised.
+///
+/// It allocates [`BOOK_LISTING_LENGTH`] bytes and then the entries, so that it is never refused for want of
+/// room.
+///
+/// ```
+/// let vocabulary = [3, 6, 0, 3, 1, 2, 1, 0, 1, 0, 2, 0, 2, 0, 0, 0];
+/// let (wait_up_free, done) = ([0, 0, 3, 1, 0, 3, 0], [0, 5, 0]);
+/// let book = [&[2][..], &wait_up_free, &done].concat();
+///
+/// let mut leftovers = pheasantry::book_leftovers(&vocabulary, &book)?;
+/// leftovers.sort();
+/// let (wait_down, wait_up_full) = (vec![0, 0, 1, 2, 0], vec![0, 0, 3, 1, 0, 4, 0]);
+/// assert_eq!(leftovers, [wait_down, wait_up_full]);
+/// # Ok::<(), pheasantry::Refusal>(())
+/// ```
+///
+/// # Errors
+///
+/// Refused as [`list_book`], but never with 20.
+pub fn book_leftovers(vocabulary: &[u8], book: &[u8]) -> Result<Vec<Vec<u8>>, Refusal> {
+    let mut out = vec![0; BOOK_LISTING_LENGTH];
+    let listed = list_book(vocabulary, book, &mut out)?;
+    Ok(entries(&out[..listed.bytes]).map(<[u8]>::to_vec).collect())
 }

@@ -16,18 +16,21 @@ pub enum Input {
     Output = 3,
     /// Input 4: the filling file.
     Filling = 4,
+    /// Input 5: the book.
+    Book = 5,
 }
 
 impl Input {
-    const ALL: [Input; 5] = [
+    const ALL: [Input; 6] = [
         Input::Vocabulary,
         Input::Pattern,
         Input::Situation,
         Input::Output,
         Input::Filling,
+        Input::Book,
     ];
 
-    /// The input's number, 0 to 4.
+    /// The input's number, 0 to 5.
     #[must_use]
     pub fn number(self) -> u8 {
         self as u8
@@ -42,11 +45,15 @@ impl fmt::Display for Input {
             Input::Situation => "situation",
             Input::Output => "lent output",
             Input::Filling => "filling file",
+            Input::Book => "book",
         })
     }
 }
 
 /// Why a call was refused: a line of the refusal list. Its text says the same.
+///
+/// In a book, what is said of a term is meant of each pattern by itself, and places count from the book's
+/// first byte.
 #[derive(Clone, Copy, Debug, PartialEq, Eq, Hash)]
 #[non_exhaustive]
 pub enum Reason {
@@ -62,7 +69,8 @@ pub enum Reason {
     RecordsContinue = 5,
     /// 6: a kind has no complete situation. The place is the lowest such kind.
     EmptyKind = 6,
-    /// 7: the term has fewer than 2 or more than 4,096 bytes. The place is 0.
+    /// 7: the term has fewer than 2 or more than 4,096 bytes. The place is 0, in a book the pattern's first
+    /// byte.
     Size = 7,
     /// 8: the term's first byte is not below the number of kinds.
     TermKind = 8,
@@ -78,7 +86,7 @@ pub enum Reason {
     Clash = 13,
     /// 14: the written map has a bit that the word's place map lacks.
     StrayBit = 14,
-    /// 15: bytes follow the term.
+    /// 15: bytes follow the term, in a book the last pattern.
     TermContinues = 15,
     /// 16: the situation is not complete. The place is its first name, 255 or short map.
     Incomplete = 16,
@@ -97,10 +105,17 @@ pub enum Reason {
     Filling = 22,
     /// 23: the result is longer than 4,096 bytes or deeper than 32 levels. The place is 0.
     ResultSize = 23,
+    /// 24: the book's count is missing or not 1 to 64. The place is 0.
+    PatternCount = 24,
+    /// 25: the pattern's kind differs from that of the book's first. The place is its kind byte.
+    OtherKind = 25,
+    /// 26: the entries left behind a pattern have more than 32,768 bytes, or one of them more than 4,096. The
+    /// place is the number of the first such pattern, from 0.
+    ListingSize = 26,
 }
 
 impl Reason {
-    const ALL: [Reason; 23] = [
+    const ALL: [Reason; 26] = [
         Reason::Head,
         Reason::WordCount,
         Reason::RecordEnds,
@@ -124,9 +139,12 @@ impl Reason {
         Reason::NamesDiffer,
         Reason::Filling,
         Reason::ResultSize,
+        Reason::PatternCount,
+        Reason::OtherKind,
+        Reason::ListingSize,
     ];
 
-    /// The line's number, 1 to 23.
+    /// The line's number, 1 to 26.
     #[must_use]
     pub fn number(self) -> u8 {
         self as u8
@@ -163,6 +181,11 @@ impl fmt::Display for Reason {
                 "a filling is no complete term of its name's kind within 32 levels, or bytes follow"
             }
             Reason::ResultSize => "the result is longer than 4,096 bytes or deeper than 32 levels",
+            Reason::PatternCount => "the book's count is missing or not 1 to 64",
+            Reason::OtherKind => "the pattern's kind differs from that of the book's first",
+            Reason::ListingSize => {
+                "the entries left behind a pattern have more than 32,768 bytes, or one of them more than 4,096"
+            }
         })
     }
 }
@@ -211,7 +234,7 @@ impl Refusal {
         self.reason
     }
 
-    /// The line's number, 1 to 23.
+    /// The line's number, 1 to 26.
     #[must_use]
     pub fn number(&self) -> u8 {
         self.reason.number()
@@ -224,9 +247,12 @@ impl Refusal {
     }
 
     /// The offset of the byte at fault or of the missing one. For [`Reason::EmptyKind`] it is a kind, for
-    /// [`Reason::NamesDiffer`] a name, or 0 where the bit map is short, for [`Reason::NoRoom`] the length
-    /// that is needed, and 0 for [`Reason::Head`], [`Reason::Size`], [`Reason::KindsDiffer`],
-    /// [`Reason::TableLength`] and [`Reason::ResultSize`], which are about no one byte.
+    /// [`Reason::NamesDiffer`] a name, or 0 where the bit map is short, for [`Reason::ListingSize`] a
+    /// pattern's number, from 0, for [`Reason::NoRoom`] the length that is needed, and 0 for
+    /// [`Reason::Head`], [`Reason::Size`], [`Reason::KindsDiffer`], [`Reason::TableLength`],
+    /// [`Reason::ResultSize`] and [`Reason::PatternCount`], which are about no one byte.
+    ///
+    /// In a book offsets count from its first byte, and [`Reason::Size`] has that of the pattern's first.
     #[must_use]
     pub fn place(&self) -> usize {
         self.place
@@ -247,9 +273,13 @@ impl fmt::Display for Refusal {
             Reason::NoRoom => write!(f, " (it takes {place} bytes)"),
             Reason::NamesDiffer if *place == 0 => write!(f, " ({input}, short or name 0)"),
             Reason::NamesDiffer => write!(f, " ({input}, name {place})"),
-            Reason::Head | Reason::Size | Reason::KindsDiffer | Reason::ResultSize => {
-                write!(f, " ({input})")
-            }
+            Reason::ListingSize => write!(f, " ({input}, pattern {place})"),
+            Reason::Size if *input == Input::Book => write!(f, " ({input}, byte {place})"),
+            Reason::Head
+            | Reason::Size
+            | Reason::KindsDiffer
+            | Reason::ResultSize
+            | Reason::PatternCount => write!(f, " ({input})"),
             Reason::TableLength => Ok(()),
             _ => write!(f, " ({input}, byte {place})"),
         }

@@ -118,6 +118,27 @@ impl<'a> Vocabulary<'a> {
     pub fn fill(&self, pattern: &[u8], filling: &[u8], out: &mut [u8]) -> Result<usize, Refusal> {
         calls::fill(self.bytes, pattern, filling, out)
     }
+
+    /// Writes the leftovers of a whole book into `out`: see [`list_book`](crate::list_book).
+    ///
+    /// # Errors
+    ///
+    /// Refused with 7 to 15, 18 and 24 to 26 for the book, and 20 where `out` is too short; the place is then
+    /// the length that is needed, at most [`BOOK_LISTING_LENGTH`](crate::BOOK_LISTING_LENGTH). A refusal
+    /// leaves `out` as it was.
+    pub fn list_book(&self, book: &[u8], out: &mut [u8]) -> Result<Listed, Refusal> {
+        calls::list_book(self.bytes, book, out)
+    }
+
+    /// The leftovers of a whole book, each a whole pattern with its kind byte, in an order that is not
+    /// promised: see [`book_leftovers`](crate::book_leftovers).
+    ///
+    /// # Errors
+    ///
+    /// Refused with 7 to 15, 18 and 24 to 26, for the book.
+    pub fn book_leftovers(&self, book: &[u8]) -> Result<Vec<Vec<u8>>, Refusal> {
+        calls::book_leftovers(self.bytes, book)
+    }
 }
 
 impl<'a> TryFrom<&'a [u8]> for Vocabulary<'a> {

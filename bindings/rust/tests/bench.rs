@@ -1,7 +1,7 @@
 //! The bench examples and each line of the refusal list, through the archive.
 use pheasantry::{
-    check_term, check_vocabulary, entries, fill, leftovers, list, match_into, match_pattern, part,
-    Checked, Refusal,
+    check_term, check_vocabulary, entries, fill, leftovers, list, list_book, match_into,
+    match_pattern, part, Checked, Refusal,
 };
 
 const A: [u8; 16] = [3, 6, 0, 3, 1, 2, 1, 0, 1, 0, 2, 0, 2, 0, 0, 0];
@@ -215,6 +215,11 @@ fn every_line_of_the_refusal_list() {
     assert_eq!(unfilled(&B, &[0, 1, 1, 0x80], &deep), (23, 4, 0));
     let deeper = [&map, &levels(33)[1..]].concat();
     assert_eq!(unfilled(&B, &[0, 0x80], &deeper), (22, 4, 72));
+    let unlisted = |v, b| numbers(list_book(v, b, &mut []));
+    assert_eq!(unlisted(&C, &[]), (24, 5, 0));
+    assert_eq!(unlisted(&A, &[2, 0, 255, 1, 255]), (25, 5, 3));
+    let tree = (0..7).fold(vec![0, 0], |below, _| [&[2, 3], &*below, &below].concat());
+    assert_eq!(unlisted(&C, &[&[1, 0], &*tree].concat()), (26, 5, 0));
 }
 
 #[test]
@@ -263,6 +268,11 @@ fn calls_run_at_the_same_time() {
             for _ in 0..1000 {
                 assert_eq!(leftovers(&A, &WAIT_UP_FREE).unwrap().len(), 3);
                 assert_eq!(part(&C, &PAIR_N0_N0, &PAIR_A_A, 0), [0, 0]);
+                let of_pair_n0_b = [1, 0, 2, 3, 0x80, 1, 0];
+                assert_eq!(
+                    list_book(&C, &of_pair_n0_b, &mut [0; 16]).unwrap().entries,
+                    4
+                );
             }
         })
     });

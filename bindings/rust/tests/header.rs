@@ -1,6 +1,7 @@
-//! The C header and this crate say the same: the version, the refusals and the inputs.
+//! The C header and this crate say the same: the version, the lengths, the refusals and the inputs.
 use pheasantry::{
-    check_term, check_vocabulary, fill, list, match_into, Reason, Refusal, TABLE_LENGTH,
+    check_term, check_vocabulary, fill, list, list_book, match_into, Reason, Refusal,
+    BOOK_LISTING_LENGTH, TABLE_LENGTH,
 };
 
 const HEADER: &str = include_str!("../../../include/pheasantry.h");
@@ -42,6 +43,9 @@ fn refusals() -> Vec<Refusal> {
     let deep_n0 = [&deep[..63], &[0x80]].concat();
     let more_for_n0 = [1, 0, 0, 0, 0, 0, 0, 0, 1, 1, 0, 0];
     let pair = [0, 2, 3, 0, 0, 0, 0];
+    // Pairs on 7 levels, and a at every place of the eighth.
+    let tree = (0..7).fold(vec![0, 0], |below, _| [&[2, 3], &*below, &below].concat());
+    let book = [&[1, 0], &*tree].concat();
     let vocabularies: [&[u8]; 6] = [
         &[],
         &[1, 97],
@@ -73,6 +77,9 @@ fn refusals() -> Vec<Refusal> {
         fill(&c, &pair, &[], &mut []).unwrap_err(),
         fill(&c, &pair, &[0; 9], &mut []).unwrap_err(),
         fill(&b, &deep_n0, &more_for_n0, &mut []).unwrap_err(),
+        list_book(&c, &[], &mut []).unwrap_err(),
+        list_book(&a, &[2, 0, 255, 1, 255], &mut []).unwrap_err(),
+        list_book(&c, &book, &mut []).unwrap_err(),
     ]);
     refusals
 }
@@ -96,7 +103,15 @@ fn one_version() {
     let numbers =
         ["MAJOR", "MINOR", "PATCH"].map(|part| defined(&format!("PHEASANTRY_VERSION_{part}")));
     assert_eq!(numbers.join("."), version);
+}
+
+#[test]
+fn the_same_lengths() {
     assert_eq!(defined("PHEASANTRY_TABLE_LENGTH"), TABLE_LENGTH.to_string());
+    assert_eq!(
+        defined("PHEASANTRY_BOOK_LISTING_LENGTH"),
+        BOOK_LISTING_LENGTH.to_string()
+    );
 }
 
 #[test]
@@ -114,12 +129,12 @@ fn the_same_refusals() {
 
 #[test]
 fn the_same_inputs() {
-    use pheasantry::Input::{Filling, Output, Pattern, Situation, Vocabulary};
+    use pheasantry::Input::{Book, Filling, Output, Pattern, Situation, Vocabulary};
     let in_header: Vec<(String, u8)> = enumerated("PHEASANTRY_INPUT_")
         .into_iter()
         .map(|(_, name, number)| (name.to_lowercase(), number))
         .collect();
-    let here = [Vocabulary, Pattern, Situation, Output, Filling]
+    let here = [Vocabulary, Pattern, Situation, Output, Filling, Book]
         .map(|input| (format!("{input:?}").to_lowercase(), input.number()));
     assert_eq!(in_header, here);
 }

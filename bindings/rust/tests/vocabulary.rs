@@ -19,7 +19,17 @@ const TERMS: [&[u8]; 9] = [
     &[],
 ];
 
-// Filling files for some of them.
+// Books of them, in order and not.
+const BOOKS: [&[u8]; 6] = [
+    &[2, 0, 2, 3, 0, 0, 1, 0, 0, 2, 2, 1, 0],
+    &[1, 0, 255],
+    &[1, 0, 2, 3, 0x80, 0x80],
+    &[2, 0, 255],
+    &[1, 0, 255, 0],
+    &[],
+];
+
+// Filling files for some of the terms.
 const FILES: [&[u8]; 4] = [
     &[1, 0, 0, 0, 0, 0, 0, 0, 0, 0],
     &[1, 0, 0, 0, 0, 0, 0, 0, 2, 1],
@@ -74,6 +84,20 @@ fn methods_are_the_functions() {
             }
         }
     }
+    for book in BOOKS {
+        assert_eq!(
+            vocabulary.book_leftovers(book),
+            pheasantry::book_leftovers(&C, book)
+        );
+        for length in [0, 47, 48, 100] {
+            let (mut one, mut other) = (vec![9; length], vec![9; length]);
+            assert_eq!(
+                vocabulary.list_book(book, &mut one),
+                pheasantry::list_book(&C, book, &mut other)
+            );
+            assert_eq!(one, other);
+        }
+    }
 }
 
 #[test]
@@ -98,5 +122,6 @@ fn a_damaged_one_is_refused_at_once() {
         assert_eq!(pheasantry::match_pattern(bytes, &[], &[]), Err(refusal));
         assert_eq!(pheasantry::leftovers(bytes, &[]), Err(refusal));
         assert_eq!(pheasantry::fill(bytes, &[], &[], &mut []), Err(refusal));
+        assert_eq!(pheasantry::book_leftovers(bytes, &[]), Err(refusal));
     }
 }
