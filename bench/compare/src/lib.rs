@@ -2,6 +2,7 @@
 //!
 //! The functions of the archive are called as they are, with nothing of the Rust binding between.
 
+pub mod books;
 pub mod terms;
 pub mod timing;
 
@@ -64,6 +65,15 @@ pub mod archive {
             out_length: usize,
             reply: *mut u64,
         );
+        fn pheasantry_list_book(
+            v: *const u8,
+            v_length: usize,
+            b: *const u8,
+            b_length: usize,
+            out: *mut u8,
+            out_length: usize,
+            reply: *mut u64,
+        );
     }
 
     /// The pointer of a slice; null where there is nothing to point to, which the header allows.
@@ -75,7 +85,7 @@ pub mod archive {
         }
     }
 
-    // SAFETY, for all six: pointers and lengths are those of slices that live through the call, or
+    // SAFETY, for all seven: pointers and lengths are those of slices that live through the call, or
     // null and 0, and what is written is borrowed for the call alone.
 
     pub fn check_vocabulary(v: &[u8]) -> Reply {
@@ -152,6 +162,7 @@ pub mod archive {
         };
         reply
     }
+
     pub fn fill(v: &[u8], p: &[u8], f: &[u8], out: &mut [u8]) -> Reply {
         let mut reply = UNWRITTEN;
         let to = if out.is_empty() {
@@ -174,4 +185,46 @@ pub mod archive {
         };
         reply
     }
+
+    pub fn list_book(v: &[u8], b: &[u8], out: &mut [u8]) -> Reply {
+        let mut reply = UNWRITTEN;
+        let to = if out.is_empty() {
+            ptr::null_mut()
+        } else {
+            out.as_mut_ptr()
+        };
+        unsafe {
+            pheasantry_list_book(
+                pointer(v),
+                v.len(),
+                pointer(b),
+                b.len(),
+                to,
+                out.len(),
+                reply.as_mut_ptr(),
+            )
+        };
+        reply
+    }
+}
+
+/// The entries of a listing in the order of their bytes, if it is just so many whole patterns.
+pub fn sorted_entries(mut listing: &[u8], entries: u64) -> Option<Vec<&[u8]>> {
+    let mut all = Vec::new();
+    for _ in 0..entries {
+        let (mut at, mut due) = (1, 1);
+        while due > 0 {
+            due -= 1;
+            if *listing.get(at)? < 128 {
+                due += listing.get(at + 1)?.count_ones();
+                at += 1;
+            }
+            at += 1;
+        }
+        let (entry, behind) = listing.split_at(at);
+        all.push(entry);
+        listing = behind;
+    }
+    all.sort_unstable();
+    listing.is_empty().then_some(all)
 }

@@ -126,7 +126,7 @@ pub fn even(most: usize) -> Vec<u8> {
 }
 
 /// The next number of a sequence that looks like chance.
-fn chance(seed: &mut u64) -> usize {
+pub(crate) fn chance(seed: &mut u64) -> usize {
     *seed = seed
         .wrapping_mul(6364136223846793005)
         .wrapping_add(1442695040888963407);

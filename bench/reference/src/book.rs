@@ -1,6 +1,7 @@
 //! Listing the leftovers of a book: it is read whole, then its patterns are
 //! taken from what is left over, one after the other.
 
+mod entrywise;
 mod leftovers;
 mod pattern;
 mod places;
@@ -29,6 +30,17 @@ pub(crate) fn list<const W: usize, const S: usize>(
 ) -> Result<Reply, Reply> {
     read::<W, S>(words, book)?;
     list_read(&Kinds::new(words), book, out)
+}
+
+/// Lists them entry by entry.
+#[inline(always)]
+pub(crate) fn list_entrywise<const W: usize, const S: usize>(
+    words: &Words<W>,
+    book: &[u8],
+    out: &mut [u8],
+) -> Result<Reply, Reply> {
+    read::<W, S>(words, book)?;
+    entrywise::list_read(&Kinds::new(words), book, out)
 }
 
 /// Reads a whole book up to refusal 15.

@@ -174,6 +174,23 @@ fn list_book_sized<const W: usize, const S: usize>(
     book::list::<W, S>(&words, book, out)
 }
 
+/// The same as [`list_book`] by a plain loop over the entries, to compare times
+/// with.
+pub fn list_book_entrywise(vocabulary: &[u8], book: &[u8], out: &mut [u8]) -> Reply {
+    let longest = book.len().saturating_sub(1);
+    sized!(vocabulary, longest, list_entrywise_sized(book, out)).unwrap_or_else(|refusal| refusal)
+}
+
+fn list_entrywise_sized<const W: usize, const S: usize>(
+    vocabulary: &[u8],
+    book: &[u8],
+    out: &mut [u8],
+) -> Result<Reply, Reply> {
+    let mut words = Words::<W>::new();
+    words.fill(vocabulary)?;
+    book::list_entrywise::<W, S>(&words, book, out)
+}
+
 /// The bytes that the program `leftovers` prints for this standard input.
 pub fn leftovers(input: &[u8]) -> Vec<u8> {
     program::leftovers(input)

@@ -4,6 +4,7 @@
 mod plain;
 
 use reference::generate::Gen;
+use reference::Reply;
 use std::collections::HashMap;
 
 #[test]
@@ -360,25 +361,30 @@ fn sorted(mut listing: &[u8], entries: u64) -> Vec<Vec<u8>> {
 
 #[test]
 fn same_books_as_plain() {
-    same_books(4, 30_000);
+    same_books(4, 30_000, plain::list_book);
+}
+
+#[test]
+fn same_books_entry_by_entry() {
+    same_books(5, 30_000, reference::list_book_entrywise);
 }
 
 #[test]
 #[ignore = "takes minutes"]
 fn same_books_as_plain_many() {
     for seed in 200..204 {
-        same_books(seed, 100_000);
+        same_books(seed, 100_000, plain::list_book);
     }
 }
 
-fn same_books(seed: u64, cases: usize) {
+fn same_books(seed: u64, cases: usize, list_book: fn(&[u8], &[u8], &mut [u8]) -> Reply) {
     let mut gen = Gen::new(seed);
     for _ in 0..cases {
         let case = gen.book_case();
         let mut one = vec![case.out_fill; case.out_len];
         let mut two = one.clone();
         let reply = reference::list_book(&case.vocabulary, &case.book, &mut one);
-        let other = plain::list_book(&case.vocabulary, &case.book, &mut two);
+        let other = list_book(&case.vocabulary, &case.book, &mut two);
         assert_eq!(reply, other, "{case:?}");
         if reply[0] != 0 {
             assert_eq!(one, two);

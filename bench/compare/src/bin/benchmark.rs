@@ -2,9 +2,9 @@
 //!
 //! Argument: print only the rows whose name has this word in it.
 
-use compare::archive;
 use compare::terms::{self, Term};
 use compare::timing::{turns, Timed};
+use compare::{archive, books, sorted_entries};
 use reference::Reply;
 use std::hint::black_box;
 
@@ -40,6 +40,16 @@ mod plain {
     #[inline(never)]
     pub fn fill(v: &[u8], p: &[u8], f: &[u8], out: &mut [u8]) -> Reply {
         reference::fill(v, p, f, out)
+    }
+
+    #[inline(never)]
+    pub fn list_book(v: &[u8], b: &[u8], out: &mut [u8]) -> Reply {
+        reference::list_book(v, b, out)
+    }
+
+    #[inline(never)]
+    pub fn list_book_entrywise(v: &[u8], b: &[u8], out: &mut [u8]) -> Reply {
+        reference::list_book_entrywise(v, b, out)
     }
 }
 
@@ -290,6 +300,74 @@ impl Bench {
         }
     }
 
+    /// A listing of a book into a slice of just the length that it needs, or a refused one into an
+    /// empty slice.
+    fn book(&mut self, name: &str, v: &[u8], b: &[u8], number: u64) -> Option<(Reply, Timed)> {
+        if !self.wanted(name) {
+            return None;
+        }
+        let needed = match (number, plain::list_book(v, b, &mut [])) {
+            (0, [20, _, needed]) => needed as usize,
+            _ => 0,
+        };
+        if self.out.len() < needed {
+            self.out.resize(needed, 0);
+        }
+        let out = &mut self.out[..needed];
+        let reply = archive::list_book(v, b, out);
+        assert_eq!(reply[0], number, "{name}");
+        let mine = out.to_vec();
+        Self::same(name, reply, plain::list_book(v, b, out));
+        let ours = sorted_entries(&mine, reply[1]);
+        if number == 0 {
+            assert!(
+                ours.is_some() && ours == sorted_entries(out, reply[1]),
+                "{name}"
+            );
+        }
+        Self::same(name, reply, plain::list_book_entrywise(v, b, out));
+        if number == 0 {
+            assert!(ours == sorted_entries(out, reply[1]), "{name}");
+        }
+        // Each call takes the slice anew, so that both write to the same memory.
+        let out = std::cell::RefCell::new(out);
+        let timed = turns(&mut [
+            &mut || {
+                archive::list_book(black_box(v), black_box(b), black_box(&mut out.borrow_mut()))[2]
+            },
+            &mut || {
+                plain::list_book(black_box(v), black_box(b), black_box(&mut out.borrow_mut()))[2]
+            },
+            &mut || {
+                let mut out = out.borrow_mut();
+                plain::list_book_entrywise(black_box(v), black_box(b), black_box(&mut out))[2]
+            },
+        ]);
+        Some((reply, timed))
+    }
+
+    fn book_row(&mut self, name: &str, v: &[u8], b: &[u8]) {
+        if let Some(([_, entries, bytes], timed)) = self.book(name, v, b, 0) {
+            println!(
+                "| {name} ({} bytes) | {} | {entries} | {bytes} | {:.1} | {:.1} | {:.1} | {:.2} | {:.2} |",
+                b.len(),
+                b[0],
+                timed.median[0],
+                timed.median[1],
+                timed.median[2],
+                timed.ratio[1],
+                timed.ratio[2],
+            );
+        }
+    }
+
+    /// A book that is refused.
+    fn unlisted_row(&mut self, name: &str, v: &[u8], b: &[u8], number: u64) {
+        if let Some((_, timed)) = self.book(name, v, b, number) {
+            Self::row(&format!("{name} ({} bytes)", b.len()), &timed);
+        }
+    }
+
     fn growth_row(name: &str, length: usize, timed: &Timed) {
         let each = |ns: f64| ns / length as f64;
         println!(
@@ -516,6 +594,24 @@ fn fills(bench: &mut Bench) {
     bench.unfilled_row("fill, refused 22 at the end", c, &pattern, &filling, 0, 22);
 }
 
+fn list_books(bench: &mut Bench) {
+    println!("\n### Books\n");
+    println!(
+        "| book | patterns | entries | bytes | archive, ns | reference, ns | loop, ns | ratio | to the loop |"
+    );
+    println!("|---|---:|---:|---:|---:|---:|---:|---:|---:|");
+    let all = books::all();
+    for book in &all {
+        let name = format!("book, {}", book.name);
+        bench.book_row(&name, &book.vocabulary, &book.book);
+    }
+    Bench::head("Books refused");
+    let c = &terms::C[..];
+    for (name, book, number) in books::refused() {
+        bench.unlisted_row(&format!("book, {name}"), c, &book, number);
+    }
+}
+
 fn growth(bench: &mut Bench) {
     println!("\n### Growth\n");
     println!("Bytes: of the term, of pattern and situation together, of what is written.\n");
@@ -555,6 +651,35 @@ fn growth(bench: &mut Bench) {
             Bench::growth_row(&name, reply[2] as usize, &timed);
         }
     }
+    for (name, struck, sizes) in [
+        ("one pattern", false, [32, 64, 128, 256]),
+        ("struck by a second", true, [32, 64, 96, 128]),
+    ] {
+        let name = format!("growth of book, C even, {name}");
+        for size in sizes {
+            let book = books::even_book(size, struck);
+            if let Some((reply, timed)) = bench.book(&name, c, &book, 0) {
+                Bench::growth_row(&name, reply[2] as usize, &timed);
+            }
+        }
+    }
+    println!("\nPatterns of a book:\n");
+    println!("| book | patterns | archive, ns a pattern | reference, ns a pattern | ratio |");
+    println!("|---|---:|---:|---:|---:|");
+    for count in [1, 2, 4, 8, 16, 32, 64] {
+        let book = books::leaf_pairs(count);
+        let name = "growth of book, 96 words, pairs of leaves";
+        if let Some((_, timed)) = bench.book(name, e, &book, 0) {
+            Bench::growth_row(name, count as usize, &timed);
+        }
+    }
+    for count in [1, 2, 4, 8, 16, 32, 64] {
+        let book = books::by_chance(count);
+        let name = "growth of book, C by chance";
+        if let Some((_, timed)) = bench.book(name, c, &book, 0) {
+            Bench::growth_row(name, count as usize, &timed);
+        }
+    }
 }
 
 fn main() {
@@ -575,5 +700,6 @@ fn main() {
     large(&mut bench, &all);
     lists(&mut bench, &all);
     fills(&mut bench);
+    list_books(&mut bench);
     growth(&mut bench);
 }

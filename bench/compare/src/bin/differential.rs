@@ -3,8 +3,8 @@
 //!
 //! Arguments: the number of cases (1,000,000) and the seed (1).
 
-use compare::{archive, Reply};
-use reference::generate::{Case, Gen};
+use compare::{archive, sorted_entries, Reply};
+use reference::generate::{BookCase, Case, Gen};
 use std::collections::BTreeMap;
 use std::fmt::Display;
 use std::process::exit;
@@ -12,7 +12,7 @@ use std::process::exit;
 /// How much is lent around a slice to see that nothing is written beside it.
 const MARGIN: usize = 64;
 
-const CALLS: [&str; 7] = [
+const CALLS: [&str; 8] = [
     "vocabulary",
     "pattern",
     "situation",
@@ -20,6 +20,7 @@ const CALLS: [&str; 7] = [
     "part",
     "list",
     "fill",
+    "book",
 ];
 
 /// What a call gave: a refusal's number, or 0 and in which way it was accepted.
@@ -27,7 +28,7 @@ type Outcome = (u64, &'static str);
 
 /// How often each call gave each outcome.
 #[derive(Default)]
-struct Seen(BTreeMap<Outcome, [u64; 7]>);
+struct Seen(BTreeMap<Outcome, [u64; 8]>);
 
 impl Seen {
     fn add(&mut self, call: &'static str, outcome: Outcome) {
@@ -62,16 +63,35 @@ fn hex(bytes: &[u8]) -> String {
     bytes.iter().map(|byte| format!("{byte:02x}")).collect()
 }
 
-fn differs(case: &Case, number: u64, call: &str, what: &str) -> ! {
+/// Inputs of calls, to be shown where those differ.
+trait Inputs {
+    fn show(&self);
+}
+
+impl Inputs for Case {
+    fn show(&self) {
+        println!("vocabulary {}", hex(&self.vocabulary));
+        println!("pattern    {}", hex(&self.pattern));
+        println!("situation  {}", hex(&self.situation));
+        println!("filling    {}", hex(&self.filling));
+        println!(
+            "name {}, table {} numbers, out {} bytes, for fill {}",
+            self.name, self.table_len, self.out_len, self.result_len
+        );
+    }
+}
+
+impl Inputs for BookCase {
+    fn show(&self) {
+        println!("vocabulary {}", hex(&self.vocabulary));
+        println!("book       {}", hex(&self.book));
+        println!("out {} bytes", self.out_len);
+    }
+}
+
+fn differs(case: &impl Inputs, number: u64, call: &str, what: &str) -> ! {
     println!("difference in case {number}, {call}: {what}");
-    println!("vocabulary {}", hex(&case.vocabulary));
-    println!("pattern    {}", hex(&case.pattern));
-    println!("situation  {}", hex(&case.situation));
-    println!("filling    {}", hex(&case.filling));
-    println!(
-        "name {}, table {} numbers, out {} bytes, for fill {}",
-        case.name, case.table_len, case.out_len, case.result_len
-    );
+    case.show();
     exit(1);
 }
 
@@ -107,28 +127,40 @@ impl<T: Copy + PartialEq + Display> Lent<T> {
     }
 
     /// Both hold the same, and nothing is changed but the first so many places that are lent.
-    fn compare(&self, case: &Case, number: u64, call: &str, written: usize) {
-        let free = MARGIN..MARGIN + written;
-        let kept = self.mine[..free.start] == self.before[..free.start]
-            && self.mine[free.end..] == self.before[free.end..];
-        if kept && self.mine == self.other {
-            return;
+    fn compare(&self, case: &impl Inputs, number: u64, call: &str, written: usize) {
+        self.unchanged(case, number, call, written);
+        if self.mine != self.other {
+            let at = (0..self.mine.len()).find(|&at| self.mine[at] != self.other[at]);
+            self.differ_at(case, number, call, at.unwrap_or(0));
         }
-        for at in 0..self.mine.len() {
-            let (mine, other, before) = (self.mine[at], self.other[at], self.before[at]);
-            if mine != other || (mine != before && !free.contains(&at)) {
-                let place = at as isize - MARGIN as isize;
-                let length = self.mine.len() - 2 * MARGIN;
-                let what = format!(
-                    "place {place} of {length} lent: archive {mine}, reference {other}, before {before}"
-                );
-                differs(case, number, call, &what);
+    }
+
+    /// Nothing is changed but the first so many places that are lent.
+    fn unchanged(&self, case: &impl Inputs, number: u64, call: &str, written: usize) {
+        let free = MARGIN..MARGIN + written;
+        for lent in [&self.mine, &self.other] {
+            let kept = lent[..free.start] == self.before[..free.start]
+                && lent[free.end..] == self.before[free.end..];
+            if !kept {
+                let changed = |at: &usize| lent[*at] != self.before[*at] && !free.contains(at);
+                let at = (0..lent.len()).find(changed);
+                self.differ_at(case, number, call, at.unwrap_or(0));
             }
         }
     }
+
+    fn differ_at(&self, case: &impl Inputs, number: u64, call: &str, at: usize) -> ! {
+        let (mine, other, before) = (self.mine[at], self.other[at], self.before[at]);
+        let place = at as isize - MARGIN as isize;
+        let length = self.mine.len() - 2 * MARGIN;
+        let what = format!(
+            "place {place} of {length} lent: archive {mine}, reference {other}, before {before}"
+        );
+        differs(case, number, call, &what);
+    }
 }
 
-fn replies(case: &Case, number: u64, call: &'static str, mine: Reply, other: Reply) {
+fn replies(case: &impl Inputs, number: u64, call: &str, mine: Reply, other: Reply) {
     if mine != other {
         let what = format!("archive {mine:?}, reference {other:?}");
         differs(case, number, call, &what);
@@ -205,6 +237,37 @@ fn filling(case: &Case, number: u64, out: &mut Lent<u8>, seen: &mut Seen) {
     seen.add("fill", outcome(mine, how));
 }
 
+/// The entries of a book may stand in any order: those of both are compared sorted by their bytes.
+fn listing_book(case: &BookCase, number: u64, out: &mut Lent<u8>, seen: &mut Seen) {
+    let (v, b) = (&case.vocabulary, &case.book);
+    let fill = case.out_fill;
+    out.fill(case.out_len, |i| fill.wrapping_add((157 * i >> 3) as u8));
+    let (one, another) = out.slices();
+    let mine = archive::list_book(v, b, one);
+    let other = reference::list_book(v, b, another);
+    replies(case, number, "book", mine, other);
+    let bytes = if mine[0] == 0 { mine[2] as usize } else { 0 };
+    out.unchanged(case, number, "book", bytes);
+    if mine[0] == 0 {
+        let (one, another) = out.slices();
+        let Some(ours) = sorted_entries(&one[..bytes], mine[1]) else {
+            let what = format!("no {} patterns: {}", mine[1], hex(&one[..bytes]));
+            differs(case, number, "book", &what);
+        };
+        let theirs = sorted_entries(&another[..bytes], mine[1]).unwrap_or_default();
+        if let Some((ours, theirs)) = ours.iter().zip(&theirs).find(|(a, b)| a != b) {
+            let what = format!("archive {}, reference {}", hex(ours), hex(theirs));
+            differs(case, number, "book", &what);
+        }
+    }
+    let how = match mine[2] {
+        0 => "0 entries",
+        1..=0x0fff => "entries",
+        _ => "4 KiB or more",
+    };
+    seen.add("book", outcome(mine, how));
+}
+
 fn argument(at: usize, otherwise: u64) -> u64 {
     match std::env::args().nth(at) {
         None => otherwise,
@@ -217,7 +280,8 @@ fn argument(at: usize, otherwise: u64) -> u64 {
 
 fn main() {
     let (cases, seed) = (argument(1, 1_000_000), argument(2, 1));
-    let mut gen = Gen::new(seed);
+    // Books have a source of their own.
+    let (mut gen, mut books) = (Gen::new(seed), Gen::new(!seed));
     let mut seen = Seen::default();
     let mut table = Lent::new();
     let mut out = Lent::new();
@@ -231,8 +295,14 @@ fn main() {
         if case != kept {
             differs(&kept, number, "any call", "an input is changed");
         }
+        let case = books.book_case();
+        let kept = case.clone();
+        listing_book(&case, number, &mut out, &mut seen);
+        if case != kept {
+            differs(&kept, number, "book", "an input is changed");
+        }
     }
-    println!("seed {seed}, {cases} cases");
+    println!("seed {seed}, {cases} cases and as many books");
     seen.print();
     println!("no difference");
 }
