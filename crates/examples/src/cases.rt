@@ -1,5 +1,5 @@
 // A line a case. Its first word says what is asked, a number may follow, then comes the label, and behind a colon
-// the bytes, in which a slash stands between a pattern and what goes with it:
+// the bytes, in which a slash stands between a pattern or a book and what goes with it:
 //
 //   under LABEL: VOCABULARY                       the vocabulary of the lines below it
 //   vocabulary LABEL: VOCABULARY                  check
@@ -9,17 +9,18 @@
 //   list LENGTH LABEL: PATTERN                    list, into so many bytes; tells them
 //   sum LENGTH LABEL: PATTERN                     list; tells a sum of the entries' bytes
 //   find LENGTH LABEL: PATTERN / ENTRY            list; tells as which entry a given one stands there
+//   book LENGTH LABEL: BOOK                       list_book, into so many bytes; tells a sum of the entries' own sums
+//   holds LENGTH LABEL: BOOK / ENTRY              list_book; tells how often a given entry stands there
 //   write LENGTH LABEL: PATTERN / FILLING         fill, into so many bytes; tells them
 //   report LABEL: INPUT                           the text of the program `leftovers`
 //   digest LABEL: INPUT                           the same; tells its length and a sum of its bytes
 //
 // A line is printed up to its colon, and then the reply. Every other line is passed over.
-use crate::fill_line;
-use crate::list_line;
 use crate::match_line;
 use crate::notation;
 use crate::report_line;
 use crate::say;
+use crate::slice_line;
 
 // A line's first byte, and a number sign for an empty line.
 fn key(line: &[u8]) -> u8 {
@@ -41,12 +42,8 @@ fn line_at(text: &[u8], at: usize) -> &[u8] {
     notation::before(notation::between(text, at, text.len()), b'\n')
 }
 
-// Runs the cases of the first n bytes of a text.
-pub(crate) fn all(text: &[u8; 131072], n: usize) {
-    lines(notation::between(text, 0, n));
-}
-
-fn lines(text: &[u8]) {
+// Runs the cases of a text.
+pub(crate) fn lines(text: &[u8]) {
     let mut under = 0;
     let mut at = 0;
     while at < text.len() {
@@ -75,18 +72,14 @@ fn line(line: &[u8], under: &[u8]) {
 }
 
 fn case(line: &[u8], vocabulary: &[u8]) {
-    if of_report(key(line)) {
-        report_line::printed(key(line), notation::onward(line, b':'));
-        return;
-    }
     let mut bytes = [0u8; 4097];
     let n = notation::decode(vocabulary, &mut bytes);
     under(line, notation::between(&bytes, 0, n));
 }
 
-// The case of a line under a vocabulary.
+// The case of a line under a vocabulary. The longest book has a count and 64 patterns of 4,096 bytes.
 fn under(line: &[u8], vocabulary: &[u8]) {
-    let mut bytes = [0u8; 4097];
+    let mut bytes = [0u8; 262400];
     let n = notation::decode(
         notation::before(notation::onward(line, b':'), b'/'),
         &mut bytes,
@@ -128,9 +121,9 @@ fn call(key: u8, number: usize, vocabulary: &[u8], one: &[u8], other: &[u8]) {
         say::bytes(matcher::part(vocabulary, one, other, number));
         return;
     }
-    if key == b'w' {
-        fill_line::filled(vocabulary, one, other, number);
+    if of_report(key) {
+        report_line::printed(key, one);
         return;
     }
-    list_line::listed(key, vocabulary, one, other, number);
+    slice_line::called(key, vocabulary, one, other, number);
 }

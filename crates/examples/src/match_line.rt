@@ -18,15 +18,10 @@ fn asked(vocabulary: &[u8], pattern: &[u8], situation: &[u8], table: &mut [u16])
     lent::contents(table);
 }
 
-// Lends the first so many numbers of a table.
-fn lend(vocabulary: &[u8], pattern: &[u8], situation: &[u8], table: &mut [u16], length: usize) {
-    if length <= table.len() {
-        asked(vocabulary, pattern, situation, &mut table[0..length]);
-    }
-}
-
 // Matches, with a table of so many numbers, at most 130.
 pub(crate) fn matched(vocabulary: &[u8], pattern: &[u8], situation: &[u8], length: usize) {
     let mut table = lent::filled();
-    lend(vocabulary, pattern, situation, &mut table, length);
+    if length <= 130 {
+        asked(vocabulary, pattern, situation, &mut table[0..length]);
+    }
 }

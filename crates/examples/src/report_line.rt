@@ -1,13 +1,13 @@
 // The text of the program `leftovers` for an input, on one case.
-use crate::list_line;
 use crate::notation;
 use crate::say;
+use crate::slice_line;
 
 // Tells the whole text, or its length and a sum of its bytes.
 fn told(key: u8, text: &[u8]) {
     if key == b'd' {
         say::count(text.len(), say::BYTES);
-        say::count(list_line::sum(text), say::END);
+        say::count(slice_line::sum(text), say::END);
         return;
     }
     say::text(text);
@@ -18,15 +18,9 @@ fn told_first(key: u8, text: &[u8; 524288], n: usize) {
     told(key, notation::between(text, 0, n));
 }
 
-fn asked(key: u8, input: &[u8]) {
+// Asks for the text for an input. It has at most 524,288 bytes.
+pub(crate) fn printed(key: u8, input: &[u8]) {
     let mut text = [0u8; 524288];
     let n = report::print(input, &mut text);
     told_first(key, &text, n);
-}
-
-// Asks for the text for the input that a line writes, of at most 70,000 bytes.
-pub(crate) fn printed(key: u8, line: &[u8]) {
-    let mut input = [0u8; 70000];
-    let n = notation::decode(line, &mut input);
-    asked(key, notation::between(&input, 0, n));
 }

@@ -42,10 +42,12 @@ pub(crate) const ENTRY: usize = 17;
 
 pub(crate) const BYTES: usize = 18;
 
+pub(crate) const STANDS: usize = 19;
+
 // Prints a fixed text. They stand in a row, as each literal in a function costs as much to prove as a call or two.
 pub(crate) fn fixed(number: usize) {
     text(notation::field(
-        b"|\n|: |, | |=|empty|accepted|refused|yes|no| as lent, | zero|, sum | of | behind as lent\n|, it is no entry\n|, it is entry | bytes, sum |",
+        b"|\n|: |, | |=|empty|accepted|refused|yes|no| as lent, | zero|, sum | of | behind as lent\n|, it is no entry\n|, it is entry | bytes, sum |, stands |",
         number,
     ));
 }

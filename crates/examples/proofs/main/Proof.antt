@@ -1,6 +1,6 @@
 -- `main` is safe. The array's length comes by a lemma, as computing it costs by its size.
 use borrow.Author.Needs.{needs}
-use mathlib.Core.Path.{sym}
+use mathlib.Core.Path.{sym, _∙_}
 use Prim.Native.Nat.{ℕ}
 use lib.ListN.{length-replicate}
 use Rattle.examples.proofs.main.Statement.{statement}
@@ -12,8 +12,14 @@ slice-aggregate-read-full c = sym (length-replicate {A = ℕ} 131072 0)
 read-full-requires : tie.Need-read-full-requires
 read-full-requires c κs = search needs
 
-all-requires : tie.Need-all-requires
-all-requires c κs = search needs
+slice-aggregate-between : tie.Need-slice-aggregate-between
+slice-aggregate-between c = sym (c .before .before .read-full .kept .1 .0 ∙ length-replicate {A = ℕ} 131072 0)
+
+between-requires : tie.Need-between-requires
+between-requires c κs = search needs
+
+lines-requires : tie.Need-lines-requires
+lines-requires c κs = search needs
 
 returns : tie.Need-returns
 returns c = search needs
@@ -24,5 +30,7 @@ main-spec =
     (tie.spec
     slice-aggregate-read-full
     read-full-requires
-    all-requires
+    slice-aggregate-between
+    between-requires
+    lines-requires
     returns)

@@ -1,9 +1,9 @@
--- `list_line::sum` is safe and ends. The sum stays below its modulus. The measure is what is left of the bytes.
+-- `slice_line::sum` meets its contract. The sum stays below its modulus. The measure is what is left of the bytes.
 use borrow.Author.Needs.{needs}
 use Prim.Native.Nat.{_<_, _-_}
 use lib.ListN.{length}
-use Rattle.examples.proofs.list_line.sum.Statement.{statement}
-use Rattle.examples.proofs.list_line.sum.Tie as tie
+use Rattle.examples.proofs.slice_line.sum.Statement.{statement}
+use Rattle.examples.proofs.slice_line.sum.Tie as tie
 
 abbrev Inv-loop : tie.InvT-loop
 Inv-loop bytes total₀ i₀ total i = total < 65521

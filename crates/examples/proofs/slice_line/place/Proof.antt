@@ -1,9 +1,9 @@
--- `list_line::place` is safe and ends. The number is at most the offset. The measure is what is left of the entries.
+-- `slice_line::place` is safe and ends. The number is at most the offset. The measure is what is left of the entries.
 use borrow.Author.Needs.{needs}
 use Prim.Native.Nat.{_-_, _≤_}
 use lib.ListN.{length}
-use Rattle.examples.proofs.list_line.place.Statement.{statement}
-use Rattle.examples.proofs.list_line.place.Tie as tie
+use Rattle.examples.proofs.slice_line.place.Statement.{statement}
+use Rattle.examples.proofs.slice_line.place.Tie as tie
 
 abbrev Inv-loop : tie.InvT-loop
 Inv-loop vocabulary sought entries number₀ at₀ number at = number ≤ at

@@ -1,9 +1,9 @@
--- `list_line::as_lent` is safe and ends. The count is at most the offset. The measure is what is left of the bytes.
+-- `slice_line::as_lent` is safe and ends. The count is at most the offset. The measure is what is left of the bytes.
 use borrow.Author.Needs.{needs}
 use Prim.Native.Nat.{_≤_, _-_}
 use lib.ListN.{length}
-use Rattle.examples.proofs.list_line.as_lent.Statement.{statement}
-use Rattle.examples.proofs.list_line.as_lent.Tie as tie
+use Rattle.examples.proofs.slice_line.as_lent.Statement.{statement}
+use Rattle.examples.proofs.slice_line.as_lent.Tie as tie
 
 abbrev Inv-loop : tie.InvT-loop
 Inv-loop bytes n₀ i₀ n i = n ≤ i
