@@ -20,7 +20,7 @@ use Rattle.slices.proofs.Writing.{part, part-length}
 use Rattle.others.specs.declared.Others.{Others}
 use Rattle.others.specs.declared.Others.the-variants.{Bytes, Full}
 use Rattle.others.specs.Listed.{Listed}
-use Rattle.others.specs.Others.{entryOf, othersOf, InReach, SiblingsAt, OthersCut, BytesInside}
+use Rattle.others.specs.Others.{entryOf, othersOf, LengthsAgree, SiblingsAt, OthersCut, BytesInside}
 use Rattle.others.proofs.Entries.{listed-none}
 use Rattle.cuts.specs.declared.own.Walk.{Walk}
 use Rattle.cuts.specs.declared.own.Step.{Step}
@@ -28,7 +28,7 @@ use Rattle.cuts.specs.Walking.{passed, Moves}
 use Rattle.cuts.specs.Own.{own, behindOf, OpenAt, OwnEnds}
 
 pub own-reach : (i : ℕ) (entry : List ℕ) {top copied n out : ℕ} → top ≤ copied → copied ≤ mostExtent → length entry ≤ mostExtent → n ≤ out →
-    InReach top copied (length (part i entry)) n out
+    LengthsAgree top copied (length (part i entry)) n out
 own-reach i entry h k l w = record { inside = h; copySmall = k; tailSmall = omega (arith, l, part-length i entry); written = w }
 
 module _ {copy : List ℕ} {top : ℕ} {blank : Bool} {tail : List ℕ} {f : ℕ} {siblings : List ℕ} {w : Walk} (o : OpenAt copy top blank tail f siblings w) where

@@ -1,6 +1,5 @@
 -- Walking: where a walk over an entry and a pattern stands, whatever their bytes are; no public contract cites it.
 --
---   Byte b n                n is the byte b
 --   Inside copied entry pattern out w   the walk is inside the copy, the entry, the pattern and the lent slice, which have so many
 --                           bytes
 --   StaysInside             so is the walk that a step ends at
@@ -20,10 +19,6 @@ use Rattle.extents.specs.Extents.{mostExtent}
 use Rattle.cuts.specs.declared.own.Walk.{Walk}
 use Rattle.cuts.specs.declared.own.Step.{Step}
 use Rattle.cuts.specs.declared.own.Step.the-variants.{Went, Full}
-
-pub record Byte (b n : ℕ) : Type 0 where
-  pub same : n ≡ b
-  pub small : n < 256
 
 pub record Inside (copied entry pattern out : ℕ) (w : Walk) : Type 0 where
   pub at : w .at ≤ copied

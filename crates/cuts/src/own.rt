@@ -3,7 +3,8 @@ ghost use mathlib.Core.Path.{_≡_};
 ghost use Prim.Native.Nat.{_+_, _≤_};
 ghost use lib.ListN.{length, drop};
 ghost use Rattle.extents.specs.Extents.{mostExtent};
-ghost use Rattle.cuts.specs.Walking.{Byte, passed, Moves};
+ghost use Rattle.extents.specs.Bytes.{Small};
+ghost use Rattle.cuts.specs.Walking.{passed, Moves};
 ghost use Rattle.cuts.specs.Own.{behindOf, ListsOwn};
 use others::Others;
 
@@ -24,7 +25,7 @@ pub(crate) enum Step {
 }
 
 pub(crate) fn wide(b: u8) -> usize
-    ensures { λ r. ⌜ Byte b r ⌝ }
+    ensures { λ r. ⌜ Small r b ⌝ }
 {
     b as usize
 }

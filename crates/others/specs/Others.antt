@@ -5,7 +5,7 @@
 --   NextWord table g r      r is the next word of g's kind by the table, and is higher whatever the table has
 --   Due todo size room, Exceeds   an entry is due, is not too long and has room, and the test of that
 --   mostLength              so many bytes at most have the copy and the tail
---   InReach, OutOfReach     the offsets and lengths that write_others begins with, and the test of them
+--   LengthsAgree, LengthsFail     the offsets and lengths that write_others begins with, and the test of them
 --   SiblingsAt              f is a word, the table has its siblings, and the entries of its others are due
 --   OthersListed, OthersCut, WritesSiblings   what it does: their entries are written, or do not fit
 --   BytesInside             the bytes written are in the slice
@@ -45,15 +45,15 @@ pub record Exceeds (todo size room : ℕ) (r : Bool) : Type 0 where
 abbrev pub mostLength : ℕ
 mostLength = 65536
 
-pub record InReach (at copy tail n room : ℕ) : Type 0 where
+pub record LengthsAgree (at copy tail n room : ℕ) : Type 0 where
   pub inside : at ≤ copy
   pub copySmall : copy ≤ mostLength
   pub tailSmall : tail ≤ mostLength
   pub written : n ≤ room
 
-pub record OutOfReach (at copy tail n room : ℕ) (r : Bool) : Type 0 where
-  pub yes : r ≡ true → InReach at copy tail n room → ⊥
-  pub no : r ≡ false → InReach at copy tail n room
+pub record LengthsFail (at copy tail n room : ℕ) (r : Bool) : Type 0 where
+  pub yes : r ≡ true → LengthsAgree at copy tail n room → ⊥
+  pub no : r ≡ false → LengthsAgree at copy tail n room
 
 pub record SiblingsAt (f : ℕ) (siblings : List ℕ) (todo : ℕ) : Type 0 where
   pub words : ℕ
@@ -74,7 +74,7 @@ OthersCut ls later n before after Full = FitBehind ls n (length before) → ⊥
 
 abbrev pub WritesSiblings : List ℕ → ℕ → ℕ → List ℕ → List ℕ → ℕ → ℕ → List ℕ → List ℕ → Others → Type 0
 WritesSiblings copy at f siblings tail n todo before after r =
-    InReach at (length copy) (length tail) n (length before) → (o : SiblingsAt f siblings todo) →
+    LengthsAgree at (length copy) (length tail) n (length before) → (o : SiblingsAt f siblings todo) →
     OthersCut (othersOf (take at copy) tail (othersIn (o .words) (o .results) f)) (o .later) n before after r
 
 abbrev pub BytesInside : ℕ → Others → Type 0

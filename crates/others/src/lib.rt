@@ -4,7 +4,7 @@ ghost use Prim.Native.Nat.{_+_, _%_, _≤_, _<_};
 ghost use lib.ListN.{length, getD, take};
 ghost use Rattle.wire.specs.Map.{mapBytes};
 ghost use Rattle.slices.specs.Written.{Written};
-ghost use Rattle.others.specs.Others.{entryOf, NextWord, Exceeds, OutOfReach, WritesSiblings, BytesInside};
+ghost use Rattle.others.specs.Others.{entryOf, NextWord, Exceeds, LengthsFail, WritesSiblings, BytesInside};
 
 // So many bytes are there now and so many entries are still due, or an entry is too long or has no room.
 pub enum Others {
@@ -65,7 +65,7 @@ fn exceeds(todo: usize, size: usize, room: usize) -> bool
 
 // Whether the copy is too short or too long, the tail too long, or the bytes written are not all in the slice.
 fn out_of_reach(at: usize, copy: usize, tail: usize, n: usize, room: usize) -> bool
-    ensures { λ r. ⌜ OutOfReach at copy tail n room r ⌝ }
+    ensures { λ r. ⌜ LengthsFail at copy tail n room r ⌝ }
 {
     if copy < at {
         return true;

@@ -28,9 +28,9 @@ returns c =
       opened = λ e. (refl, refl);
       closed = λ e. absurd (true≢false (sym (c .if1 .taken) ∙ e));
       other = c .before .wide2 .ensures .same ∙ c .before .before .read .ensures;
-      byte = c .before .before .before .wide .ensures .small;
+      byte = c .before .before .before .wide .ensures .low;
       mine = omega arith;
-      small = c .before .wide2 .ensures .small;
+      small = c .before .wide2 .ensures .low;
     }
 
 add-read-2 : tie.Need-add-read-2
@@ -49,9 +49,9 @@ returns-2 c =
       opened = λ e. absurd (true≢false (sym e ∙ c .before .before .if1 .left));
       closed = λ e. (refl, c .wide3 .ensures .same ∙ c .before .read2 .ensures);
       other = c .before .before .before .wide2 .ensures .same ∙ c .before .before .before .before .read .ensures;
-      byte = c .before .before .before .before .before .wide .ensures .small;
-      mine = c .wide3 .ensures .small;
-      small = c .before .before .before .wide2 .ensures .small;
+      byte = c .before .before .before .before .before .wide .ensures .low;
+      mine = c .wide3 .ensures .low;
+      small = c .before .before .before .wide2 .ensures .low;
     }
 
 pub read-maps-spec : {M : Type 1} → statement M
