@@ -14,11 +14,12 @@
  *   else.
  *
  * Reply
- *   Every function answers in the numbers of `reply`. All of them are written in either case.
- *   Accepted: reply[0] is 0, and reply[1] and reply[2] are the values that the function names, 0
- *   where there is none.
+ *   Every function answers in the five numbers of `reply`. All of them are written in either case.
+ *   Accepted: reply[0] is 0, and behind it stand the values that the function names, from reply[1]
+ *   on, and 0 where there is none.
  *   Refused: reply[0] is a number of enum pheasantry_refusal, reply[1] the input, a number of enum
- *   pheasantry_input, and reply[2] the place. A refusal leaves every lent output as it was.
+ *   pheasantry_input, reply[2] the place, and reply[3] and reply[4] are 0. A refusal leaves every lent
+ *   output as it was.
  *   The vocabulary is checked first, then the pattern or the book, then the situation or the filling
  *   file, then the lent output.
  *
@@ -48,13 +49,13 @@
 #include <stdint.h>
 
 /* The version of this header and of the archive that it is installed with. */
-#define PHEASANTRY_VERSION "0.3.0"
+#define PHEASANTRY_VERSION "0.4.0"
 #define PHEASANTRY_VERSION_MAJOR 0
-#define PHEASANTRY_VERSION_MINOR 3
+#define PHEASANTRY_VERSION_MINOR 4
 #define PHEASANTRY_VERSION_PATCH 0
 
 /* The length that `reply` must have. A later version may have more numbers. */
-#define PHEASANTRY_REPLY_LENGTH 3
+#define PHEASANTRY_REPLY_LENGTH 5
 
 /* The length that the table of pheasantry_match must have, in uint16_t: two for each of 64 names. */
 #define PHEASANTRY_TABLE_LENGTH 128
@@ -153,7 +154,7 @@ extern "C" {
 /*
  * Checks a vocabulary.
  *
- * Accepted: 0, 0, 0.
+ * Accepted: 0.
  * Refused: 1 to 6.
  */
 void pheasantry_check_vocabulary(const uint8_t *vocabulary, size_t vocabulary_length,
@@ -162,7 +163,11 @@ void pheasantry_check_vocabulary(const uint8_t *vocabulary, size_t vocabulary_le
 /*
  * Checks a term, a pattern or a situation, under a vocabulary.
  *
- * Accepted: 0, the number of words (names are not counted), the deepest level.
+ * Accepted: 0, the number of words (names are not counted), the deepest level, 1 if the term is
+ *   complete or 0 if not, the gap.
+ *   A term is complete if it has no name, no 255, and no short map: one that lacks a bit of its word's
+ *   place map. The gap is the offset of the first of these, and of a complete term its length; both count
+ *   the kind byte. As a situation, a term that is accepted but not complete is refused with 16 at its gap.
  * Refused: 1 to 15. The term is input 1.
  */
 void pheasantry_check_term(const uint8_t *vocabulary, size_t vocabulary_length,
@@ -172,7 +177,7 @@ void pheasantry_check_term(const uint8_t *vocabulary, size_t vocabulary_length,
 /*
  * Matches a pattern with a complete situation.
  *
- * Accepted: 0, 1 for yes or 0 for no, 0.
+ * Accepted: 0, 1 for yes or 0 for no.
  *   Yes fills the table: table[2 * n] is the offset in the situation of the part that name n
  *   covers, and table[2 * n + 1] its length in bytes; 0 and 0 for a name that is not in the
  *   pattern. Offsets count the situation's kind byte.
@@ -221,7 +226,7 @@ void pheasantry_list(const uint8_t *vocabulary, size_t vocabulary_length,
  * A filling file is eight bytes of bit map, of which byte 0 holds names 0 to 7, the lowest bit first, and
  * then, for each standing bit in ascending order, one complete term without kind byte.
  *
- * Accepted: 0, the number of bytes written, 0. The result has its kind byte, and bytes of out behind it
+ * Accepted: 0, the number of bytes written. The result has its kind byte, and bytes of out behind it
  *   stay as they were. If it is complete, pheasantry_match of the pattern with it says yes, and the table
  *   has the parts that were filled in.
  * Refused: 1 to 15 and 20 to 23, of which 20 is the last to be checked. A call with an out_length of 0

@@ -206,9 +206,6 @@ def deepest_level(tree):
     return 1
 
 
-# ---------------------------------------------------------------- fillings
-
-
 def first_gap(vocabulary, tree):
     """The offset of a term's first name, 255 or short map; None if the term is complete."""
     if not isinstance(tree, Node):
@@ -217,6 +214,9 @@ def first_gap(vocabulary, tree):
         return tree.start + 1
     gaps = (first_gap(vocabulary, below) for below in tree.written.values())
     return next((gap for gap in gaps if gap is not None), None)
+
+
+# ---------------------------------------------------------------- fillings
 
 
 class NoFilling(Exception):
@@ -483,8 +483,12 @@ def check_vocabulary(vocabulary):
 
 
 def check_term(vocabulary, term):
-    _, tree = read_term(read_vocabulary(vocabulary), term)
-    return word_count(tree), deepest_level(tree)
+    """The number of words, the deepest level, 1 if the term is complete and 0 if not, and where its first gap is, which is
+    its length if it is complete."""
+    vocabulary = read_vocabulary(vocabulary)
+    _, tree = read_term(vocabulary, term)
+    gap = first_gap(vocabulary, tree)
+    return word_count(tree), deepest_level(tree), *((1, len(term)) if gap is None else (0, gap))
 
 
 def covered(vocabulary, pattern, situation):
@@ -996,28 +1000,56 @@ def by_hand():
     assert reply(check_vocabulary, words_96(95)) == "accepted"
     assert reply(check_vocabulary, words_96(96)) == "refused 6 0 0"
     # wait, up and free are 3 words; up and free stand at level 2.
-    assert reply(check_term, A, h("00 00 03 01 00 03 00")) == "accepted 3 2"
+    assert reply(check_term, A, h("00 00 03 01 00 03 00")) == "accepted 3 2 1 7"
     # more, more and none, each below the one before.
-    assert reply(check_term, B, h("00 01 01 01 01 00 00")) == "accepted 3 3"
+    assert reply(check_term, B, h("00 01 01 01 01 00 00")) == "accepted 3 3 1 7"
     # "A name or 255 counts as a level", and names are not counted as words.
-    assert reply(check_term, C, h("00 ff")) == "accepted 0 1"
-    assert reply(check_term, C, h("00 02 03 80 80")) == "accepted 1 2"
+    assert reply(check_term, C, h("00 ff")) == "accepted 0 1 0 1"
+    assert reply(check_term, C, h("00 02 03 80 80")) == "accepted 1 2 0 3"
     # "The term `00` gets 7."
     assert reply(check_term, B, h("00")) == "refused 7 1 0"
     # "Level 32 in B is accepted, level 33 gets 10": level n begins at offset 1 + 2 (n - 1), so 33 at 65.
-    assert reply(check_term, B, more(31, "00 00")) == "accepted 32 32"
+    assert reply(check_term, B, more(31, "00 00")) == "accepted 32 32 1 65"
     assert reply(check_term, B, more(32, "00 00")) == "refused 10 1 65"
-    # "open places do not" count as a level.
-    assert reply(check_term, B, more(31, "01 00")) == "accepted 32 32"
-    # The full tree has 2^11 - 1 words; pair(n0, .) for a leaf keeps their number, and n0 is at level 12.
-    assert reply(check_term, C, PAIRS_4096) == "accepted 2047 12"
+    # "open places do not" count as a level. The map at level 32 is byte 64.
+    assert reply(check_term, B, more(31, "01 00")) == "accepted 32 32 0 64"
+    # The full tree has 2^11 - 1 words; pair(n0, .) for a leaf keeps their number, and n0 is at level 12. Its pair's map is
+    # the last byte but one, 4,094.
+    assert reply(check_term, C, PAIRS_4095) == "accepted 2047 11 1 4095"
+    assert reply(check_term, C, PAIRS_4096) == "accepted 2047 12 0 4094"
     # Bits 0 and 7 are places 0 and 7; bit 1 is a gap.
     assert reply(check_term, GAPS, h("00 02 02 00 00")) == "refused 14 1 2"
-    assert reply(check_term, GAPS, h("00 02 81 00 00 01 00")) == "accepted 3 2"
+    assert reply(check_term, GAPS, h("00 02 81 00 00 01 00")) == "accepted 3 2 1 7"
     # n0 stood at a button's place and stands again at a queue's.
     assert reply(check_term, A, h("00 00 03 80 80")) == "refused 13 1 4"
     # 255 stands at the root only.
     assert reply(check_term, C, h("00 02 03 ff")) == "refused 11 1 3"
+
+
+def gaps_by_hand():
+    """The first name, 255 or short map of a term, and the length of one that has none, counted on paper."""
+
+    def gap(vocabulary, term):
+        """Whether a term is complete, and its gap."""
+        accepted, _, _, complete, place = reply(check_term, vocabulary, h(term)).split()
+        assert accepted == "accepted"
+        return complete == "1", int(place)
+
+    # "`00 00 00` shows 3; `00 ff` shows 1."
+    assert gap(C, "00 00 00") == (True, 3)
+    assert gap(C, "00 ff") == gap(C, "00 80") == (False, 1)
+    # The map of the root's word is byte 2.
+    assert gap(C, "00 02 00") == gap(C, "00 02 01 00 00") == gap(C, "00 02 02 01 00") == (False, 2)
+    # The first of two names. A map stands before the terms of its places, so a short one comes before a name in them,
+    # and behind a name in a lower place of the word above.
+    assert gap(C, "00 02 03 00 00 80") == (False, 5)
+    assert gap(C, "00 02 03 81 80") == (False, 3)
+    assert gap(C, "00 02 03 02 01 80 81") == (False, 4)
+    assert gap(C, "00 02 03 80 02 01 81") == (False, 3)
+    assert gap(C, "00 02 03 00 00 02 02 80") == (False, 6)
+    # Maps 81 and 12 have all places of left and right; the map of right is byte 6.
+    assert gap(GAPS, "00 02 81 00 00 03 12 01 00 00 00") == (True, 11)
+    assert gap(GAPS, "00 02 81 00 00 03 02 01 00") == (False, 6)
 
 
 def matched_by_hand():
@@ -1307,6 +1339,7 @@ def main():
         print("usage: python3 tools/expected.py examples | families | long-input | leftovers", file=sys.stderr)
         sys.exit(2)
     by_hand()
+    gaps_by_hand()
     matched_by_hand()
     listed_by_hand()
     filled_by_hand()

@@ -14,7 +14,8 @@
  * prints
  *
  *   vocabulary: accepted
- *   wait(up, free): 3 words, deepest level 2
+ *   wait(up, free): 3 words, deepest level 2, complete
+ *   wait(n0, full): 2 words, deepest level 2, its first gap at 3
  *   no room in 14 bytes: refused 20 3 15
  *   leftovers 3
  *   1 000500
@@ -70,6 +71,19 @@ static size_t entry_length(const uint8_t *bytes)
         at++;
     }
     return at;
+}
+
+static void check(const char *name, const uint8_t *term, size_t length)
+{
+    uint64_t reply[PHEASANTRY_REPLY_LENGTH];
+    pheasantry_check_term(vocabulary, sizeof vocabulary, term, length, reply);
+    if (reply[0] != PHEASANTRY_ACCEPTED)
+        exit(1);
+    printf("%s: %" PRIu64 " words, deepest level %" PRIu64, name, reply[1], reply[2]);
+    if (reply[3] == 1)
+        printf(", complete\n");
+    else
+        printf(", its first gap at %" PRIu64 "\n", reply[4]);
 }
 
 static void list(void)
@@ -184,9 +198,8 @@ int main(void)
     pheasantry_check_vocabulary(vocabulary, sizeof vocabulary, reply);
     if (reply[0] == PHEASANTRY_ACCEPTED)
         printf("vocabulary: accepted\n");
-    pheasantry_check_term(vocabulary, sizeof vocabulary, wait_up_free, sizeof wait_up_free, reply);
-    if (reply[0] == PHEASANTRY_ACCEPTED)
-        printf("wait(up, free): %" PRIu64 " words, deepest level %" PRIu64 "\n", reply[1], reply[2]);
+    check("wait(up, free)", wait_up_free, sizeof wait_up_free);
+    check("wait(n0, full)", wait_name_full, sizeof wait_name_full);
     list();
     match();
     fill();

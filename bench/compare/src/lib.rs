@@ -1,4 +1,4 @@
-//! The archive's calls in the form of the reference's: slices in, three numbers out.
+//! The archive's calls in the form of the reference's: slices in, five numbers out.
 //!
 //! The functions of the archive are called as they are, with nothing of the Rust binding between.
 
@@ -9,7 +9,7 @@ pub mod timing;
 pub use reference::Reply;
 
 /// What stands in a reply before the archive writes it.
-const UNWRITTEN: Reply = [u64::MAX; 3];
+const UNWRITTEN: Reply = [u64::MAX; 5];
 
 pub mod archive {
     use super::{Reply, UNWRITTEN};

@@ -117,7 +117,7 @@ fn main() {
         ("E, 96 words", &e),
         ("F, chain", &f),
     ] {
-        assert_eq!(check_vocabulary(v), [0, 0, 0]);
+        assert_eq!(check_vocabulary(v)[0], 0);
         time(&format!("check {what} ({} bytes)", v.len()), || {
             check_vocabulary(black_box(v))[0]
         });
@@ -237,11 +237,11 @@ fn main() {
         time(&format!("check term, {what} ({n})"), || {
             check_term(black_box(v), black_box(t))[1]
         });
-        assert_eq!(match_pattern(v, t, t, &mut table), [0, 1, 0]);
+        assert_eq!(match_pattern(v, t, t, &mut table)[..2], [0, 1]);
         time(&format!("match, {what} with itself ({n})"), || {
             match_pattern(black_box(v), black_box(t), black_box(t), &mut table)[1]
         });
-        assert_eq!(match_pattern(v, &[0, 128], t, &mut table), [0, 1, 0]);
+        assert_eq!(match_pattern(v, &[0, 128], t, &mut table)[..2], [0, 1]);
         time(&format!("match, {what} with a name ({n})"), || {
             match_pattern(black_box(v), black_box(&[0, 128]), black_box(t), &mut table)[1]
         });
@@ -259,7 +259,7 @@ fn main() {
             at += 2;
         }
         opened.extend([t[1], 0]);
-        assert_eq!(match_pattern(v, &named, t, &mut table), [0, 1, 0]);
+        assert_eq!(match_pattern(v, &named, t, &mut table)[..2], [0, 1]);
         time(
             &format!("match, {what} with named leaves ({})", named.len()),
             || match_pattern(black_box(v), black_box(&named), black_box(t), &mut table)[1],
@@ -268,7 +268,7 @@ fn main() {
             &format!("part, {what} with named leaves ({})", named.len()),
             || part(black_box(v), black_box(&named), black_box(t), black_box(0))[1],
         );
-        assert_eq!(match_pattern(v, &opened, t, &mut table), [0, 1, 0]);
+        assert_eq!(match_pattern(v, &opened, t, &mut table)[..2], [0, 1]);
         time(&format!("match, {what} with open places"), || {
             match_pattern(black_box(v), black_box(&opened), black_box(t), &mut table)[1]
         });
@@ -290,7 +290,7 @@ fn main() {
     let mut twice = vec![0, 2, 3];
     twice.extend(&half);
     twice.extend(&half);
-    assert_eq!(match_pattern(&c, &pair, &twice, &mut table), [0, 1, 0]);
+    assert_eq!(match_pattern(&c, &pair, &twice, &mut table)[..2], [0, 1]);
     time(&format!("match, C pair(n0, n0) ({})", twice.len()), || {
         match_pattern(
             black_box(&c),
@@ -331,7 +331,7 @@ fn main() {
             vec![255; 8]
         };
         file.resize(8 + 2 * names as usize, 0);
-        assert_eq!(fill(&c, &pattern, &file, &mut out), [0, 4095, 0]);
+        assert_eq!(fill(&c, &pattern, &file, &mut out)[..2], [0, 4095]);
         let n = pattern.len();
         time(&format!("fill, C {names} names ({n} to 4095)"), || {
             fill(
@@ -411,7 +411,7 @@ fn books(a: &[u8], c: &[u8], e: &[u8], out: &mut [u8]) {
     // A pattern and all that it leaves.
     let mut short = vec![0];
     tree(&mut short, 1, &mut 60, 2, 0);
-    let [_, entries, bytes] = list(c, &short, out);
+    let [_, entries, bytes, ..] = list(c, &short, out);
     let mut all = vec![entries as u8 + 1];
     all.extend(&short);
     all.extend(&out[..bytes as usize]);

@@ -8,7 +8,7 @@ mod places;
 
 use crate::term::{go_on, Names, Stack, BOOK};
 use crate::vocabulary::Words;
-use crate::Reply;
+use crate::{accepted, Refusal, Reply};
 use leftovers::Leftovers;
 use pattern::{Kinds, Pattern};
 
@@ -27,7 +27,7 @@ pub(crate) fn list<const W: usize, const S: usize>(
     words: &Words<W>,
     book: &[u8],
     out: &mut [u8],
-) -> Result<Reply, Reply> {
+) -> Result<Reply, Refusal> {
     read::<W, S>(words, book)?;
     list_read(&Kinds::new(words), book, out)
 }
@@ -38,14 +38,14 @@ pub(crate) fn list_entrywise<const W: usize, const S: usize>(
     words: &Words<W>,
     book: &[u8],
     out: &mut [u8],
-) -> Result<Reply, Reply> {
+) -> Result<Reply, Refusal> {
     read::<W, S>(words, book)?;
     entrywise::list_read(&Kinds::new(words), book, out)
 }
 
 /// Reads a whole book up to refusal 15.
 #[inline(always)]
-fn read<const W: usize, const S: usize>(words: &Words<W>, book: &[u8]) -> Result<(), Reply> {
+fn read<const W: usize, const S: usize>(words: &Words<W>, book: &[u8]) -> Result<(), Refusal> {
     let [count @ 1..=64, ..] = book else {
         return Err([24, 5, 0]);
     };
@@ -72,7 +72,7 @@ fn read_pattern<const W: usize, const S: usize>(
     book: &[u8],
     start: usize,
     stack: &mut Stack<S>,
-) -> Result<usize, Reply> {
+) -> Result<usize, Refusal> {
     // What a pattern may reach of the book. All places are counted in it.
     let reach = &book[..book.len().min(start + PATTERN)];
     let [kind, rest @ ..] = &reach[start..] else {
@@ -97,7 +97,7 @@ fn read_pattern<const W: usize, const S: usize>(
 }
 
 /// Lists the leftovers of a book that is in order.
-fn list_read(kinds: &Kinds, book: &[u8], out: &mut [u8]) -> Result<Reply, Reply> {
+fn list_read(kinds: &Kinds, book: &[u8], out: &mut [u8]) -> Result<Reply, Refusal> {
     let mut left = Leftovers::new(book[1]);
     let mut pattern = Pattern::new();
     let mut rest = &book[1..];
@@ -114,5 +114,5 @@ fn list_read(kinds: &Kinds, book: &[u8], out: &mut [u8]) -> Result<Reply, Reply>
         return Err([20, 3, left.bytes]);
     };
     left.write(out);
-    Ok([0, left.entries, left.bytes])
+    Ok(accepted(left.entries, left.bytes))
 }

@@ -2,7 +2,7 @@
 
 use crate::term::{begin, below, go_on, Names, Stack, FILL};
 use crate::vocabulary::Words;
-use crate::Reply;
+use crate::{accepted, Refusal, Reply};
 
 /// The most bytes and levels of a result.
 const BYTES: usize = 4096;
@@ -19,7 +19,7 @@ pub(crate) fn fill<const W: usize, const S: usize>(
     pattern: &[u8],
     filling: &[u8],
     out: &mut [u8],
-) -> Result<Reply, Reply> {
+) -> Result<Reply, Refusal> {
     let mut stack = Stack::<S>::new();
     let mut names = Names::<64>::new();
     let (kind, rest) = begin(words.kinds, pattern, 1)?;
@@ -64,7 +64,7 @@ pub(crate) fn fill<const W: usize, const S: usize>(
     } else {
         write(pattern, filling, &spans, out);
     }
-    Ok([0, length as u64, 0])
+    Ok(accepted(length as u64, 0))
 }
 
 /// Passes over a complete term of a kind, and gives its number of levels and

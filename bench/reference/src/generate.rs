@@ -1081,9 +1081,9 @@ impl Gen {
     /// The filling file with the parts of a situation, if it fits.
     fn parts(&mut self, vocabulary: &[u8], pattern: &[u8], situation: &[u8]) -> Option<Vec<u8>> {
         let mut table = [0; 128];
-        if crate::match_pattern(vocabulary, pattern, situation, &mut table) != [0, 1, 0] {
+        let [0, 1, ..] = crate::match_pattern(vocabulary, pattern, situation, &mut table) else {
             return None;
-        }
+        };
         let mut file = vec![0; 8];
         for (name, span) in table.as_chunks::<2>().0.iter().enumerate() {
             let [offset, length] = span.map(|number| number as usize);
@@ -1266,7 +1266,7 @@ impl Gen {
         let listing = if v.sound() {
             crate::list(&vocabulary, &pattern, &mut [])
         } else {
-            [0, 0, 0]
+            crate::accepted(0, 0)
         };
         let exact = if listing[0] == 20 {
             listing[2] as usize

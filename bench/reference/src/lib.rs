@@ -15,8 +15,22 @@ use matching::Pass;
 use term::{Stack, CHECK, SHORT};
 use vocabulary::Words;
 
-/// Accepted: `[0, a, b]`. Refused: `[number, input, place]`.
-pub type Reply = [u64; 3];
+/// Accepted: 0, then the values, and 0 where there is none. Refused:
+/// `[number, input, place, 0, 0]`.
+pub type Reply = [u64; 5];
+
+/// Number, input and place.
+type Refusal = [u64; 3];
+
+#[inline(always)]
+fn accepted(one: u64, other: u64) -> Reply {
+    [0, one, other, 0, 0]
+}
+
+#[inline(always)]
+fn refused([number, input, place]: Refusal) -> Reply {
+    [number, input, place, 0, 0]
+}
 
 /// Calls the function with tables sized for the vocabulary's number of words
 /// and for the longest term.
@@ -32,32 +46,42 @@ macro_rules! sized {
     };
 }
 
-/// Checks a vocabulary; accepted is `[0, 0, 0]`.
+/// Checks a vocabulary; accepted has no values.
 pub fn check_vocabulary(vocabulary: &[u8]) -> Reply {
     match vocabulary::scan(vocabulary, |_, _| ()) {
-        Ok(_) => [0, 0, 0],
-        Err(refusal) => refusal,
+        Ok(_) => accepted(0, 0),
+        Err(refusal) => refused(refusal),
     }
 }
 
-/// Checks a term under a vocabulary; accepted is `[0, words, deepest level]`.
+/// Checks a term under a vocabulary; accepted has the number of words, the
+/// deepest level, 1 if the term is complete and 0 if not, and the gap: where
+/// completeness is first broken, or the length of a complete term.
 pub fn check_term(vocabulary: &[u8], term: &[u8]) -> Reply {
-    sized!(vocabulary, term.len(), check_term_sized(term)).unwrap_or_else(|refusal| refusal)
+    sized!(vocabulary, term.len(), check_term_sized(term)).unwrap_or_else(refused)
 }
 
 fn check_term_sized<const W: usize, const S: usize>(
     vocabulary: &[u8],
     term: &[u8],
-) -> Result<Reply, Reply> {
+) -> Result<Reply, Refusal> {
     let mut words = Words::<W>::new();
     words.fill(vocabulary)?;
     let mut stack = Stack::<S>::new();
     let reading = term::read::<W, S, CHECK>(&words, term, 1, &mut stack, &[0; 16])?;
-    Ok([0, reading.words as u64, reading.deepest as u64])
+    let complete = reading.gap == 0;
+    let gap = if complete { term.len() } else { reading.gap };
+    Ok([
+        0,
+        reading.words as u64,
+        reading.deepest as u64,
+        complete as u64,
+        gap as u64,
+    ])
 }
 
-/// Matches a pattern with a complete situation; accepted is `[0, 1, 0]` for
-/// yes, with the table filled, and `[0, 0, 0]` for no.
+/// Matches a pattern with a complete situation; accepted has 1 for yes, with
+/// the table filled, and 0 for no.
 pub fn match_pattern(
     vocabulary: &[u8],
     pattern: &[u8],
@@ -65,8 +89,7 @@ pub fn match_pattern(
     table: &mut [u16],
 ) -> Reply {
     let longest = pattern.len().max(situation.len());
-    sized!(vocabulary, longest, match_sized(pattern, situation, table))
-        .unwrap_or_else(|refusal| refusal)
+    sized!(vocabulary, longest, match_sized(pattern, situation, table)).unwrap_or_else(refused)
 }
 
 fn match_sized<const W: usize, const S: usize>(
@@ -74,7 +97,7 @@ fn match_sized<const W: usize, const S: usize>(
     pattern: &[u8],
     situation: &[u8],
     table: &mut [u16],
-) -> Result<Reply, Reply> {
+) -> Result<Reply, Refusal> {
     let mut words = Words::<W>::new();
     words.fill(vocabulary)?;
     let mut pass = Pass::<S>::new();
@@ -88,14 +111,14 @@ fn match_sized<const W: usize, const S: usize>(
     if yes {
         *table = pass.found;
     }
-    Ok([0, yes as u64, 0])
+    Ok(accepted(yes as u64, 0))
 }
 
-/// The part of the situation that a name covers, as `[0, offset, length]`, or
-/// `[0, 0, 0]` for the empty part.
+/// The part of the situation that a name covers, as its offset and length, or
+/// 0 and 0 for the empty part.
 pub fn part(vocabulary: &[u8], pattern: &[u8], situation: &[u8], name: u64) -> Reply {
     if name > 63 {
-        return [0, 0, 0];
+        return accepted(0, 0);
     }
     let longest = pattern.len().max(situation.len());
     sized!(
@@ -103,7 +126,7 @@ pub fn part(vocabulary: &[u8], pattern: &[u8], situation: &[u8], name: u64) -> R
         longest,
         part_sized(pattern, situation, name as usize)
     )
-    .unwrap_or([0, 0, 0])
+    .unwrap_or(accepted(0, 0))
 }
 
 fn part_sized<const W: usize, const S: usize>(
@@ -111,38 +134,39 @@ fn part_sized<const W: usize, const S: usize>(
     pattern: &[u8],
     situation: &[u8],
     name: usize,
-) -> Result<Reply, Reply> {
+) -> Result<Reply, Refusal> {
     let mut words = Words::<W>::new();
     words.fill(vocabulary)?;
     let mut pass = Pass::<S>::new();
     if !pass.both(&words, pattern, situation) {
-        return Ok([0, 0, 0]);
+        return Ok(accepted(0, 0));
     }
     let at = 2 * (name & 63);
-    Ok([0, pass.found[at] as u64, pass.found[at + 1] as u64])
+    Ok(accepted(pass.found[at] as u64, pass.found[at + 1] as u64))
 }
 
-/// Lists the leftovers of a pattern; accepted is `[0, entries, bytes]`.
+/// Lists the leftovers of a pattern; accepted has the number of entries and of
+/// bytes.
 pub fn list(vocabulary: &[u8], pattern: &[u8], out: &mut [u8]) -> Reply {
-    sized!(vocabulary, pattern.len(), list_sized(pattern, out)).unwrap_or_else(|refusal| refusal)
+    sized!(vocabulary, pattern.len(), list_sized(pattern, out)).unwrap_or_else(refused)
 }
 
 fn list_sized<const W: usize, const S: usize>(
     vocabulary: &[u8],
     pattern: &[u8],
     out: &mut [u8],
-) -> Result<Reply, Reply> {
+) -> Result<Reply, Refusal> {
     let mut words = Words::<W>::new();
     words.fill(vocabulary)?;
     listing::list::<W, S>(&words, pattern, out)
 }
 
-/// Fills the names of a pattern from a filling file; accepted is
-/// `[0, bytes, 0]`.
+/// Fills the names of a pattern from a filling file; accepted has the number
+/// of bytes.
 pub fn fill(vocabulary: &[u8], pattern: &[u8], filling: &[u8], out: &mut [u8]) -> Reply {
     // The bytes behind the map count as a term's behind its kind byte.
     let longest = pattern.len().max(filling.len().saturating_sub(7));
-    sized!(vocabulary, longest, fill_sized(pattern, filling, out)).unwrap_or_else(|refusal| refusal)
+    sized!(vocabulary, longest, fill_sized(pattern, filling, out)).unwrap_or_else(refused)
 }
 
 fn fill_sized<const W: usize, const S: usize>(
@@ -150,25 +174,25 @@ fn fill_sized<const W: usize, const S: usize>(
     pattern: &[u8],
     filling: &[u8],
     out: &mut [u8],
-) -> Result<Reply, Reply> {
+) -> Result<Reply, Refusal> {
     let mut words = Words::<W>::new();
     words.fill(vocabulary)?;
     fill::fill::<W, S>(&words, pattern, filling, out)
 }
 
-/// Lists the leftovers of a book, in no order that counts; accepted is
-/// `[0, entries, bytes]`.
+/// Lists the leftovers of a book, in no order that counts; accepted has the
+/// number of entries and of bytes.
 pub fn list_book(vocabulary: &[u8], book: &[u8], out: &mut [u8]) -> Reply {
     // No pattern has more bytes than stand behind the count.
     let longest = book.len().saturating_sub(1);
-    sized!(vocabulary, longest, list_book_sized(book, out)).unwrap_or_else(|refusal| refusal)
+    sized!(vocabulary, longest, list_book_sized(book, out)).unwrap_or_else(refused)
 }
 
 fn list_book_sized<const W: usize, const S: usize>(
     vocabulary: &[u8],
     book: &[u8],
     out: &mut [u8],
-) -> Result<Reply, Reply> {
+) -> Result<Reply, Refusal> {
     let mut words = Words::<W>::new();
     words.fill(vocabulary)?;
     book::list::<W, S>(&words, book, out)
@@ -178,14 +202,14 @@ fn list_book_sized<const W: usize, const S: usize>(
 /// with.
 pub fn list_book_entrywise(vocabulary: &[u8], book: &[u8], out: &mut [u8]) -> Reply {
     let longest = book.len().saturating_sub(1);
-    sized!(vocabulary, longest, list_entrywise_sized(book, out)).unwrap_or_else(|refusal| refusal)
+    sized!(vocabulary, longest, list_entrywise_sized(book, out)).unwrap_or_else(refused)
 }
 
 fn list_entrywise_sized<const W: usize, const S: usize>(
     vocabulary: &[u8],
     book: &[u8],
     out: &mut [u8],
-) -> Result<Reply, Reply> {
+) -> Result<Reply, Refusal> {
     let mut words = Words::<W>::new();
     words.fill(vocabulary)?;
     book::list_entrywise::<W, S>(&words, book, out)

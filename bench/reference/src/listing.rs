@@ -2,7 +2,7 @@
 
 use crate::term::{self, Stack, LIST};
 use crate::vocabulary::Words;
-use crate::Reply;
+use crate::{accepted, Refusal, Reply};
 use std::mem;
 
 /// The words of each kind, as bits: word n is bit n % 64 of its kind's low or
@@ -66,7 +66,7 @@ pub(crate) fn list<const W: usize, const S: usize>(
     words: &Words<W>,
     pattern: &[u8],
     out: &mut [u8],
-) -> Result<Reply, Reply> {
+) -> Result<Reply, Refusal> {
     let groups = Groups::new(words);
     let mut stack = Stack::<S>::new();
     let reading = term::read::<W, S, LIST>(words, pattern, 1, &mut stack, &groups.others)?;
@@ -87,7 +87,7 @@ pub(crate) fn list<const W: usize, const S: usize>(
             write::<W, 4096, 256>(words, &groups, pattern, out);
         }
     }
-    Ok([0, reading.entries, reading.bytes])
+    Ok(accepted(reading.entries, reading.bytes))
 }
 
 /// Writes the entries into a slice exactly as long as the listing. An entry

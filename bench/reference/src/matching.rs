@@ -3,7 +3,7 @@
 
 use crate::term::{self, begin, below, Names, Stack, PATTERN, SITUATION};
 use crate::vocabulary::Words;
-use crate::Reply;
+use crate::Refusal;
 
 /// Marks the level of a term due that is open in the pattern.
 const OPEN: u8 = 0x80;
@@ -236,7 +236,7 @@ impl<const S: usize> Pass<S> {
         words: &Words<W>,
         pattern: &[u8],
         situation: &[u8],
-    ) -> Result<(), Reply> {
+    ) -> Result<(), Refusal> {
         let none = [0; 16];
         if self.top == 0 && self.pattern_left == 0 && self.situation_left == 0 {
             term::read::<W, S, PATTERN>(words, pattern, 1, &mut self.stack, &none)?;

@@ -52,21 +52,21 @@ pub(crate) fn leftovers(input: &[u8]) -> Vec<u8> {
     };
     let mut space = Vec::new();
     let mut reply = crate::list(vocabulary, pattern, &mut space);
-    if let [20, 3, length @ 0..=SPACE] = reply {
+    if let [20, 3, length @ 0..=SPACE, ..] = reply {
         space.resize(length as usize, 0);
         reply = crate::list(vocabulary, pattern, &mut space);
     }
     let mut text = Vec::new();
     if reply[0] != 0 {
         text.extend_from_slice(b"refused");
-        for number in reply {
+        for number in &reply[..3] {
             text.push(b' ');
-            decimal(&mut text, number);
+            decimal(&mut text, *number);
         }
         text.push(b'\n');
         return text;
     }
-    let [_, entries, bytes] = reply;
+    let [_, entries, bytes, ..] = reply;
     text.reserve(32 + 2 * bytes as usize + 10 * entries as usize);
     text.extend_from_slice(b"leftovers ");
     decimal(&mut text, entries);

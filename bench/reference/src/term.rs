@@ -1,7 +1,7 @@
 //! Reading a term under an accepted vocabulary, in one pass.
 
 use crate::vocabulary::Words;
-use crate::Reply;
+use crate::Refusal;
 
 pub(crate) const CHECK: u8 = 0;
 pub(crate) const PATTERN: u8 = 1;
@@ -96,7 +96,7 @@ impl<const F: usize> Names<F> {
 
 /// The kind of a term and what stands behind it, or refusal 7 or 8.
 #[inline(always)]
-pub(crate) fn begin(kinds: u8, term: &[u8], input: u64) -> Result<(u8, &[u8]), Reply> {
+pub(crate) fn begin(kinds: u8, term: &[u8], input: u64) -> Result<(u8, &[u8]), Refusal> {
     let [kind, rest @ ..] = term else {
         return Err([7, input, 0]);
     };
@@ -109,6 +109,13 @@ pub(crate) fn begin(kinds: u8, term: &[u8], input: u64) -> Result<(u8, &[u8]), R
     Ok((*kind, rest))
 }
 
+/// Notes a place, at most once in a pass. A call of its own keeps the place out
+/// of the loop's registers.
+#[inline(never)]
+fn note(gap: &mut usize, place: usize) {
+    *gap = place;
+}
+
 /// Reads a whole term up to refusal 15. `others` holds, for each kind, how
 /// many other words a word of that kind has beside it.
 #[inline(always)]
@@ -118,7 +125,7 @@ pub(crate) fn read<const W: usize, const S: usize, const MODE: u8>(
     input: u64,
     stack: &mut Stack<S>,
     others: &[u8; 16],
-) -> Result<Reading, Reply> {
+) -> Result<Reading, Refusal> {
     let (kind, rest) = begin(words.kinds, term, input)?;
     stack.set(0, kind, 1);
     go_on::<W, S, MODE, 0>(
@@ -145,7 +152,7 @@ pub(crate) fn go_on<const W: usize, const S: usize, const MODE: u8, const F: usi
     mut top: usize,
     names: &mut Names<F>,
     others: &[u8; 16],
-) -> Result<Reading, Reply> {
+) -> Result<Reading, Refusal> {
     let mut reading = Reading {
         words: 0,
         deepest: 0,
@@ -210,8 +217,8 @@ pub(crate) fn go_on<const W: usize, const S: usize, const MODE: u8, const F: usi
                 if *written & !map != 0 {
                     return Err([14, input, (term.len() - tail.len() - 1) as u64]);
                 }
-                if MODE == SITUATION && reading.gap == 0 {
-                    reading.gap = term.len() - tail.len() - 1;
+                if (MODE == SITUATION || MODE == CHECK) && reading.gap == 0 {
+                    note(&mut reading.gap, term.len() - tail.len() - 1);
                 }
                 if *written != 0 {
                     let mut left = map;
@@ -261,8 +268,8 @@ pub(crate) fn go_on<const W: usize, const S: usize, const MODE: u8, const F: usi
                         [9, input, place as u64 + 1]
                     });
                 }
-                if MODE == SITUATION && reading.gap == 0 {
-                    reading.gap = place;
+                if (MODE == SITUATION || MODE == CHECK) && reading.gap == 0 {
+                    note(&mut reading.gap, place);
                 }
                 single += 1;
                 rest = tail;

@@ -1,6 +1,6 @@
 //! Reading a vocabulary.
 
-use crate::Reply;
+use crate::Refusal;
 
 /// The number of ones of each byte.
 pub(crate) static ONES: [u8; 256] = {
@@ -27,7 +27,7 @@ pub(crate) struct Record {
 
 /// Number of kinds and of words, or refusal 1 or 2.
 #[inline(always)]
-fn counts(vocabulary: &[u8]) -> Result<(u8, u8, &[u8]), Reply> {
+fn counts(vocabulary: &[u8]) -> Result<(u8, u8, &[u8]), Refusal> {
     match vocabulary {
         [kinds @ 1..=16, words, rest @ ..] => {
             if (1..=96).contains(words) {
@@ -105,7 +105,7 @@ fn covered(record: &Record, set: u32) -> bool {
 pub(crate) fn scan(
     vocabulary: &[u8],
     mut each: impl FnMut(usize, &Record),
-) -> Result<(u8, u8), Reply> {
+) -> Result<(u8, u8), Refusal> {
     let (kinds, words, mut rest) = counts(vocabulary)?;
     let mut settled = 0u32;
     for number in 0..words as usize {
@@ -209,7 +209,7 @@ impl<const W: usize> Words<W> {
 
     /// Fills the tables from a vocabulary, or says why it is refused.
     #[inline(always)]
-    pub fn fill(&mut self, vocabulary: &[u8]) -> Result<(), Reply> {
+    pub fn fill(&mut self, vocabulary: &[u8]) -> Result<(), Refusal> {
         let facts = &mut self.facts;
         let dues = &mut self.dues;
         let (kinds, words) = scan(vocabulary, |number, read| {

@@ -1,7 +1,7 @@
 //! The listing of books: the readings of its sentences, and the boundary of
 //! each refusal. Entries are compared in the order of their bytes.
 
-use reference::{list, list_book};
+use reference::Reply;
 
 const A: &str = "03 06 00 03 01 02 01 00 01 00 02 00 02 00 00 00";
 const B: &str = "01 02 00 00 00 01 00";
@@ -19,6 +19,22 @@ fn bytes(hex: &str) -> Vec<u8> {
         .chunks(2)
         .map(|pair| pair[0] << 4 | pair[1])
         .collect()
+}
+
+/// The first three numbers of a reply, whose others are 0.
+fn three(reply: Reply) -> [u64; 3] {
+    let [number, input, place, 0, 0] = reply else {
+        panic!("{reply:?}");
+    };
+    [number, input, place]
+}
+
+fn list(v: &[u8], p: &[u8], out: &mut [u8]) -> [u64; 3] {
+    three(reference::list(v, p, out))
+}
+
+fn list_book(v: &[u8], book: &[u8], out: &mut [u8]) -> [u64; 3] {
+    three(reference::list_book(v, book, out))
 }
 
 /// The entries of a listing, sorted.

@@ -51,7 +51,7 @@ fn property(kinds: u8, words: &Words, levels: usize, deep: usize) -> (usize, usi
             let mut whole = vec![book.len() as u8];
             whole.extend(book.concat());
             let mut out = vec![0; 32_768];
-            let [number, entries, length] = list_book(&v, &whole, &mut out);
+            let [number, entries, length, ..] = list_book(&v, &whole, &mut out);
             assert_eq!(number, 0, "{v:?} {book:?}");
             let entries = split(&out[..length as usize], entries);
             books += 1;

@@ -1,6 +1,6 @@
 //! The document's examples, its readings, and the boundary of each refusal.
 
-use reference::{check_term, check_vocabulary, leftovers, list, match_pattern, part};
+use reference::{leftovers, Reply};
 
 const A: &str = "03 06 00 03 01 02 01 00 01 00 02 00 02 00 00 00";
 const B: &str = "01 02 00 00 00 01 00";
@@ -18,12 +18,51 @@ fn bytes(hex: &str) -> Vec<u8> {
         .collect()
 }
 
+/// The first three numbers of a reply, whose others are 0. An accepted term has
+/// more, and `accepted` for its values.
+fn three(reply: Reply) -> [u64; 3] {
+    let [one, two, three, 0, 0] = reply else {
+        panic!("{reply:?}");
+    };
+    [one, two, three]
+}
+
+fn check_vocabulary(v: &[u8]) -> [u64; 3] {
+    three(reference::check_vocabulary(v))
+}
+
+fn check_term(v: &[u8], t: &[u8]) -> [u64; 3] {
+    three(reference::check_term(v, t))
+}
+
+fn match_pattern(v: &[u8], p: &[u8], s: &[u8], table: &mut [u16]) -> [u64; 3] {
+    three(reference::match_pattern(v, p, s, table))
+}
+
+fn part(v: &[u8], p: &[u8], s: &[u8], name: u64) -> [u64; 3] {
+    three(reference::part(v, p, s, name))
+}
+
+fn list(v: &[u8], p: &[u8], out: &mut [u8]) -> [u64; 3] {
+    three(reference::list(v, p, out))
+}
+
 fn vocabulary(hex: &str) -> [u64; 3] {
     check_vocabulary(&bytes(hex))
 }
 
 fn term(v: &str, t: &str) -> [u64; 3] {
     check_term(&bytes(v), &bytes(t))
+}
+
+/// The values of an accepted term: words, deepest level, whether it is
+/// complete, and its gap.
+fn accepted(v: &str, t: &str) -> [u64; 4] {
+    let reply = reference::check_term(&bytes(v), &bytes(t));
+    let [0, values @ ..] = reply else {
+        panic!("{reply:?}");
+    };
+    values
 }
 
 /// The reply and table of a match; the table is full of 7s before.
@@ -124,7 +163,7 @@ fn bench_examples() {
         assert_eq!(vocabulary(v), [0, 0, 0]);
     }
     let deep = format!("00 {} 00 00", "01 01 ".repeat(31));
-    assert_eq!(term(B, &deep), [0, 32, 32]);
+    assert_eq!(accepted(B, &deep), [32, 32, 1, 65]);
     let deeper = format!("00 {} 00 00", "01 01 ".repeat(32));
     assert_eq!(term(B, &deeper), [10, 1, 65]);
     assert_eq!(term(B, "00"), [7, 1, 0]);
@@ -180,8 +219,8 @@ fn readings_of_terms() {
     let pattern = "00 00 03 80 81";
     assert_eq!(matched(A, pattern, "00 00 03 81 80").0, [16, 2, 3]);
     assert_eq!(matched(A, pattern, "00 00 03 80 80").0, [13, 2, 4]);
-    assert_eq!(term(C, "00 ff"), [0, 0, 1]);
-    assert_eq!(term(C, "00 80"), [0, 0, 1]);
+    assert_eq!(accepted(C, "00 ff"), [0, 1, 0, 1]);
+    assert_eq!(accepted(C, "00 80"), [0, 1, 0, 1]);
     assert_eq!(matched(C, "00 ff", "00 02 01 00 00 07").0, [15, 2, 5]);
     assert_eq!(matched(A, "00 ff", "01 80").0, [16, 2, 1]);
 }
@@ -331,13 +370,13 @@ fn refusals_of_terms() {
     assert_eq!(term(C, ""), [7, 1, 0]);
     assert_eq!(term(C, "01 ff"), [8, 1, 0]);
     assert_eq!(term(A, "03 ff"), [8, 1, 0]);
-    assert_eq!(term(A, "02 ff"), [0, 0, 1]);
+    assert_eq!(accepted(A, "02 ff"), [0, 1, 0, 1]);
     assert_eq!(term(C, "00 02"), [9, 1, 2]);
     assert_eq!(term(C, "00 02 03"), [9, 1, 3]);
     assert_eq!(term(C, "00 02 03 00"), [9, 1, 4]);
     assert_eq!(term(C, "00 02 03 00 00"), [9, 1, 5]);
-    assert_eq!(term(C, "00 02 02 00 00"), [0, 2, 2]);
-    assert_eq!(term(C, "00 02 00"), [0, 1, 1]);
+    assert_eq!(accepted(C, "00 02 02 00 00"), [2, 2, 0, 2]);
+    assert_eq!(accepted(C, "00 02 00"), [1, 1, 0, 2]);
     for byte in ["03", "5f", "60", "7f", "c0", "fe"] {
         assert_eq!(term(C, &format!("00 {byte}")), [11, 1, 1]);
         assert_eq!(term(C, &format!("00 02 03 {byte}")), [11, 1, 3]);
@@ -346,7 +385,7 @@ fn refusals_of_terms() {
     assert_eq!(term(A, "00 01"), [12, 1, 1]);
     assert_eq!(term(A, "00 00 03 03 00"), [12, 1, 3]);
     assert_eq!(term(A, "00 00 03 80 80"), [13, 1, 4]);
-    assert_eq!(term(A, "00 00 03 80 81"), [0, 1, 2]);
+    assert_eq!(accepted(A, "00 00 03 80 81"), [1, 2, 0, 3]);
     assert_eq!(term(A, "00 00 04"), [14, 1, 2]);
     assert_eq!(term(A, "00 00 83 80 80"), [14, 1, 2]);
     assert_eq!(term(C, "00 00 00 00"), [15, 1, 3]);
@@ -354,16 +393,16 @@ fn refusals_of_terms() {
     assert_eq!(term(C, "00 80 80"), [15, 1, 2]);
     // A name at level 32 and at level 33.
     let deep = format!("00 {} 80", "01 01 ".repeat(31));
-    assert_eq!(term(B, &deep), [0, 31, 32]);
+    assert_eq!(accepted(B, &deep), [31, 32, 0, 63]);
     let deeper = format!("00 {} 80", "01 01 ".repeat(32));
     assert_eq!(term(B, &deeper), [10, 1, 65]);
     // An open place is no level.
     let open = format!("00 {} 01 00", "01 01 ".repeat(31));
-    assert_eq!(term(B, &open), [0, 32, 32]);
+    assert_eq!(accepted(B, &open), [32, 32, 0, 64]);
     // Gapped maps: a place that the word lacks is no place.
     let v = "01 02 00 00 00 a0 00 00";
-    assert_eq!(term(v, "00 01 a0 00 00 00 00"), [0, 3, 2]);
-    assert_eq!(term(v, "00 01 80 00 00"), [0, 2, 2]);
+    assert_eq!(accepted(v, "00 01 a0 00 00 00 00"), [3, 2, 1, 7]);
+    assert_eq!(accepted(v, "00 01 80 00 00"), [2, 2, 0, 2]);
     assert_eq!(term(v, "00 01 10 00 00"), [14, 1, 2]);
     assert_eq!(listed(v, "00 01 80 00 00"), (2, bytes("000000 0001800100")));
     // Sizes of 2 to 4,096 bytes.
@@ -371,9 +410,61 @@ fn refusals_of_terms() {
     let mut flat = vec![0];
     fill(&mut flat, 1, 4095);
     assert_eq!(flat.len(), 4096);
-    assert_eq!(check_term(&v, &flat)[0], 0);
+    assert_eq!(reference::check_term(&v, &flat)[0], 0);
     flat.push(0x80);
     assert_eq!(check_term(&v, &flat), [7, 1, 0]);
+}
+
+#[test]
+fn completeness_of_terms() {
+    // The length of a complete term, with its kind byte.
+    for (v, t) in [
+        (C, "00 00 00"),
+        (A, "01 01 00"),
+        (A, "00 00 03 01 00 03 00"),
+        (C, "00 02 03 02 03 00 00 01 00 02 03 01 00 00 00"),
+        (
+            "01 02 00 00 00 a0 00 00",
+            "00 01 a0 00 00 01 a0 00 00 00 00",
+        ),
+    ] {
+        assert_eq!(accepted(v, t)[2..], [1, bytes(t).len() as u64], "{t}");
+    }
+    let full = format!("00 {}", pairs(11));
+    assert_eq!(accepted(C, &full), [2047, 11, 1, 4095]);
+    let front = full.strip_suffix("00 00 ").unwrap();
+    assert_eq!(accepted(C, &format!("{front} 80")), [2046, 11, 0, 4093]);
+    assert_eq!(accepted(C, &format!("{front} 02 00")), [2047, 11, 0, 4094]);
+    assert_eq!(accepted(C, &format!("{front} 02 01 80"))[2..], [0, 4094]);
+    // The first name, 255 or short map, as 16 has it.
+    for (v, t, gap) in [
+        (C, "00 ff", 1),
+        (C, "00 bf", 1),
+        (C, "00 02 03 80 81", 3),
+        (C, "00 02 03 00 00 81", 5),
+        (C, "00 02 03 02 03 00 00 80 80", 7),
+        (C, "00 02 00", 2),
+        (C, "00 02 02 80", 2),
+        (C, "00 02 03 02 01 00 00 00 00", 4),
+        (C, "00 02 03 02 02 80 81", 4),
+        (C, "00 02 03 80 02 00", 3),
+        (C, "00 02 03 00 00 02 01 80", 6),
+        ("01 02 00 00 00 a0 00 00", "00 01 a0 00 00 01 20 00 00", 6),
+    ] {
+        assert_eq!(accepted(v, t)[2..], [0, gap], "{t}");
+        assert_eq!(matched(v, "00 ff", t).0, [16, 2, gap], "{t}");
+    }
+    // A refused term has none, also behind a gap.
+    assert_eq!(term(C, "00 80 00"), [15, 1, 2]);
+    assert_eq!(term(C, "00 02 03 80 03"), [11, 1, 4]);
+}
+
+/// The full tree of pairs in C with so many levels.
+fn pairs(levels: usize) -> String {
+    match levels {
+        1 => "00 00 ".to_string(),
+        _ => format!("02 03 {}", pairs(levels - 1).repeat(2)),
+    }
 }
 
 /// Adds a term of so many bytes: names, and words with two places.

@@ -1,6 +1,6 @@
 //! Fill: the readings of its sentences, and the boundary of each refusal.
 
-use reference::{fill, match_pattern};
+use reference::Reply;
 
 const A: &str = "03 06 00 03 01 02 01 00 01 00 02 00 02 00 00 00";
 const B: &str = "01 02 00 00 00 01 00";
@@ -22,6 +22,18 @@ fn bytes(hex: &str) -> Vec<u8> {
         .chunks(2)
         .map(|pair| pair[0] << 4 | pair[1])
         .collect()
+}
+
+/// The first three numbers of a reply, whose others are 0.
+fn three(reply: Reply) -> [u64; 3] {
+    let [number, input, place, 0, 0] = reply else {
+        panic!("{reply:?}");
+    };
+    [number, input, place]
+}
+
+fn fill(v: &[u8], p: &[u8], f: &[u8], out: &mut [u8]) -> [u64; 3] {
+    three(reference::fill(v, p, f, out))
 }
 
 /// Fills with a space exactly as long, shorter ones and longer ones, and gives
@@ -244,6 +256,6 @@ fn lengths_of_fillings_and_results() {
 fn matching_gives_the_fillings_back() {
     let result = filled(A, "00 00 03 80 81", &format!("{N0_N1} 01 00 04 00"));
     let mut table = [0; 128];
-    let yes = match_pattern(&bytes(A), &bytes("00 00 03 80 81"), &result, &mut table);
-    assert_eq!((yes, &table[..4]), ([0, 1, 0], &[3, 2, 5, 2][..]));
+    let yes = reference::match_pattern(&bytes(A), &bytes("00 00 03 80 81"), &result, &mut table);
+    assert_eq!((three(yes), &table[..4]), ([0, 1, 0], &[3, 2, 5, 2][..]));
 }

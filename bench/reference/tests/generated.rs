@@ -7,6 +7,10 @@ use reference::generate::Gen;
 use reference::Reply;
 use std::collections::HashMap;
 
+/// The replies of a match.
+const YES: Reply = [0, 1, 0, 0, 0];
+const NO: Reply = [0; 5];
+
 #[test]
 fn every_reply_occurs() {
     let mut gen = Gen::new(1);
@@ -119,18 +123,25 @@ fn boundaries_occur() {
         count("pattern 1000 or more", pattern.len() >= 1000);
         count("level 31", reply[2] == 31);
         count("level 32", reply[2] == 32);
+        let (complete, gap) = (reply[3] == 1, reply[4] as usize);
+        count("complete", complete);
+        count("complete, 1000 or more", complete && gap >= 1000);
+        count(
+            "gap at 1, a name",
+            !complete && gap == 1 && pattern[1] != 255,
+        );
+        count("gap at 2", !complete && gap == 2);
+        count("gap at 1000 or more", !complete && gap >= 1000);
+        count(
+            "gap at the last byte",
+            !complete && gap + 1 == pattern.len(),
+        );
         let reply = reference::match_pattern(v, pattern, situation, &mut [0; 128]);
-        count(
-            "no, over 1000",
-            reply == [0, 0, 0] && situation.len() > 1000,
-        );
-        count(
-            "yes, over 1000",
-            reply == [0, 1, 0] && situation.len() > 1000,
-        );
-        count("yes, 4095", reply == [0, 1, 0] && situation.len() == 4095);
+        count("no, over 1000", reply == NO && situation.len() > 1000);
+        count("yes, over 1000", reply == YES && situation.len() > 1000);
+        count("yes, 4095", reply == YES && situation.len() == 4095);
         count("yes, both over 1000", {
-            reply == [0, 1, 0] && situation.len() > 1000 && pattern.len() > 1000
+            reply == YES && situation.len() > 1000 && pattern.len() > 1000
         });
         let file = &case.filling;
         let named = file.iter().take(8).any(|&byte| byte != 0);
@@ -158,7 +169,7 @@ fn boundaries_occur() {
             let mut result = vec![0; exact];
             assert_eq!(
                 reference::fill(v, pattern, file, &mut result),
-                [0, reply[2], 0]
+                [0, reply[2], 0, 0, 0]
             );
             count("fill, 4095", exact == 4095);
             count("fill, over 4000", exact > 4000);
@@ -169,19 +180,17 @@ fn boundaries_occur() {
             assert_eq!(checked[0], 0);
             count("fill, level 32", checked[2] == 32 && named);
             let matched = reference::match_pattern(v, pattern, &result, &mut [0; 128]);
-            assert!(matched == [0, 1, 0] || matched[0] == 16);
+            assert!(matched == YES || matched[0] == 16);
             count("fill, complete", matched[0] == 0 && named);
             count("fill, open places", matched[0] == 16 && named);
         }
         let reply = reference::list(v, pattern, &mut []);
         count("18", reply[0] == 18);
         count("18 and yes", {
-            reply[0] == 18
-                && reference::match_pattern(v, pattern, situation, &mut [0; 128]) == [0, 1, 0]
+            reply[0] == 18 && reference::match_pattern(v, pattern, situation, &mut [0; 128]) == YES
         });
         count("18 and no", {
-            reply[0] == 18
-                && reference::match_pattern(v, pattern, situation, &mut [0; 128]) == [0, 0, 0]
+            reply[0] == 18 && reference::match_pattern(v, pattern, situation, &mut [0; 128]) == NO
         });
         if reply[0] == 20 {
             let exact = reply[2] as usize;
@@ -282,7 +291,7 @@ fn every_reply_to_books_occurs() {
         let mut count = |what, holds: bool| *times.entry(what).or_default() += holds as usize;
         let mut out = vec![case.out_fill; case.out_len];
         let reply = reference::list_book(&case.vocabulary, &case.book, &mut out);
-        let [number, _, place] = reply;
+        let [number, _, place, ..] = reply;
         *seen.entry(number).or_default() += 1;
         let last = case.book.len() as u64;
         count("7 at the end", number == 7 && place == last);

@@ -20,7 +20,7 @@ fn property(kinds: u8, words: Words, levels: usize, deep: usize) -> (usize, usiz
             rename(&mut pattern);
             pattern.insert(0, kind);
             let mut out = vec![0; 100_000];
-            let [number, entries, length] = list(&v, &pattern, &mut out);
+            let [number, entries, length, ..] = list(&v, &pattern, &mut out);
             assert_eq!(number, 0, "{v:?} {pattern:?}");
             let mut choices = split(&out[..length as usize], entries);
             listings += 1;
@@ -47,7 +47,7 @@ fn property(kinds: u8, words: Words, levels: usize, deep: usize) -> (usize, usiz
                 } else {
                     let own = instance(kinds, &words, entry);
                     let fits = |choice: &Vec<u8>| {
-                        match_pattern(&v, choice, &own, &mut [0; 128]) == [0, 1, 0]
+                        match_pattern(&v, choice, &own, &mut [0; 128]) == [0, 1, 0, 0, 0]
                     };
                     assert!(fits(entry));
                     assert_eq!(choices.iter().filter(|choice| fits(choice)).count(), 1);

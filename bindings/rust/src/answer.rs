@@ -10,6 +10,12 @@ pub struct Checked {
     pub words: usize,
     /// The deepest level; the root is level 1.
     pub deepest: usize,
+    /// Whether the term is complete: it has no name, no 255, and no short map, which lacks a bit of its
+    /// word's place map.
+    pub complete: bool,
+    /// The offset of the first name, 255 or short map, and of a complete term its length. Both count the
+    /// kind byte.
+    pub gap: usize,
 }
 
 /// How much [`list`](crate::list) or [`list_book`](crate::list_book) wrote.

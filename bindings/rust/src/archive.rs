@@ -1,7 +1,7 @@
 //! The functions of `libpheasantry.a`, as `include/pheasantry.h` declares them.
 
 /// The numbers in which every function answers.
-pub(crate) type Reply = [u64; 3];
+pub(crate) type Reply = [u64; 5];
 
 extern "C" {
     pub(crate) fn pheasantry_check_vocabulary(

@@ -2,11 +2,12 @@
 use crate::archive::{self, Reply};
 use crate::{entries, Checked, Listed, Reason, Refusal, Spans, BOOK_LISTING_LENGTH, TABLE_LENGTH};
 
-// The two values of a reply. Both are below 2⁶⁴, and a `usize` has 64 bits where the archive runs.
-fn values(reply: Reply) -> Result<(usize, usize), Refusal> {
+// The values of a reply, 0 where there is none. They are below 2⁶⁴, and a `usize` has 64 bits where the archive
+// runs.
+fn values(reply: Reply) -> Result<[usize; 4], Refusal> {
     match reply {
-        [0, first, second] => Ok((first as usize, second as usize)),
-        [number, input, place] => Err(Refusal::of(number, input, place as usize)),
+        [0, values @ ..] => Ok(values.map(|value| value as usize)),
+        [number, input, place, ..] => Err(Refusal::of(number, input, place as usize)),
     }
 }
 
@@ -40,6 +41,11 @@ pub fn check_vocabulary(vocabulary: &[u8]) -> Result<(), Refusal> {
 /// let vocabulary = [3, 6, 0, 3, 1, 2, 1, 0, 1, 0, 2, 0, 2, 0, 0, 0];
 /// let checked = pheasantry::check_term(&vocabulary, &[0, 0, 3, 1, 0, 3, 0])?;
 /// assert_eq!((checked.words, checked.deepest), (3, 2));
+/// assert!(checked.complete);
+///
+/// // wait(_, free) is not complete: its map, byte 2, lacks place 0.
+/// let checked = pheasantry::check_term(&vocabulary, &[0, 0, 2, 3, 0])?;
+/// assert_eq!((checked.complete, checked.gap), (false, 2));
 /// # Ok::<(), pheasantry::Refusal>(())
 /// ```
 ///
@@ -60,8 +66,13 @@ pub fn check_term(vocabulary: &[u8], term: &[u8]) -> Result<Checked, Refusal> {
             &mut reply,
         );
     }
-    let (words, deepest) = values(reply)?;
-    Ok(Checked { words, deepest })
+    let [words, deepest, complete, gap] = values(reply)?;
+    Ok(Checked {
+        words,
+        deepest,
+        complete: complete == 1,
+        gap,
+    })
 }
 
 /// Matches a pattern with a complete situation. Yes gives the part that each name covers, no nothing.
@@ -121,7 +132,7 @@ pub fn match_into(
             &mut reply,
         );
     }
-    values(reply).map(|(yes, _)| yes == 1)
+    values(reply).map(|[yes, ..]| yes == 1)
 }
 
 /// The part of the situation that a name of the pattern covers. It is empty where match would not say
@@ -151,7 +162,7 @@ pub fn part<'s>(vocabulary: &[u8], pattern: &[u8], situation: &'s [u8], name: u8
             &mut reply,
         );
     }
-    let [_, offset, length] = reply.map(|number| number as usize);
+    let [_, offset, length, ..] = reply.map(|number| number as usize);
     &situation[offset..offset + length]
 }
 
@@ -191,7 +202,7 @@ pub fn list(vocabulary: &[u8], pattern: &[u8], out: &mut [u8]) -> Result<Listed,
             &mut reply,
         );
     }
-    let (entries, bytes) = values(reply)?;
+    let [entries, bytes, ..] = values(reply)?;
     Ok(Listed { entries, bytes })
 }
 
@@ -266,7 +277,7 @@ pub fn fill(
             &mut reply,
         );
     }
-    values(reply).map(|(length, _)| length)
+    values(reply).map(|[length, ..]| length)
 }
 
 /// Writes the leftovers of a whole book into `out`: whole patterns without names, each directly behind the
@@ -314,7 +325,7 @@ pub fn list_book(vocabulary: &[u8], book: &[u8], out: &mut [u8]) -> Result<Liste
             &mut reply,
         );
     }
-    let (entries, bytes) = values(reply)?;
+    let [entries, bytes, ..] = values(reply)?;
     Ok(Listed { entries, bytes })
 }
 

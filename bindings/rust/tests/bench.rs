@@ -19,9 +19,14 @@ fn numbers<T: std::fmt::Debug>(answer: Result<T, Refusal>) -> (u8, u8, usize) {
     (refusal.number(), refusal.input().number(), refusal.place())
 }
 
-fn checked(answer: Result<Checked, Refusal>) -> (usize, usize) {
+fn counted(answer: Result<Checked, Refusal>) -> (usize, usize) {
     let checked = answer.unwrap();
     (checked.words, checked.deepest)
+}
+
+fn completeness(answer: Result<Checked, Refusal>) -> (bool, usize) {
+    let checked = answer.unwrap();
+    (checked.complete, checked.gap)
 }
 
 // The term of B with so many levels: more(.. more(none)).
@@ -165,9 +170,43 @@ fn a_match_gives_back_what_was_filled_in() {
 
 #[test]
 fn terms_are_counted() {
-    assert_eq!(checked(check_term(&A, &WAIT_UP_FREE)), (3, 2));
-    assert_eq!(checked(check_term(&C, &[0, 255])), (0, 1));
-    assert_eq!(checked(check_term(&B, &levels(32))), (32, 32));
+    assert_eq!(counted(check_term(&A, &WAIT_UP_FREE)), (3, 2));
+    assert_eq!(counted(check_term(&C, &[0, 255])), (0, 1));
+    assert_eq!(counted(check_term(&B, &levels(32))), (32, 32));
+}
+
+#[test]
+fn complete_terms_show_their_length() {
+    for (vocabulary, term) in [
+        (&A[..], &WAIT_UP_FREE[..]),
+        (&B, &levels(32)),
+        (&C, &PAIR_A_B),
+        (&C, &[0, 0, 0]),
+    ] {
+        let checked = completeness(check_term(vocabulary, term));
+        assert_eq!(checked, (true, term.len()));
+    }
+}
+
+#[test]
+fn others_show_their_first_gap() {
+    for (vocabulary, term, gap) in [
+        // 255, a name as a whole pattern, the first of two, and one behind a word.
+        (&C[..], &[0, 255][..], 1),
+        (&C, &[0, 0x80], 1),
+        (&A, &WAIT_N0_N1, 3),
+        (&C, &[0, 2, 3, 1, 0, 0x80], 5),
+        // A short map at the root, below it, above a name and behind one.
+        (&C, &[0, 2, 1, 0, 0], 2),
+        (&C, &[0, 2, 3, 0, 0, 2, 2, 0, 0], 6),
+        (&C, &[0, 2, 2, 0x80], 2),
+        (&C, &[0, 2, 3, 0x80, 2, 0], 3),
+    ] {
+        assert_eq!(completeness(check_term(vocabulary, term)), (false, gap));
+        // As a situation it is refused at that place.
+        let refused = numbers(match_pattern(vocabulary, &[0, 255], term));
+        assert_eq!(refused, (16, 2, gap));
+    }
 }
 
 #[test]

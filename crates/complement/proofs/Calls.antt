@@ -72,7 +72,7 @@ module _ {p : List ℕ} {words : ℕ} {results : List ℕ} (h : Patterned p word
 refused-listed : (v p before : List ℕ) (r : Reply) → Refuses r → r ≡ termReply v p → HasEffect (listed v p before) r before
 refused-listed v p before r k e = vocabulary (readVocabulary v) e
   where
-    pattern : (W : Vocabulary) (x : Reading Kinded) → r ≡ replyOf 1 termValues x → HasEffect (listedPattern W before (linearIn W x)) r before
+    pattern : (W : Vocabulary) (x : Reading Kinded) → r ≡ replyOf 1 (termValues W (length p)) x → HasEffect (listedPattern W before (linearIn W x)) r before
     pattern W (refuse n q) e = record { reply = e; after = refl }
     pattern W (accept x) e = absurd (subst Refuses e k)
 
@@ -128,7 +128,7 @@ module _ (v p before : List ℕ) (vocabularyBytes : (i : ℕ) → getD v i 0 < 2
     found : Found (checkedTerm W p)
     found = go (checkedTerm W p) (e ∙ ap (termReplyUnder p) read)
       where
-        go : (r : Reading Kinded) → accepted l ≡ replyOf 1 termValues r → Found r
+        go : (r : Reading Kinded) → accepted l ≡ replyOf 1 (termValues W (length p)) r → Found r
         go (accept x) e = (x, refl)
         go (refuse n q) e = absurd (never n 1 q e)
 

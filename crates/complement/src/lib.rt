@@ -224,6 +224,11 @@ pub fn list(vocabulary: &[u8], pattern: &[u8], out: &mut [u8]) -> ListAnswer
     match reader::load_term(vocabulary, pattern, &mut results) {
         TermAnswer::Vocabulary(why) => ListAnswer::Vocabulary(why),
         TermAnswer::Term(why) => ListAnswer::Pattern(why),
-        TermAnswer::Accepted(_, _) => list_pattern(pattern, wide(vocabulary[1]), &results, out),
+        TermAnswer::Accepted(_, _, _, _) => list_pattern(
+            pattern,
+            wide(vocabulary[1]),
+            &results,
+            out,
+        ),
     }
 }

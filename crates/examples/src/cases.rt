@@ -3,7 +3,7 @@
 //
 //   under LABEL: VOCABULARY                       the vocabulary of the lines below it
 //   vocabulary LABEL: VOCABULARY                  check
-//   term LABEL: TERM                              check
+//   term LABEL: TERM                              check; tells words, level, 1 if complete and 0 if not, and the gap
 //   match LENGTH LABEL: PATTERN / SITUATION       match, with a table of so many numbers
 //   part NAME LABEL: PATTERN / SITUATION          part, with a name's number
 //   list LENGTH LABEL: PATTERN                    list, into so many bytes; tells them

@@ -103,6 +103,14 @@ pub(crate) fn reply(given: Numbers) {
     number(given[2]);
 }
 
+// The third and fourth value of a reply, which a refusal does not have.
+fn further(given: Numbers) {
+    if given[0] == 0 {
+        number(given[3]);
+        number(given[4]);
+    }
+}
+
 // A reply that has a text where it accepts, or a refusal.
 pub(crate) fn answer(given: Numbers, accepted: usize) {
     if given[0] == 0 {
@@ -121,8 +129,10 @@ pub(crate) fn vocabulary(vocabulary: &[u8]) {
     fixed(END);
 }
 
-// Checks a term under a vocabulary and prints the reply.
+// Checks a term under a vocabulary and prints the reply, with four values where it accepts.
 pub(crate) fn term(vocabulary: &[u8], term: &[u8]) {
-    reply(numbers::term_numbers(reader::check_term(vocabulary, term)));
+    let given = numbers::term_numbers(reader::check_term(vocabulary, term));
+    reply(given);
+    further(given);
     fixed(END);
 }

@@ -71,7 +71,7 @@ fn spelled(alphabet: &[u8], kind: u8, number: usize) -> Term {
 fn accepted(vocabulary: &[u8], term: Term) -> bool {
     let bytes = term.bytes;
     match reader::check_term(vocabulary, addresses::between(&bytes, 0, term.n)) {
-        TermAnswer::Accepted(_, _) => true,
+        TermAnswer::Accepted(_, _, _, _) => true,
         TermAnswer::Vocabulary(_) => false,
         TermAnswer::Term(_) => false,
     }

@@ -1,7 +1,7 @@
 // Document 01's judging of the inputs of match.
 ghost use mathlib.Core.Path.{_≡_};
-ghost use Rattle.wire.specs.MatchComputed.{judged, clearReply};
-ghost use Rattle.inputs.specs.Answers.{inputsNumbers};
+ghost use lib.ListN.{getD};
+ghost use Rattle.inputs.specs.Judged.{InputsJudged};
 use reader::PairAnswer;
 use reader::TermRefusal;
 use signature::VocabularyRefusal;
@@ -20,20 +20,34 @@ pub enum InputsAnswer {
     Refused(InputsRefusal),
 }
 
-// Judges the inputs of match: a vocabulary, a pattern and a complete situation of the pattern's kind, in
-// this order.
-pub fn judge(vocabulary: &[u8], pattern: &[u8], situation: &[u8]) -> InputsAnswer
-    ensures { λ r. ⌜ inputsNumbers r ≡ clearReply (judged (now (vocabulary .entry)) (now (pattern .entry)) (now (situation .entry))) ⌝ }
+// The kind that stands in front of a term, 0 where nothing does.
+fn kind(t: &[u8]) -> u8
+    ensures { λ r. ⌜ r ≡ getD (now (t .entry)) 0 0 ⌝ }
 {
-    match reader::read_pair(vocabulary, pattern, situation) {
+    if t.len() == 0 {
+        return 0;
+    }
+    t[0]
+}
+
+// Judges the inputs of match: a vocabulary, a pattern and a complete situation of the pattern's kind, in this order. The spans
+// count where pattern and situation are said to agree by them, which must then be so.
+pub fn judge(
+    vocabulary: &[u8],
+    pattern: &[u8],
+    situation: &[u8],
+    spans: &[u16; 128],
+    agreed: bool,
+) -> InputsAnswer
+    ensures { λ r. ⌜ InputsJudged (now (vocabulary .entry)) (now (pattern .entry)) (now (situation .entry)) (now (spans .entry)) agreed r ⌝ }
+{
+    match reader::read_pair(vocabulary, pattern, situation, spans, agreed) {
         PairAnswer::Vocabulary(why) => InputsAnswer::Refused(InputsRefusal::Vocabulary(why)),
         PairAnswer::First(why) => InputsAnswer::Refused(InputsRefusal::Pattern(why)),
         PairAnswer::Second(why) => InputsAnswer::Refused(InputsRefusal::Situation(why)),
-        PairAnswer::Read(_, x) => {
-            if x.gap < situation.len() {
-                return InputsAnswer::Refused(InputsRefusal::Incomplete(x.gap));
-            }
-            if situation[0] != pattern[0] {
+        PairAnswer::Incomplete(q) => InputsAnswer::Refused(InputsRefusal::Incomplete(q)),
+        PairAnswer::Read => {
+            if kind(situation) != kind(pattern) {
                 return InputsAnswer::Refused(InputsRefusal::KindsDiffer);
             }
             InputsAnswer::Clear

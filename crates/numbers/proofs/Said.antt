@@ -91,10 +91,10 @@ pub vocabulary-said : (a : VocabularyAnswer) → replyIn 0 (replyNumbers (vocabu
 vocabulary-said C.Accepted = refl
 vocabulary-said (C.Refused why) = vocabulary-refused-said 0 why
 
-pub term-said : (a : TermAnswer) → replyIn 2 (replyNumbers (termNumbers a)) ≡ termNumbers a
-term-said (A.Accepted n d) = refl
-term-said (A.Vocabulary why) = vocabulary-refused-said 2 why
-term-said (A.Term why) = term-refused-said 2 1 0 why
+pub term-said : (a : TermAnswer) → replyIn 4 (replyNumbers (termNumbers a)) ≡ termNumbers a
+term-said (A.Accepted n d c g) = refl
+term-said (A.Vocabulary why) = vocabulary-refused-said 4 why
+term-said (A.Term why) = term-refused-said 4 1 0 why
 
 pub match-said : (a : MatchAnswer) → replyIn 1 (replyNumbers (matchNumbers a)) ≡ matchNumbers a
 match-said M.Yes = refl

@@ -12,10 +12,10 @@ use lib.ListN.{getD, take, drop}
 use Rattle.wire.specs.Reply.{Reply, accepted, refused}
 use Rattle.wire.specs.Matching.{Span}
 
--- Accepted: 0 and the values, 0 where there is none. Refused: number, input, place.
+-- Accepted: 0 and the values, 0 where there is none. Refused: number, input, place, and 0 behind them.
 abbrev pub replyNumbers : Reply → List ℕ
-replyNumbers (accepted l) = 0 ∷ getD l 0 0 ∷ getD l 1 0 ∷ []
-replyNumbers (refused n i q) = n ∷ i ∷ q ∷ []
+replyNumbers (accepted l) = 0 ∷ getD l 0 0 ∷ getD l 1 0 ∷ getD l 2 0 ∷ getD l 3 0 ∷ []
+replyNumbers (refused n i q) = n ∷ i ∷ q ∷ 0 ∷ 0 ∷ []
 
 -- No line of the refusal list has number 0.
 abbrev pub replyIn : ℕ → List ℕ → Reply

@@ -1,8 +1,9 @@
 // The numbers of the papers' replies. Accepted: 0 and the values, 0 where there is none. Refused: number, input
-// and place.
+// and place, and 0 behind them.
 ghost use mathlib.Core.Path.{_≡_};
 ghost use mathlib.Core.List.{[], _∷_};
 ghost use Rattle.wire.specs.Reply.{accepted as Reply·accepted, refused as Reply·refused};
+ghost use Rattle.wire.specs.Map.{bit};
 ghost use Rattle.signature.specs.Answers.{vocabularyRefused, vocabularyNumbers};
 ghost use Rattle.reader.specs.Answers.{termRefusedAt, termNumbers, fillingRefused, bookRefused};
 ghost use Rattle.inputs.specs.Answers.{inputsRefused};
@@ -23,21 +24,28 @@ use reader::TermRefusal;
 use signature::VocabularyAnswer;
 use signature::VocabularyRefusal;
 
-// How many they are stands here, in `accepted` and `refused`, and in `replyNumbers`.
-pub type Numbers = [u64; 3];
+// How many they are stands here, in `accepted`, `accepted_term` and `refused`, and in `replyNumbers`.
+pub type Numbers = [u64; 5];
 
-// The numbers of a reply that accepts, with its values.
+// The numbers of a reply that accepts, with its values, of which it has up to two.
 pub fn accepted(one: u64, other: u64) -> Numbers
     ensures { λ r. ⌜ r ≡ replyNumbers (Reply·accepted (one ∷ other ∷ [])) ⌝ }
 {
-    [0, one, other]
+    [0, one, other, 0, 0]
+}
+
+// The numbers of a reply that accepts a term: 1 stands for complete.
+fn accepted_term(words: u64, deepest: u64, complete: bool, gap: u64) -> Numbers
+    ensures { λ r. ⌜ r ≡ replyNumbers (Reply·accepted (words ∷ deepest ∷ bit complete ∷ gap ∷ [])) ⌝ }
+{
+    [0, words, deepest, complete as u64, gap]
 }
 
 // The numbers of a reply that refuses.
 fn refused(number: u64, input: u64, place: u64) -> Numbers
     ensures { λ r. ⌜ r ≡ replyNumbers (Reply·refused number input place) ⌝ }
 {
-    [number, input, place]
+    [number, input, place, 0, 0]
 }
 
 // Lines 1 to 6.
@@ -119,12 +127,14 @@ pub fn vocabulary_numbers(answer: VocabularyAnswer) -> Numbers
     }
 }
 
-// The values are the number of words and the deepest level.
+// The values are the number of words, the deepest level, 1 if the term is complete and 0 if not, and the gap.
 pub fn term_numbers(answer: TermAnswer) -> Numbers
     ensures { λ r. ⌜ r ≡ replyNumbers (termNumbers answer) ⌝ }
 {
     match answer {
-        TermAnswer::Accepted(words, deepest) => accepted(words as u64, deepest as u64),
+        TermAnswer::Accepted(words, deepest, complete, gap) => {
+            accepted_term(words as u64, deepest as u64, complete, gap as u64)
+        }
         TermAnswer::Vocabulary(why) => vocabulary_refused(why),
         TermAnswer::Term(why) => term_refused(1, 0, why),
     }

@@ -43,9 +43,9 @@ vocabulary-replied {v} a e (promise, shown) =
 
 pub term-replied : {v b numbers : List ℕ} (a : TermAnswer) → numbers ≡ replyNumbers (termNumbers a) →
     TermPromise v b (termNumbers a) × (termNumbers a ≡ termReply v b) →
-    TermReplied v b numbers × (replyIn 2 numbers ≡ termReply v b)
+    TermReplied v b numbers × (replyIn 4 numbers ≡ termReply v b)
 term-replied {v} {b} a e (promise, shown) =
-    let f = formed 2 (termNumbers a) e (term-said a) in
+    let f = formed 4 (termNumbers a) e (term-said a) in
     (record { form = f .0; promise = subst (TermPromise v b) (sym (f .1)) promise }, f .1 ∙ shown)
 
 pub match-replied : {v p s before after numbers : List ℕ} (a : MatchAnswer) → numbers ≡ replyNumbers (matchNumbers a) →

@@ -27,8 +27,8 @@ pub record VocabularyReplied (v numbers : List ℕ) : Type 0 where
   pub promise : VocabularyPromise v (replyIn 0 numbers)
 
 pub record TermReplied (v b numbers : List ℕ) : Type 0 where
-  pub form : numbers ≡ replyNumbers (replyIn 2 numbers)
-  pub promise : TermPromise v b (replyIn 2 numbers)
+  pub form : numbers ≡ replyNumbers (replyIn 4 numbers)
+  pub promise : TermPromise v b (replyIn 4 numbers)
 
 pub record MatchReplied (v p s before after numbers : List ℕ) : Type 0 where
   pub form : numbers ≡ replyNumbers (replyIn 1 numbers)

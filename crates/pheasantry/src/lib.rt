@@ -24,11 +24,12 @@ pub extern "C" fn pheasantry_check_vocabulary(vocabulary: &[u8], reply: &mut Num
     *reply = numbers::vocabulary_numbers(signature::check_vocabulary(vocabulary));
 }
 
-// Checks a term under a vocabulary. The values are its number of words and its deepest level.
+// Checks a term under a vocabulary. The values are its number of words, its deepest level, 1 if it is complete and 0
+// if not, and its gap.
 #[no_mangle]
 pub extern "C" fn pheasantry_check_term(vocabulary: &[u8], term: &[u8], reply: &mut Numbers)
     ensures { λ _. ⌜ TermReplied (now (vocabulary .entry)) (now (term .entry)) (now (reply .exit)) ⌝ }
-    ensures { λ _. ⌜ replyIn 2 (now (reply .exit)) ≡ termReply (now (vocabulary .entry)) (now (term .entry)) ⌝ }
+    ensures { λ _. ⌜ replyIn 4 (now (reply .exit)) ≡ termReply (now (vocabulary .entry)) (now (term .entry)) ⌝ }
 {
     *reply = numbers::term_numbers(reader::check_term(vocabulary, term));
 }

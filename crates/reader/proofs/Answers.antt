@@ -1,6 +1,6 @@
 -- Answers: different answers have different numbers or values. Each answer can be read off its reply.
 use mathlib.Core.Path.{_≡_, refl, sym, ap, _∙_}
-use mathlib.Core.Bool.{cond}
+use mathlib.Core.Bool.{true, false, cond}
 use Prim.Native.Nat.{ℕ}
 use lib.Dec.{eqb, ltb}
 use lib.ListN.{getD}
@@ -21,11 +21,12 @@ termRefusalOf n q =
     (cond (eqb n 14) (T.StrayBit q) (T.Continues q))))))))
 
 abbrev termAnswerOf : Reply → TermAnswer
-termAnswerOf (accepted l) = A.Accepted (getD l 0 0) (getD l 1 0)
+termAnswerOf (accepted l) = A.Accepted (getD l 0 0) (getD l 1 0) (eqb (getD l 2 0) 1) (getD l 3 0)
 termAnswerOf (refused n i q) = cond (ltb n 7) (A.Vocabulary (vocabularyRefusalOf n q)) (A.Term (termRefusalOf n q))
 
 term-back : (a : TermAnswer) → termAnswerOf (termNumbers a) ≡ a
-term-back (A.Accepted n d) = refl
+term-back (A.Accepted n d true q) = refl
+term-back (A.Accepted n d false q) = refl
 term-back (A.Vocabulary Head) = refl
 term-back (A.Vocabulary WordCount) = refl
 term-back (A.Vocabulary (Ends q)) = refl

@@ -7,6 +7,7 @@
 use mathlib.Core.Path.{_≡_, sym, ap, _∙_}
 use mathlib.Core.List.{List, []}
 use Prim.Native.Nat.{ℕ}
+use lib.ListN.{length}
 use Rattle.wire.specs.Reply.{Reply, accepted}
 use Rattle.wire.specs.Parser.{Reading, accept, refuse, readVocabulary}
 use Rattle.wire.specs.CheckComputed.{replyOf, checkedTerm, vocabularyReply, termValues, termReplyUnder, termReply}
@@ -15,7 +16,8 @@ use Rattle.wire.proofs.Matching.{not-accepted}
 use Rattle.signature.specs.Answers.{vocabularyRefused}
 use Rattle.signature.specs.declared.VocabularyRefusal.{VocabularyRefusal}
 use Rattle.signature.specs.declared.VocabularyRefusal.the-variants.{Head, WordCount, Ends, NoSuchKind, Continues, EmptyKind}
-use Rattle.reader.specs.Whole.{told, bothTold, pairUnder, pairReply}
+use Rattle.reader.specs.Whole.{told}
+use Rattle.reader.specs.Pairs.{bothTold, pairUnder, pairReply}
 
 pub refused-never : (why : VocabularyRefusal) (l : List ℕ) → vocabularyRefused why ≡ accepted l → ⊥
 refused-never Head = not-accepted 1 0 0
@@ -35,7 +37,7 @@ refused-under b why (refuse n q) e = e
 pub term-refused : (v b : List ℕ) (why : VocabularyRefusal) → vocabularyRefused why ≡ vocabularyReply v → vocabularyRefused why ≡ termReply v b
 term-refused v b why e = refused-under b why (readVocabulary v) e
 
-pub term-accepted : (v b : List ℕ) (W : Vocabulary) {r : Reply} → readVocabulary v ≡ accept W → r ≡ replyOf 1 termValues (checkedTerm W b) → r ≡ termReply v b
+pub term-accepted : (v b : List ℕ) (W : Vocabulary) {r : Reply} → readVocabulary v ≡ accept W → r ≡ replyOf 1 (termValues W (length b)) (checkedTerm W b) → r ≡ termReply v b
 term-accepted v b W e h = h ∙ ap (termReplyUnder b) (sym e)
 
 -- ---- two terms

@@ -9,65 +9,61 @@
 --   run-name, run-clash, run-fault, run-deep    at a name, and where something is wrong
 --
 use mathlib.Core.Path.{_≡_, refl, sym, ap, ap₂, _∙_}
-use mathlib.Core.Bool.{Bool, true, false, cond}
+use mathlib.Core.Bool.{Bool, true, false, not, _||_, cond}
 use mathlib.Core.List.{List, [], _∷_, _++_}
 use mathlib.Core.Option.{some, none}
-use Prim.Native.Nat.{ℕ, zero, suc, _+_, _-_, _<_, _≤_, min}
+use Prim.Native.Nat.{ℕ, zero, suc, _+_, _-_, _*_, _<_, _≤_}
 use native.Mathlib.Numerals.{add-one}
 use native.Mathlib.Omega.{arith}
-use lib.Dec.{ltb}
 use lib.ListN.{length, getD, drop, set, length-set, length-drop}
 use lib.Seq.{drop-drop, getD-set-same, getD-set-other}
-use borrow.Author.Tests.{ltb-true, ltb-false, lt-ltb, le-ltb}
 use Rattle.terms.specs.Lists.{orElse}
 use Rattle.terms.specs.Term.{Occurrence}
 use Rattle.wire.specs.Map.{mapBytes, Slot}
 use Rattle.wire.specs.Vocabulary.{Vocabulary}
+use Rattle.wire.specs.TermBytes.{mostBytes}
 use Rattle.wire.specs.TermLines.{Due, dueAt}
 use Rattle.wire.specs.Parser.{Got, stop, Node, wordHere, nameHere, fault, node, atLimit, clash}
 use Rattle.wire.specs.Scan.{everyWritten, Tally, withWord, withLeaf, Scanned, scanNode, run}
-use Rattle.wire.proofs.Cond.{cond-true, cond-false}
 use Rattle.wire.proofs.Scan.{run-node, run-limit, same-tally}
-use Rattle.reader.specs.Frames.{runIn, kindsIn, writtenIn, FrameIn, frameDue, savedDue}
-use Rattle.reader.specs.Cursors.{pastLeaf, pastWord, wentDown, wentUp, atFrame, gapLeft, tallyAt, openDue, restRun, Going}
+use Rattle.frames.specs.Frames.{runIn, kindsIn, writtenIn, Behind, Advanced, FrameIn, frameDue, savedDue}
+use Rattle.cursors.specs.Cursors.{unbroken, completeIn, gapIn, shortIn, pastLeaf, pastWord, wentDown, wentUp, atFrame, Tells}
+use Rattle.reader.specs.Cursors.{gapLeft, tallyAt, openDue, restRun, Going}
 use Rattle.reader.specs.Terms.{nodeDue, nodeRun}
-use Rattle.reader.specs.declared.cursor.Cursor.{Cursor}
-use Rattle.reader.proofs.Frames.{Behind, Advanced, due-behind, due-advanced, due-done, saved-last, all-last}
+use Rattle.cursors.specs.declared.Cursor.{Cursor}
+use Rattle.cursors.proofs.Laws.{leaf-tells, word-tells}
+use Rattle.frames.proofs.Frames.{due-behind, due-advanced, due-done, saved-last, all-last}
 use Rattle.reader.proofs.Levels.{withLevel, frame-reaches}
 use Rattle.reader.proofs.Nodes.{seenNode, node-seen}
 
--- ---- the first gap
+-- ---- what is told behind a node
 
-module _ (n at k gap : ℕ) (gapless : at ≤ gap → gap ≡ n) (long : at + k ≤ n) where
-  -- Behind k bytes without a gap.
-  pub gap-full : gapLeft n (at + k) gap ≡ orElse (gapLeft n at gap) none
-  gap-full = go (ltb gap at) refl
-    where
-      go : (b : Bool) → ltb gap at ≡ b → gapLeft n (at + k) gap ≡ orElse (cond b (some (n - gap)) none) none
-      go true e = let h = ltb-true gap at e in cond-true (ltb gap (at + k)) (some (n - gap)) none (lt-ltb gap (at + k) (omega arith))
-      go false e = let h = gapless (ltb-false gap at e) in cond-false (ltb gap (at + k)) (some (n - gap)) none (le-ltb gap (at + k) (omega arith))
+-- A gap by the number of the n bytes from it on, m of them from the offset q on.
+pub gap-told : (n q m : ℕ) (c : Cursor) {d : Cursor} {k : Bool} → Tells d false (cond (completeIn c) q (gapIn c)) k → q + m ≡ n → gapLeft n d ≡ orElse (gapLeft n c) (some m)
+gap-told n q m c {d} x e =
+    ap (λ b. cond b none (some (n - gapIn d))) (x .complete) ∙ ap (λ g. some (n - g)) (x .gap (x .complete)) ∙ go (completeIn c)
+  where
+    go : (b : Bool) → some (n - cond b q (gapIn c)) ≡ orElse (cond b none (some (n - gapIn c))) (some m)
+    go true = ap some (let e : n - q ≡ m = omega arith in e)
+    go false = refl
 
-  -- Behind k bytes with a gap at q.
-  pub gap-new : (q : ℕ) → at ≤ q → q < at + k → gapLeft n (at + k) (min gap q) ≡ orElse (gapLeft n at gap) (some (n - q))
-  gap-new q from to = go (ltb gap at) refl
-    where
-      go : (b : Bool) → ltb gap at ≡ b → gapLeft n (at + k) (min gap q) ≡ orElse (cond b (some (n - gap)) none) (some (n - q))
-      go true e =
-          let h = ltb-true gap at e in
-          let first : min gap q ≡ gap = omega arith in
-          ap (λ g. gapLeft n (at + k) g) first ∙ cond-true (ltb gap (at + k)) (some (n - gap)) none (lt-ltb gap (at + k) (omega arith))
-      go false e =
-          let h = gapless (ltb-false gap at e) in
-          let first : min gap q ≡ q = omega arith in
-          ap (λ g. gapLeft n (at + k) g) first ∙ cond-true (ltb q (at + k)) (some (n - q)) none (lt-ltb q (at + k) to)
+-- Behind a word at an offset and its map, m bytes before the end.
+word-gap : (n m : ℕ) (c : Cursor) (full : Bool) →
+    Tells (pastWord full c) (cond full (completeIn c) false) (cond full (gapIn c) (cond (completeIn c) (c .at + 1) (gapIn c))) (shortIn c || not full) →
+    c .at + (1 + mapBytes) + m ≡ n → gapLeft n (pastWord full c) ≡ orElse (gapLeft n c) (cond full none (some (mapBytes + m)))
+word-gap n m c true x e = go (completeIn c)
+  where
+    go : (b : Bool) → cond b none (some (n - gapIn c)) ≡ orElse (cond b none (some (n - gapIn c))) none
+    go true = refl
+    go false = refl
+word-gap n m c false x e = gap-told n (c .at + 1) (mapBytes + m) c x (omega arith)
 
--- Behind a word and its map.
-pub gap-word : (n at gap m : ℕ) (full : Bool) → (at ≤ gap → gap ≡ n) → at + (1 + mapBytes) ≤ n → at + (1 + mapBytes) + m ≡ n →
-    gapLeft n (at + (1 + mapBytes)) (cond full gap (min gap (at + 1))) ≡ orElse (gapLeft n at gap) (cond full none (some (mapBytes + m)))
-gap-word n at gap m true gapless long e = gap-full n at (1 + mapBytes) gap gapless long
-gap-word n at gap m false gapless long e =
-    gap-new n at (1 + mapBytes) gap gapless long (at + 1) (omega arith) (omega arith)
-    ∙ ap (λ q. orElse (gapLeft n at gap) (some q)) (let e : n - (at + 1) ≡ mapBytes + m = omega arith in e)
+-- Offsets in a term within the limits are far from `unbroken`.
+pub far-leaf : {n at : ℕ} → n ≤ mostBytes → at ≤ n → 2 * at < unbroken
+far-leaf most inside = omega arith
+
+far-word : {n at : ℕ} → n ≤ mostBytes → at ≤ n → 2 * at + 3 < unbroken
+far-word most inside = omega arith
 
 -- ---- cursors that a reading comes to
 
@@ -82,7 +78,7 @@ module _ {v t frames : List ℕ} {c : Cursor} (g : Going v t frames c) where
     reached = g .reached;
     inside = g .inside;
     fewer = g .fewer;
-    gapless = g .gapless;
+    near = g .near;
     entries = g .entries;
   }
 
@@ -96,12 +92,12 @@ module _ {v t frames : List ℕ} {c : Cursor} (g : Going v t frames c) where
     reached = let reached = g .reached in omega arith;
     inside = g .inside;
     fewer = g .fewer;
-    gapless = g .gapless;
+    near = g .near;
     entries = g .entries;
   }
 
-  pub going-leaf : c .at < length t → Going v t frames (pastLeaf c)
-  going-leaf long = record {
+  pub going-leaf : length t ≤ mostBytes → c .at < length t → Going v t frames (pastLeaf c)
+  going-leaf most long = record {
     due = g .due;
     saved = g .saved;
     root = g .root;
@@ -110,12 +106,12 @@ module _ {v t frames : List ℕ} {c : Cursor} (g : Going v t frames c) where
     reached = g .reached;
     inside = omega arith;
     fewer = let fewer = g .fewer in omega arith;
-    gapless = λ h. absurd (omega arith);
+    near = leaf-tells c (g .near) (far-leaf most (g .inside)) .sound;
     entries = g .entries;
   }
 
-  pub going-word : (full : Bool) → c .at + (1 + mapBytes) ≤ length t → Going v t frames (pastWord full c)
-  going-word full long = record {
+  pub going-word : (full : Bool) → (full ≡ false → length t ≤ mostBytes) → c .at + (1 + mapBytes) ≤ length t → Going v t frames (pastWord full c)
+  going-word full most long = record {
     due = g .due;
     saved = g .saved;
     root = g .root;
@@ -124,13 +120,9 @@ module _ {v t frames : List ℕ} {c : Cursor} (g : Going v t frames c) where
     reached = g .reached;
     inside = long;
     fewer = let fewer = g .fewer in omega arith;
-    gapless = still full;
+    near = word-tells c full (g .near) (λ e. far-word (most e) (g .inside)) .sound;
     entries = g .entries;
   }
-    where
-      still : (b : Bool) → c .at + (1 + mapBytes) ≤ cond b (c .gap) (min (c .gap) (c .at + 1)) → cond b (c .gap) (min (c .gap) (c .at + 1)) ≡ length t
-      still true h = g .gapless (omega arith)
-      still false h = absurd (omega arith)
 
   pub going-down : {z : ℕ} → c .depth < 32 → FrameIn v z → Going v t (set frames (c .depth) (c .due)) (wentDown z c)
   going-down room fits = record {
@@ -142,7 +134,7 @@ module _ {v t frames : List ℕ} {c : Cursor} (g : Going v t frames c) where
     reached = let reached = g .reached in omega arith;
     inside = g .inside;
     fewer = g .fewer;
-    gapless = g .gapless;
+    near = g .near;
     entries = length-set frames (c .depth) (c .due) ∙ g .entries;
   }
     where
@@ -214,7 +206,7 @@ module _ (W : Vocabulary) (v t frames : List ℕ) (seen : List Occurrence) (k : 
   pub run-fault : c .depth ≤ 31 → (m : ℕ) (r : List ℕ) → node W false k [] rest ≡ fault m r → nodeRun W v t frames seen false k c ≡ stop m r
   run-fault room m r e = run-stands room e
 
-  module _ (room : c .depth ≤ 31) (j : ℕ) (long : c .at < length t) (stands : node W false k [] rest ≡ nameHere j (drop 1 rest)) where
+  module _ (room : c .depth ≤ 31) (j : ℕ) (most : length t ≤ mostBytes) (long : c .at < length t) (stands : node W false k [] rest ≡ nameHere j (drop 1 rest)) where
     pub run-clash : clash seen j k ≡ true → nodeRun W v t frames seen false k c ≡ stop 13 rest
     run-clash e =
         run-stands room stands
@@ -222,10 +214,9 @@ module _ (W : Vocabulary) (v t frames : List ℕ) (seen : List Occurrence) (k : 
 
     leaf-told : withLeaf (suc (c .depth)) (drop 1 rest) told ≡ tallyAt (length t) (pastLeaf c)
     leaf-told =
-        let size : suc (length (drop 1 rest)) ≡ length t - c .at = omega (arith, length-drop (c .at) t, length-drop 1 rest) in
-        same-tally _ _ refl (omega (arith, g .reached))
-        (ap (λ m. orElse (gapLeft (length t) (c .at) (c .gap)) (some m)) size
-        ∙ sym (gap-new (length t) (c .at) 1 (c .gap) (g .gapless) (omega arith) (c .at) (omega arith) (omega arith)))
+        let size : c .at + suc (length (drop 1 rest)) ≡ length t = omega (arith, length-drop (c .at) t, length-drop 1 rest) in
+        let tells = leaf-tells c (g .near) (far-leaf most (g .inside)) in
+        same-tally _ _ refl (omega (arith, g .reached)) (sym (gap-told (length t) (c .at) (suc (length (drop 1 rest))) c tells size)) (sym (tells .short))
 
     pub run-name : clash seen j k ≡ false →
         restRun W v t frames (seen ++ (record { name = j; sort = k } ∷ [])) (pastLeaf c) ≡ nodeRun W v t frames seen false k c
@@ -234,14 +225,16 @@ module _ (W : Vocabulary) (v t frames : List ℕ) (seen : List Occurrence) (k : 
         ∙ sym (run-stands room stands
         ∙ ap (λ b. scanNode (run W) (nodeDue false k c) (openDue v frames c) seen told (cond b (fault 13 rest) (nameHere j (drop 1 rest)))) e)
 
-  module _ (room : c .depth ≤ 31) (f : ℕ) (ks : List Slot) (full : Bool) (whole : full ≡ everyWritten ks) (long : c .at + (1 + mapBytes) ≤ length t)
+  module _ (room : c .depth ≤ 31) (f : ℕ) (ks : List Slot) (full : Bool) (most : full ≡ false → length t ≤ mostBytes) (whole : full ≡ everyWritten ks) (long : c .at + (1 + mapBytes) ≤ length t)
       (stands : node W false k [] rest ≡ wordHere f ks (drop (1 + mapBytes) rest)) where
     word-told : withWord (suc (c .depth)) ks (drop (1 + mapBytes) rest) told ≡ tallyAt (length t) (pastWord full c)
     word-told =
         let size : c .at + (1 + mapBytes) + length (drop (1 + mapBytes) rest) ≡ length t = omega (arith, length-drop (c .at) t, length-drop (1 + mapBytes) rest) in
+        let tells = word-tells c full (g .near) (λ e. far-word (most e) (g .inside)) in
         same-tally _ _ refl (omega (arith, g .reached))
-        (ap (λ b. orElse (gapLeft (length t) (c .at) (c .gap)) (cond b none (some (mapBytes + length (drop (1 + mapBytes) rest))))) (sym whole)
-        ∙ sym (gap-word (length t) (c .at) (c .gap) (length (drop (1 + mapBytes) rest)) full (g .gapless) long size))
+        (ap (λ b. orElse (gapLeft (length t) c) (cond b none (some (mapBytes + length (drop (1 + mapBytes) rest))))) (sym whole)
+        ∙ sym (word-gap (length t) (length (drop (1 + mapBytes) rest)) c full tells size))
+        (ap (λ b. shortIn c || not b) (sym whole) ∙ sym (tells .short))
 
     -- Its written places, and then what was due behind it.
     word-behind : run W (dueAt (suc (suc (c .depth))) ks ++ openDue v frames c) seen (tallyAt (length t) (pastWord full c)) (drop (c .at + (1 + mapBytes)) t) ≡ nodeRun W v t frames seen false k c

@@ -38,7 +38,7 @@ use Rattle.reader.specs.Names.{TableOf}
 use Rattle.reader.specs.Nodes.{numberOf, placeOf}
 use Rattle.reader.specs.Fillings.{valuesIn, ValuesRead, FileTold, FileRead}
 use Rattle.reader.specs.Values.{FillingTold, FillingRead}
-use Rattle.reader.specs.Whole.{toldOf, toldBy, told, extentValues}
+use Rattle.reader.specs.Whole.{extentOf, toldBy, told}
 use Rattle.reader.specs.declared.refusal.TermRefusal.{TermRefusal}
 use Rattle.reader.specs.declared.whole.Extent.{Extent}
 use Rattle.reader.specs.declared.filling.FillingRefusal.{FillingRefusal}
@@ -128,16 +128,16 @@ file-judged {W} {b} {starts} {depths} {deep} k level f = record {
     values x (refuse n q) h e = absurd (refusal-never e)
     values x (accept bs) h e = subst (λ x. ValuesIn x starts depths) (ap (inputsIn x) e) (f .tables bs h)
 
-pub pattern-read : (v p b : List ℕ) {names starts depths : List ℕ} {x : Extent} {r : FillingAnswer} → accept (extentValues x) ≡ told (vocabularyIn v) p →
+pub pattern-read : (v p b : List ℕ) {names starts depths : List ℕ} {x : Extent} {r : FillingAnswer} → accept x ≡ told (vocabularyIn v) p →
     ((k : Kinded) → checkedTerm (vocabularyIn v) p ≡ accept k → TableOf (vocabularyIn v) (k .kind) (k .term) names) → FileRead v b names (x .deepest) starts depths r →
     FillingTold (fillPattern (vocabularyIn v) b (checkedTerm (vocabularyIn v) p)) starts depths r
 pattern-read v p b {names} {starts} {depths} {x} {r} e table file = go (checkedTerm (vocabularyIn v) p) refl e
   where
-    go : (c : Reading Kinded) → checkedTerm (vocabularyIn v) p ≡ c → accept (extentValues x) ≡ toldBy (vocabularyIn v) (length p) c →
+    go : (c : Reading Kinded) → checkedTerm (vocabularyIn v) p ≡ c → accept x ≡ toldBy (vocabularyIn v) (length p) c →
         FillingTold (fillPattern (vocabularyIn v) b c) starts depths r
     go (refuse n q) f h = absurd (refuse-never (sym h))
     go (accept k) f h =
-        let level : x .deepest ≡ deepest (k .term) = ap (λ l. getD l 1 0) (accept-same (extentValues x) (toldOf (vocabularyIn v) (length p) k) h) in
+        let level : x .deepest ≡ deepest (k .term) = ap (λ y. y .deepest) (accept-same x (extentOf (vocabularyIn v) (length p) k) h) in
         file-judged k level (file (k .kind) (k .term) (table k f))
 
 -- ---- behind the vocabulary

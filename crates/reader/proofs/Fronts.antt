@@ -37,7 +37,7 @@ use Rattle.reader.specs.Terms.{Refuses, Ends, Answers, frontRun, FrontRe
 use Rattle.reader.specs.Books.{inWindow, Fronted}
 use Rattle.reader.specs.declared.refusal.TermRefusal.{TermRefusal}
 use Rattle.reader.specs.declared.refusal.TermRefusal.the-variants as T
-use Rattle.reader.specs.declared.cursor.Cursor.{Cursor}
+use Rattle.cursors.specs.declared.Cursor.{Cursor}
 use Rattle.reader.specs.declared.term.Reading.{Reading as Answer}
 use Rattle.reader.specs.declared.term.Reading.the-variants as R
 use Rattle.reader.proofs.Told.{front-cases}

@@ -5,7 +5,7 @@
 --   down-going, down-same, down-path    at the places of a word that has some
 --
 use mathlib.Core.Path.{_≡_, refl, sym, ap, subst, _∙_}
-use mathlib.Core.Bool.{true, false}
+use mathlib.Core.Bool.{true, false, true≢false}
 use mathlib.Core.List.{List, [], _∷_, _++_}
 use Prim.Native.Nat.{ℕ, suc, _+_, _<_, _≤_}
 use native.Mathlib.Omega.{arith}
@@ -19,12 +19,13 @@ use Rattle.wire.specs.TermLines.{Due, dueAt}
 use Rattle.wire.specs.Scan.{everyWritten}
 use Rattle.wire.specs.FillComputed.{fullSlots}
 use Rattle.signature.specs.Tables.{Tables, vocabularyIn}
-use Rattle.reader.specs.Frames.{WordFrame}
-use Rattle.reader.specs.Cursors.{pastWord, wentDown, openDue, restRun, Going}
+use Rattle.frames.specs.Frames.{WordFrame}
+use Rattle.cursors.specs.Cursors.{pastWord, wentDown}
+use Rattle.reader.specs.Cursors.{openDue, restRun, Going}
 use Rattle.reader.specs.Full.{Passes}
 use Rattle.reader.specs.Terms.{nodeDue, nodeRun}
-use Rattle.reader.specs.declared.cursor.Cursor.{Cursor}
-use Rattle.reader.proofs.Frames.{due-bare}
+use Rattle.cursors.specs.declared.Cursor.{Cursor}
+use Rattle.frames.proofs.Frames.{due-bare}
 use Rattle.reader.proofs.Tables.{WordFramed, word-framed, full-slots}
 use Rattle.reader.proofs.Full.{passes-as, passes-word, FullHere}
 use Rattle.reader.proofs.Cursors.{going-word, going-down, open-down, run-bare, run-down}
@@ -55,14 +56,14 @@ module _ {v t frames : List ℕ} {c : Cursor} {n : ℕ} {offsets results maps : 
       (passes-word {d = nodeDue false k c} (let room = x .room in omega arith) (x .here .read) p)
 
   pub bare-going : Going v t frames (pastWord true c)
-  bare-going = going-word (x .going) true (x .here .long)
+  bare-going = going-word (x .going) true (λ e. absurd (true≢false e)) (x .here .long)
 
   module _ (e : getD maps f 0 ≡ 0) where
     none-below : dueAt (suc (suc (c .depth))) (fullSlots W f) ≡ []
     none-below = due-bare (flags (mapOf W f)) (mapOf W f) (suc (suc (c .depth))) (word W f .kinds) (sym mapped ∙ e)
 
     pub bare-same : (seen : List Occurrence) → restRun W v t frames seen (pastWord true c) ≡ nodeRun W v t frames seen false k c
-    bare-same seen = run-bare W v t frames seen k (x .going) (x .room) f (fullSlots W f) true whole (x .here .long) (x .here .stands) none-below
+    bare-same seen = run-bare W v t frames seen k (x .going) (x .room) f (fullSlots W f) true (λ e. absurd (true≢false e)) whole (x .here .long) (x .here .stands) none-below
 
     pub bare-path : {due : List Due} {l : List ℕ} → Passes W due l (nodeDue false k c ∷ openDue v frames c) (drop (c .at) t) →
         Passes W due l (openDue v frames (pastWord true c)) (drop (c .at + (1 + mapBytes)) t)
@@ -79,7 +80,7 @@ module _ {v t frames : List ℕ} {c : Cursor} {n : ℕ} {offsets results maps : 
     pub down-same : (getD maps f 0 ≡ 0 → ⊥) → (seen : List Occurrence) →
         restRun W v t (set frames (c .depth) (c .due)) seen (wentDown z (pastWord true c)) ≡ nodeRun W v t frames seen false k c
     down-same other seen =
-        run-down W v t frames seen k (x .going) (x .room) f (fullSlots W f) true whole (x .here .long) (x .here .stands)
+        run-down W v t frames seen k (x .going) (x .room) f (fullSlots W f) true (λ e. absurd (true≢false e)) whole (x .here .long) (x .here .stands)
         z (down-framed .fits) (down-framed .some (λ e. other (mapped ∙ e))) (down-framed .dues)
 
     pub down-path : {due : List Due} {l : List ℕ} → Passes W due l (nodeDue false k c ∷ openDue v frames c) (drop (c .at) t) →

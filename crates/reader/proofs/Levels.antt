@@ -14,12 +14,12 @@ use Rattle.wire.specs.Parser.{Node, wordHere, nameHere, wholeHere, fault, node}
 use Rattle.wire.specs.TermBytes.{mostLevels}
 use Rattle.wire.specs.Scan.{Tally, withWord, withLeaf, scanNode, run}
 use Rattle.wire.proofs.Scan.{run-node, run-limit}
-use Rattle.reader.specs.Frames.{runIn, kindsIn, writtenIn, FrameIn, frameDue}
-use Rattle.reader.proofs.Frames.{advancedFrom, advanced-framed, passed-framed, due-behind, due-advanced, frame-advanced}
+use Rattle.frames.specs.Frames.{runIn, kindsIn, writtenIn, FrameIn, frameDue}
+use Rattle.frames.proofs.Frames.{advancedFrom, advanced-framed, passed-framed, due-behind, due-advanced, frame-advanced}
 
 -- The tally with a level that is due.
 abbrev pub withLevel : ℕ → Tally → Tally
-withLevel level y = record { words = y .words; deepest = max (y .deepest) level; gap = y .gap }
+withLevel level y = record { words = y .words; deepest = max (y .deepest) level; gap = y .gap; short = y .short }
 
 -- A run from what is due on reaches a level.
 abbrev pub Reaches : Vocabulary → ℕ → List Due → Type 0
@@ -36,10 +36,10 @@ module _ (W : Vocabulary) where
 
       behind : (x : Node) → scanNode (run W) d (due ++ ds) seen (withLevel (d .level) y) x ≡ scanNode (run W) d (due ++ ds) seen y x
       behind (wordHere f ks r) =
-          ap (λ k. run W (dueAt (suc (d .level)) ks ++ (due ++ ds)) seen (record { words = y .words + 1; deepest = k; gap = withWord (d .level) ks r y .gap }) r) twice
+          ap (λ k. run W (dueAt (suc (d .level)) ks ++ (due ++ ds)) seen (record { words = y .words + 1; deepest = k; gap = withWord (d .level) ks r y .gap; short = withWord (d .level) ks r y .short }) r) twice
       behind (nameHere n r) =
-          ap (λ k. run W (due ++ ds) (seen ++ (record { name = n; sort = d .sort } ∷ [])) (record { words = y .words; deepest = k; gap = withLeaf (d .level) r y .gap }) r) twice
-      behind (wholeHere r) = ap (λ k. run W (due ++ ds) seen (record { words = y .words; deepest = k; gap = withLeaf (d .level) r y .gap }) r) twice
+          ap (λ k. run W (due ++ ds) (seen ++ (record { name = n; sort = d .sort } ∷ [])) (record { words = y .words; deepest = k; gap = withLeaf (d .level) r y .gap; short = y .short }) r) twice
+      behind (wholeHere r) = ap (λ k. run W (due ++ ds) seen (record { words = y .words; deepest = k; gap = withLeaf (d .level) r y .gap; short = y .short }) r) twice
       behind (fault n r) = refl
 
       go : Dec (d .level ≤ mostLevels) → run W (d ∷ (due ++ ds)) seen (withLevel (d .level) y) l ≡ run W (d ∷ (due ++ ds)) seen y l

@@ -1,6 +1,5 @@
 -- The laws behind the proofs of reading a term.
 pub mod Answers
-pub mod Frames
 pub mod Names
 pub mod Nodes
 pub mod Standing
@@ -21,6 +20,7 @@ pub mod Skipping
 -- A term that is handed to a call, and the vocabulary's check and the terms' together.
 pub mod Told
 pub mod NameTables
+pub mod Pairs
 pub mod Calls
 pub mod Files
 -- A book.

@@ -33,7 +33,7 @@ use Rattle.terms.proofs.Sorts.{sort-in, sorts-in}
 use Rattle.reader.specs.Names.{clashing, Named, listed, TableOf}
 use Rattle.reader.specs.Terms.{Ends, rootRun, frontRun}
 use Rattle.reader.specs.Whole.{toldBy, told, wholeTold, WholeRead}
-use Rattle.reader.specs.declared.cursor.Cursor.{Cursor}
+use Rattle.cursors.specs.declared.Cursor.{Cursor}
 use Rattle.reader.specs.declared.whole.Whole.{Whole}
 use Rattle.reader.proofs.Names.{named-clash}
 use Rattle.reader.proofs.Told.{told-size, told-kind, front-cases, checked-root}

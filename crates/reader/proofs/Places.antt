@@ -8,37 +8,39 @@
 --   root-begins, root-whole, root-at, root-read    a term from its first byte on
 --
 use mathlib.Core.Path.{_≡_, refl, sym, ap, ap₂, subst, _∙_}
-use mathlib.Core.Bool.{true, false, false≢true}
+use mathlib.Core.Bool.{true, false, true≢false, false≢true}
+use mathlib.Core.Logic.{inl, inr}
 use mathlib.Core.List.{List, [], _∷_, _++_}
-use mathlib.Core.Option.{Option, some, none}
-use Prim.Native.Nat.{ℕ, zero, suc, _+_, _-_, _<_, _≤_, min}
+use mathlib.Core.Option.{some}
+use Prim.Native.Nat.{ℕ, zero, suc, _+_, _-_, _<_, _≤_}
 use native.Mathlib.Nat.{add-zero}
 use native.Mathlib.Omega.{arith}
 use lib.Count
-use lib.Dec.{eqb, ltb}
+use lib.Dec.{eqb}
 use lib.ListN.{length, getD, drop, replicate, length-drop, List·getD-eq-default}
 use lib.Seq.{getD-drop, drop-drop}
-use borrow.Author.Tests.{le-ltb, eqb-true, eqb-false}
-use Rattle.terms.specs.Lists.{orElse}
+use borrow.Author.Tests.{eqb-true, eqb-false, eq-eqb}
 use Rattle.terms.specs.Term.{Occurrence}
 use Rattle.wire.specs.Vocabulary.{Vocabulary}
+use Rattle.wire.specs.TermBytes.{mostBytes}
 use Rattle.wire.specs.Parser.{Got, got, Node, wordHere, nameHere, wholeHere, fault, node}
 use Rattle.wire.specs.Scan.{Scanned, scanNode, run, rootDue, noTally, withLeaf}
-use Rattle.wire.proofs.Cond.{cond-false}
 use Rattle.wire.proofs.Scan.{run-node, same-tally}
 use Rattle.signature.specs.Tables.{Tables, vocabularyIn}
-use Rattle.reader.specs.Frames.{runIn, kindsIn, FrameIn}
+use Rattle.frames.specs.Frames.{runIn, kindsIn, Behind, FrameIn}
 use Rattle.reader.specs.Names.{Named}
-use Rattle.reader.specs.Cursors.{started, pastLeaf, atFrame, gapLeft, tallyAt, openDue, restRun, Going}
+use Rattle.cursors.specs.Cursors.{unbroken, completeIn, gapIn, started, pastLeaf, moved, atFrame, Sound, Tells}
+use Rattle.reader.specs.Cursors.{gapLeft, tallyAt, openDue, restRun, Going}
 use Rattle.reader.specs.Terms.{Passed, nodeDue, nodeRun, Leads, Refuses, Follows, Under, Ends, Answers, NodesRead, WholeAt}
 use Rattle.reader.specs.declared.refusal.TermRefusal.{TermRefusal}
-use Rattle.reader.specs.declared.cursor.Cursor.{Cursor}
+use Rattle.cursors.specs.declared.Cursor.{Cursor}
+use Rattle.cursors.proofs.Laws.{leaf-tells}
 use Rattle.reader.specs.declared.term.Reading.{Reading}
 use Rattle.reader.specs.declared.term.Reading.the-variants as R
-use Rattle.reader.proofs.Frames.{Behind, frame-behind, frame-none}
+use Rattle.frames.proofs.Frames.{frame-behind, frame-none}
 use Rattle.reader.proofs.Levels.{first-reaches}
 use Rattle.reader.proofs.Nodes.{node-root, node-whole}
-use Rattle.reader.proofs.Cursors.{gap-new, going-onto, run-place}
+use Rattle.reader.proofs.Cursors.{gap-told, far-leaf, going-onto, run-place}
 
 -- What the whole reading gives, by the names seen before it.
 abbrev Whole : Type 0
@@ -64,8 +66,8 @@ pub node-first : {v t names frames : List ℕ} {c : Cursor} (k : ℕ) → k < 25
 node-first k small size g = record { going = g; entries = size; small = small; seen = λ before n. before; named = λ before n. n; same = λ before n. refl }
 
 module _ {v t names₀ : List ℕ} {whole : Whole} {names frames : List ℕ} {c : Cursor} {k : ℕ} (x : AtNode v t names₀ whole names frames c k) where
-  pub node-under : {n : ℕ} {offsets results maps : List ℕ} → Tables v n offsets results maps → ((i : ℕ) → getD v i 0 < 256) → Under v t n offsets results maps frames c
-  node-under tables bytes = record { tables = tables; bytes = bytes; going = x .going }
+  pub node-under : {n : ℕ} {offsets results maps : List ℕ} → length t ≤ mostBytes → Tables v n offsets results maps → ((i : ℕ) → getD v i 0 < 256) → Under v t n offsets results maps frames c
+  node-under most tables bytes = record { most = most; tables = tables; bytes = bytes; going = x .going }
 
   pub node-follows : {c′ : Cursor} {names′ frames′ : List ℕ} → Follows v t k c names frames names′ frames′ c′ → Onward v t names₀ whole names′ frames′ c′
   node-follows f = record {
@@ -81,6 +83,11 @@ module _ {v t names₀ : List ℕ} {whole : Whole} {names frames : List ℕ} {c 
   node-refused f before n =
       let m = f (x .seen before n) (x .named before n) in
       record { inside = m .inside; same = m .same ∙ x .same before n }
+
+-- The gap stands among the bytes that are read.
+sound-near : {n : ℕ} (c : Cursor) → Sound c → c .at ≤ n → completeIn c ≡ false → gapIn c ≤ n
+sound-near c (inl e) inside h = absurd (true≢false (sym (eq-eqb (c .gaps) unbroken e) ∙ h))
+sound-near c (inr low) inside h = omega arith
 
 module _ {v t names₀ : List ℕ} {whole : Whole} {names frames : List ℕ} {c : Cursor} (x : Onward v t names₀ whole names frames c) where
   abbrev W : Vocabulary
@@ -104,11 +111,11 @@ module _ {v t names₀ : List ℕ} {whole : Whole} {names frames : List ℕ} {c 
         seen = l .seen;
         named = l .named;
         same =
-            ap₂ (λ d y. run W (openDue v frames (record { at = c .at; words = c .words; deepest = c .deepest; gap = c .gap; depth = d; due = y }))
+            ap₂ (λ d y. run W (openDue v frames (moved (c .deepest) d y c))
             (l .seen) (tallyAt (length t) c) (drop (c .at) t)) (sym e) (sym (x .going .root e))
             ∙ l .same;
         inside = x .going .inside;
-        gapless = x .going .gapless;
+        near = sound-near c (x .going .near) (x .going .inside);
       }
 
   -- The first place of the frame is the next node; d is the cursor behind it.
@@ -162,7 +169,7 @@ module _ (v t : List ℕ) (from k : ℕ) (inside : from ≤ length t) where
   abbrev U : Vocabulary
   U = vocabularyIn v
 
-  pub root-going : Going v t (replicate 32 0) (started from (length t))
+  pub root-going : Going v t (replicate 32 0) (started from)
   root-going = record {
     due = frame-none v;
     saved = λ i p. absurd (omega arith);
@@ -172,54 +179,52 @@ module _ (v t : List ℕ) (from k : ℕ) (inside : from ≤ length t) where
     reached = omega arith;
     inside = inside;
     fewer = omega arith;
-    gapless = λ h. refl;
+    near = inl refl;
     entries = refl;
   }
 
-  -- No gap is known yet.
-  no-gap : gapLeft (length t) from (length t) ≡ none
-  no-gap = cond-false (ltb (length t) from) (some (length t - length t)) none (le-ltb (length t) from inside)
-
   -- Below the root and at it a node that is no 255 leads to the same.
-  root-node : (seen : List Occurrence) (o : Option ℕ) → o ≡ none → (x : Node) →
+  root-node : (seen : List Occurrence) (x : Node) →
       scanNode (run U) (rootDue k) [] seen noTally x ≡
-      scanNode (run U) (record { sort = k; level = 1; root = false }) [] seen (record { words = 0; deepest = 1; gap = o }) x
-  root-node seen o e (wordHere f ks r) = ap (λ o. scanNode (run U) (rootDue k) [] seen (record { words = 0; deepest = 1; gap = o }) (wordHere f ks r)) (sym e)
-  root-node seen o e (nameHere j r) = ap (λ o. scanNode (run U) (rootDue k) [] seen (record { words = 0; deepest = 1; gap = o }) (nameHere j r)) (sym e)
-  root-node seen o e (wholeHere r) = ap (λ o. scanNode (run U) (rootDue k) [] seen (record { words = 0; deepest = 1; gap = o }) (wholeHere r)) (sym e)
-  root-node seen o e (fault j r) = refl
+      scanNode (run U) (record { sort = k; level = 1; root = false }) [] seen (tallyAt (length t) (started from)) x
+  root-node seen (wordHere f ks r) = refl
+  root-node seen (nameHere j r) = refl
+  root-node seen (wholeHere r) = refl
+  root-node seen (fault j r) = refl
 
   pub root-begins : (getD (drop from t) 0 0 ≡ 255 → ⊥) → (seen : List Occurrence) →
-      nodeRun U v t (replicate 32 0) seen false k (started from (length t)) ≡ run U (rootDue k ∷ []) seen noTally (drop from t)
+      nodeRun U v t (replicate 32 0) seen false k (started from) ≡ run U (rootDue k ∷ []) seen noTally (drop from t)
   unfolding Count.ones
   root-begins other seen =
-      run-node U (record { sort = k; level = 1; root = false }) [] seen (tallyAt (length t) (started from (length t))) (drop from t) (omega arith)
-      ∙ sym (root-node seen (gapLeft (length t) from (length t)) no-gap (node U false k seen (drop from t)))
+      run-node U (record { sort = k; level = 1; root = false }) [] seen (tallyAt (length t) (started from)) (drop from t) (omega arith)
+      ∙ sym (root-node seen (node U false k seen (drop from t)))
       ∙ ap (scanNode (run U) (rootDue k) [] seen noTally) (sym (node-root U k seen (drop from t) other))
       ∙ sym (run-node U (rootDue k) [] seen noTally (drop from t) (omega arith))
 
-  pub root-whole : {names : List ℕ} → from < length t → getD t from 0 ≡ 255 → length (U .words) ≤ 96 → (seen : List Occurrence) → Named names seen →
-      Ends t names (pastLeaf (started from (length t))) (run U (rootDue k ∷ []) seen noTally (drop from t))
-  root-whole {names} long e few seen named = record {
+  pub root-whole : {names : List ℕ} → length t ≤ mostBytes → from < length t → getD t from 0 ≡ 255 → length (U .words) ≤ 96 → (seen : List Occurrence) → Named names seen →
+      Ends t names (pastLeaf (started from)) (run U (rootDue k ∷ []) seen noTally (drop from t))
+  root-whole {names} most long e few seen named = record {
     seen = seen;
     named = named;
     same =
         ap₂ (λ y l. got (record { tally = y; seen = seen }) l)
-        (same-tally (tallyAt (length t) (pastLeaf (started from (length t)))) (withLeaf 1 (drop 1 (drop from t)) noTally) refl refl leaf-gap)
+        (same-tally (tallyAt (length t) (pastLeaf (started from))) (withLeaf 1 (drop 1 (drop from t)) noTally) refl refl leaf-gap (tells .short))
         (sym (drop-drop 1 from t))
         ∙ ap (scanNode (run U) (rootDue k) [] seen noTally) (sym (node-whole U k seen (drop from t) (omega (arith, length-drop from t)) (whole-first t from ∙ e) few))
         ∙ sym (run-node U (rootDue k) [] seen noTally (drop from t) (omega arith));
     inside = omega arith;
-    gapless = λ h. absurd (omega arith);
+    near = λ h. let gap = tells .gap h in omega arith;
   }
     where
-      leaf-gap : gapLeft (length t) (from + 1) (min (length t) from) ≡ some (suc (length (drop 1 (drop from t))))
-      leaf-gap =
-          gap-new (length t) from 1 (length t) (λ h. refl) (omega arith) from (omega arith) (omega arith)
-          ∙ ap (λ o. orElse o (some (length t - from))) no-gap
-          ∙ ap some (let e : length t - from ≡ suc (length (drop 1 (drop from t))) = omega (arith, length-drop from t, length-drop 1 (drop from t)) in e)
+      tells : Tells (pastLeaf (started from)) false from false
+      tells = leaf-tells (started from) (inl refl) (far-leaf most inside)
 
-  module _ {d : Cursor} (e : d ≡ started from (length t)) where
+      leaf-gap : gapLeft (length t) (pastLeaf (started from)) ≡ some (suc (length (drop 1 (drop from t))))
+      leaf-gap =
+          gap-told (length t) from (suc (length (drop 1 (drop from t)))) (started from) tells
+          (omega (arith, length-drop from t, length-drop 1 (drop from t)))
+
+  module _ {d : Cursor} (e : d ≡ started from) where
     pub root-at : Going v t (replicate 32 0) d
     root-at = subst (Going v t (replicate 32 0)) (sym e) root-going
 

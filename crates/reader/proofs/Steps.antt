@@ -25,18 +25,18 @@ use Rattle.wire.specs.Vocabulary.{Vocabulary, word, mapOf}
 use Rattle.wire.specs.Parser.{Got, stop}
 use Rattle.wire.specs.Scan.{everyWritten, Scanned}
 use Rattle.signature.specs.Tables.{Tables, vocabularyIn}
-use Rattle.reader.specs.Frames.{WordFrame}
+use Rattle.frames.specs.Frames.{WordFrame}
 use Rattle.reader.specs.Names.{clashing, Named}
-use Rattle.reader.specs.Cursors.{pastLeaf, pastWord, wentDown}
+use Rattle.cursors.specs.Cursors.{pastLeaf, pastWord, wentDown}
 use Rattle.reader.specs.Nodes.{numberOf, placeOf}
 use Rattle.reader.specs.Terms.{nodeRun, Leads, Refuses, Follows, NodeAnswers, Under}
 use Rattle.reader.specs.declared.refusal.TermRefusal.{TermRefusal}
 use Rattle.reader.specs.declared.refusal.TermRefusal.the-variants as T
-use Rattle.reader.specs.declared.cursor.Cursor.{Cursor}
+use Rattle.cursors.specs.declared.Cursor.{Cursor}
 use Rattle.reader.specs.declared.node.Node.the-variants.{Word, Name, Fault}
 use Rattle.reader.specs.declared.term.Step.{Step}
 use Rattle.reader.specs.declared.term.Step.the-variants as S
-use Rattle.reader.proofs.Frames.{due-bare}
+use Rattle.frames.proofs.Frames.{due-bare}
 use Rattle.reader.proofs.Names.{named-clash, named-more}
 use Rattle.reader.proofs.Nodes.{within-and}
 use Rattle.reader.proofs.Tables.{WordFramed, word-framed, full-slots, kinds-counted, map-byte}
@@ -158,19 +158,19 @@ module _ {v t : List ℕ} {n : ℕ} {offsets results maps frames : List ℕ} {c 
         Refuses t (T.Clashes (c .at)) (nodeRun W v t frames seen false k c)
     step-clash names e seen named = record {
       inside = u .going .inside;
-      same = sym (run-clash W v t frames seen k (u .going) room j long (s .same room) (named-clash names seen j k (s .inside .known) named ∙ e));
+      same = sym (run-clash W v t frames seen k (u .going) room j (u .most) long (s .same room) (named-clash names seen j k (s .inside .known) named ∙ e));
     }
 
     pub step-name : (names : List ℕ) → length names ≡ 64 → k < 256 → clashing (getD names j 0) k ≡ false →
         Follows v t k c names frames (set names j k) frames (pastLeaf c)
     step-name names size small e = record {
-      going = going-leaf (u .going) long;
+      going = going-leaf (u .going) (u .most) long;
       further = omega arith;
       entries = length-set names j k;
       leads = λ seen named. record {
         seen = seen ++ (record { name = j; sort = k } ∷ []);
         named = named-more names seen j k size (s .inside .known) small e named;
-        same = run-name W v t frames seen k (u .going) room j long (s .same room) (named-clash names seen j k (s .inside .known) named ∙ e);
+        same = run-name W v t frames seen k (u .going) room j (u .most) long (s .same room) (named-clash names seen j k (s .inside .known) named ∙ e);
       };
     }
 
@@ -194,14 +194,14 @@ module _ {v t : List ℕ} {n : ℕ} {offsets results maps frames : List ℕ} {c 
 
     pub step-bare : {names : List ℕ} → m ≡ 0 → Follows v t k c names frames names frames (pastWord (eqb m (getD maps f 0)) c)
     step-bare e = record {
-      going = going-word (u .going) (eqb m (getD maps f 0)) fits;
+      going = going-word (u .going) (eqb m (getD maps f 0)) (λ e. u .most) fits;
       further = omega arith;
       entries = refl;
       leads = λ seen named. record {
         seen = seen;
         named = named;
         same =
-            run-bare W v t frames seen k (u .going) shallow f places (eqb m (getD maps f 0)) whole fits (s .same shallow)
+            run-bare W v t frames seen k (u .going) shallow f places (eqb m (getD maps f 0)) (λ e. u .most) whole fits (s .same shallow)
             (due-bare (flags (mapOf W f)) m (suc (suc (c .depth))) (word W f .kinds) e);
       };
     }
@@ -209,14 +209,14 @@ module _ {v t : List ℕ} {n : ℕ} {offsets results maps frames : List ℕ} {c 
     pub step-down : {names : List ℕ} {z : ℕ} → (m ≡ 0 → ⊥) → WordFrame z m (getD maps f 0) (getD offsets f 0) →
         Follows v t k c names frames names (set frames (c .depth) (c .due)) (wentDown z (pastWord (eqb m (getD maps f 0)) c))
     step-down {z = z} other made = record {
-      going = going-down (going-word (u .going) (eqb m (getD maps f 0)) fits) (let room = shallow in omega arith) (framed .fits);
+      going = going-down (going-word (u .going) (eqb m (getD maps f 0)) (λ e. u .most) fits) (let room = shallow in omega arith) (framed .fits);
       further = omega arith;
       entries = refl;
       leads = λ seen named. record {
         seen = seen;
         named = named;
         same =
-            run-down W v t frames seen k (u .going) shallow f places (eqb m (getD maps f 0)) whole fits (s .same shallow) z (framed .fits) (framed .some other) (framed .dues);
+            run-down W v t frames seen k (u .going) shallow f places (eqb m (getD maps f 0)) (λ e. u .most) whole fits (s .same shallow) z (framed .fits) (framed .some other) (framed .dues);
       };
     }
       where

@@ -2,14 +2,13 @@
 --
 --   tables-as, tables-of      the same tables, named otherwise
 --   in-order, few-words, kind-count, some-bytes    of the vocabulary and its bytes
---   full-made, part-made      the frames that `full` and `of_word` make
 --   WordFramed, word-framed   the frame of a word at a written map
 --   full-slots                a word whose written map is its place map has every place written
 --
 use mathlib.Core.Path.{_≡_, refl, sym, ap, ap₂, _∙_}
 use mathlib.Core.Bool.{Bool, true, false}
 use mathlib.Core.List.{List, [], _∷_, _++_, append-nil}
-use Prim.Native.Nat.{ℕ, suc, _+_, _*_, _<_, _≤_}
+use Prim.Native.Nat.{ℕ, suc, _+_, _<_, _≤_}
 use native.Mathlib.Decide.{ℕ-discrete}
 use native.Mathlib.Numerals.{add-one}
 use native.Mathlib.Omega.{arith}
@@ -26,9 +25,9 @@ use Rattle.wire.proofs.Map.{ones-count}
 use Rattle.wire.proofs.Words.{word-in-order}
 use Rattle.wire.proofs.Theorems.{vocabularies-inverse}
 use Rattle.signature.specs.Tables.{Tables, vocabularyIn}
-use Rattle.reader.specs.Frames.{runIn, writtenIn, placesIn, WordFrame, FrameIn, placesDue, frameDue}
+use Rattle.frames.specs.Frames.{runIn, writtenIn, placesIn, WordFrame, FrameIn, placesDue, frameDue}
 use Rattle.reader.specs.Nodes.{TablesOf}
-use Rattle.reader.proofs.Frames.{no-ones, some-ones, framed, due-parts, due-bare}
+use Rattle.frames.proofs.Frames.{no-ones, some-ones, due-parts, due-bare}
 
 -- ---- kinds that stand in a vocabulary
 
@@ -58,31 +57,6 @@ slots-front (false ∷ ps) ws ks r h = slots-front ps (restFlags ws) ks r (omega
 slots-front (true ∷ ps) ws [] r h = absurd (omega arith)
 slots-front (true ∷ ps) ws (k ∷ ks) r h =
     ap {B = List Slot} (λ z. record { sort = k; written = firstFlag ws } ∷ z) (slots-front ps (restFlags ws) ks r (omega arith))
-
--- ---- the frame of a word
-
--- The frame of a word with all its places.
-pub full-made : (m o : ℕ) → m < 256 → o < 65536 → WordFrame (m + 256 * (o + 2)) m m o
-full-made m o map near =
-    let e : m + 256 * (o + 2) ≡ m + 256 * ((o + 2) + 1048576 * (0 + 256 * 0)) = omega arith in
-    record {
-      full = λ same. rw e (framed m (o + 2) 0 0 (omega arith) (omega arith) (omega arith));
-      part = λ other. absurd (other refl);
-      near = near;
-      map = map;
-    }
-
--- The frame of a word at another written map than its place map.
-pub part-made : (w p o : ℕ) → (w ≡ p → ⊥) → w < 256 → p < 256 → o < 65536 → WordFrame (256 * (o + 2 + 1048576 * (w + 256 * p))) w p o
-part-made w p o other written map near =
-    let e : 256 * (o + 2 + 1048576 * (w + 256 * p)) ≡ 0 + 256 * ((o + 2) + 1048576 * (w + 256 * p)) = omega arith in
-    let f = framed 0 (o + 2) w p (omega arith) (omega arith) written in
-    record {
-      full = λ same. absurd (other same);
-      part = λ other. rw e (record { run = f .run ∙ no-ones 0 refl; kinds = f .kinds; written = f .written; places = f .places });
-      near = near;
-      map = map;
-    }
 
 -- ---- the tables
 

@@ -9,13 +9,12 @@
 --   told-fault, told-continues, told-read    what is told where reading what stands in front ends so
 --   refusal-reply          the reply that a refusal gives
 --   told-refused, told-accepted    the reply of checking a term that tells this
---   first-refused, second-refused, first-read, same-read    the reply of reading two terms that tell this
 --
 use mathlib.Core.Path.{_≡_, refl, sym, ap, ap₂, subst, _∙_}
-use mathlib.Core.Bool.{Bool, true, false, cond}
-use mathlib.Core.List.{List, [], _∷_, _++_, append-nil}
+use mathlib.Core.Bool.{Bool, true, false, true≢false, cond}
+use mathlib.Core.List.{List, [], _∷_, append-nil}
 use mathlib.Core.Option.{Option, some, none}
-use Prim.Native.Nat.{ℕ, suc, _+_, _-_, _<_, _≤_, min}
+use Prim.Native.Nat.{ℕ, suc, _+_, _-_, _<_, _≤_}
 use native.Mathlib.Omega.{arith}
 use lib.Dec.{ltb}
 use lib.ListN.{length, getD, drop, replicate, drop-of-length-le}
@@ -24,29 +23,32 @@ use borrow.Author.Tests.{lt-ltb, le-ltb, ltb-true, ltb-false}
 use Rattle.terms.specs.Term.{Term}
 use Rattle.terms.proofs.Bools.{or-left, or-right}
 use Rattle.wire.specs.Reply.{Reply, IsBytes, accepted, refused, Kinded, outside}
+use Rattle.wire.specs.Map.{bit}
 use Rattle.wire.specs.Vocabulary.{Vocabulary, InOrder}
-use Rattle.wire.specs.TermBytes.{encodeRoot, wordCount, deepest, leastBytes, mostBytes, mostLevels}
+use Rattle.wire.specs.TermBytes.{encodeRoot, wordCount, deepest, leastBytes, mostBytes, mostLevels, complete}
 use Rattle.wire.specs.Parser.{Reading, accept, refuse, Got, got, stop, Read, offset, line15, readTerm, readWhole}
 use Rattle.wire.specs.CheckComputed.{replyOf, checkedTerm, termValues}
-use Rattle.wire.specs.SituationComputed.{firstGap}
-use Rattle.wire.specs.Scan.{Scanned, gapHere, leftFrom, tallied}
+use Rattle.wire.specs.GapComputed.{firstGap, gapOr}
+use Rattle.wire.specs.Scan.{Tally, Scanned, gapHere, leftFrom, hasShort, tallied}
 use Rattle.wire.proofs.Bytes.{offset-drop}
 use Rattle.wire.proofs.Cond.{cond-true, cond-false, choice}
 use Rattle.wire.proofs.Outside.{outside-false, inside-outside}
 use Rattle.wire.proofs.ReadWrite.{Reads, term-reads}
 use Rattle.wire.proofs.Scan.{scan-reads}
 use Rattle.wire.proofs.ScanGap.{Near, whole-gap, whole-near}
+use Rattle.wire.proofs.Theorems.{no-gap-is-complete}
 use Rattle.signature.specs.Tables.{vocabularyIn}
 use Rattle.reader.specs.Answers.{termRefused}
 use Rattle.reader.specs.Cursors.{gapLeft, tallyAt}
 use Rattle.reader.specs.Names.{Named}
 use Rattle.reader.specs.Nodes.{numberOf, placeOf}
 use Rattle.reader.specs.Terms.{Refuses, Ends, Answers, TermRead, rootRun, frontRun, FrontRead}
-use Rattle.reader.specs.Whole.{gapOr, toldBy, told, extentValues, bothTold}
+use Rattle.reader.specs.Whole.{noGap, extentOf, toldBy, told}
 use Rattle.reader.specs.declared.refusal.TermRefusal.{TermRefusal}
 use Rattle.reader.specs.declared.refusal.TermRefusal.the-variants as T
 use Rattle.reader.specs.declared.whole.Extent.{Extent}
-use Rattle.reader.specs.declared.cursor.Cursor.{Cursor}
+use Rattle.cursors.specs.Cursors.{completeIn, gapIn, gapShown, shortIn}
+use Rattle.cursors.specs.declared.Cursor.{Cursor}
 use Rattle.reader.specs.declared.term.Reading.{Reading as Answer}
 use Rattle.reader.specs.declared.term.Reading.the-variants as R
 use Rattle.reader.proofs.Names.{named-none}
@@ -69,19 +71,37 @@ gap-told W t n e =
     ap (gapBack (suc n)) (sym (whole-gap W t n) ∙ ap (λ m. leftFrom m (firstGap W t)) more)
     ∙ back-left (suc n) (firstGap W t) (subst (λ m. Near m (firstGap W t)) whole (whole-near W t))
 
--- The gap that a cursor has where all n bytes are read.
-gap-read : (n gap : ℕ) → min gap n ≡ gapBack n (gapLeft n n gap)
-gap-read n gap = go (ltb gap n) refl
+none-told : (W : Vocabulary) (t : Term) (n : ℕ) → noGap (leftFrom n (gapHere W t)) ≡ noGap (firstGap W t)
+none-told W t n = ap noGap (sym (whole-gap W t n)) ∙ left (n + 1) (firstGap W t)
   where
-    go : (b : Bool) → ltb gap n ≡ b → min gap n ≡ gapBack n (cond b (some (n - gap)) none)
-    go true e = let h = ltb-true gap n e in omega arith
-    go false e = let h = ltb-false gap n e in omega arith
+    left : (n : ℕ) (o : Option ℕ) → noGap (leftFrom n o) ≡ noGap o
+    left n none = refl
+    left n (some q) = refl
+
+-- The gap that a cursor shows where all n bytes are read.
+gap-read : (n : ℕ) (c : Cursor) → c .at ≡ n → (completeIn c ≡ false → gapIn c ≤ n) → gapShown c ≡ gapBack n (gapLeft n c)
+gap-read n c e near = go (completeIn c) refl
+  where
+    go : (b : Bool) → completeIn c ≡ b → cond b (c .at) (gapIn c) ≡ gapBack n (cond b none (some (n - gapIn c)))
+    go true h = e
+    go false h = let low = near h in omega arith
+
+none-read : (n : ℕ) (c : Cursor) → completeIn c ≡ noGap (gapLeft n c)
+none-read n c = go (completeIn c)
+  where
+    go : (b : Bool) → b ≡ noGap (cond b none (some (n - gapIn c)))
+    go true = refl
+    go false = refl
 
 -- ---- what a scan tells
 
-abbrev pub toldScan : List ℕ → Got Scanned → Reading (List ℕ)
+-- What a tally tells of a term of n bytes.
+abbrev extentBy : ℕ → Tally → Extent
+extentBy n y = record { words = y .words; deepest = y .deepest; complete = noGap (y .gap); gap = gapBack n (y .gap); short = y .short }
+
+abbrev pub toldScan : List ℕ → Got Scanned → Reading Extent
 toldScan t (stop n r) = refuse n (offset t r)
-toldScan t (got x []) = accept (x .tally .words ∷ x .tally .deepest ∷ gapBack (length t) (x .tally .gap) ∷ [])
+toldScan t (got x []) = accept (extentBy (length t) (x .tally))
 toldScan t (got x (b ∷ r)) = refuse 15 (offset t (b ∷ r))
 
 scan-told : (W : Vocabulary) (s : ℕ) (l : List ℕ) (x : Got Read) → Reads W mostLevels true s [] l x →
@@ -90,7 +110,8 @@ scan-told W s l (stop n r) h = refl
 scan-told W s l (got a (b ∷ r)) h = refl
 scan-told W s l (got a []) h =
     let bytes : length l ≡ length (encodeRoot W (a .term)) = ap length (h .bytes ∙ append-nil (encodeRoot W (a .term))) in
-    ap (λ g. accept (wordCount (a .term) ∷ deepest (a .term) ∷ g ∷ [])) (gap-told W (a .term) (length l) bytes)
+    ap₂ (λ b g. accept (record { words = wordCount (a .term); deepest = deepest (a .term); complete = b; gap = g; short = hasShort (a .term) }))
+    (none-told W (a .term) (length l)) (gap-told W (a .term) (length l) bytes)
 
 module _ (t : List ℕ) (at : ℕ) where
   scan-continues : (x : Scanned) → at < length t → refuse 15 at ≡ toldScan t (got x (drop at t))
@@ -98,8 +119,7 @@ module _ (t : List ℕ) (at : ℕ) where
       ap (refuse 15) (sym (ap (offset t) (sym (drop-cons t at 0 h)) ∙ offset-drop t (drop at t) at refl (omega arith)))
       ∙ ap (λ l. toldScan t (got x l)) (sym (drop-cons t at 0 h))
 
-  scan-whole : (x : Scanned) → length t ≤ at →
-      accept (x .tally .words ∷ x .tally .deepest ∷ gapBack (length t) (x .tally .gap) ∷ []) ≡ toldScan t (got x (drop at t))
+  scan-whole : (x : Scanned) → length t ≤ at → accept (extentBy (length t) (x .tally)) ≡ toldScan t (got x (drop at t))
   scan-whole x h = ap (λ l. toldScan t (got x l)) (sym (drop-of-length-le t h))
 
 -- ---- the size and the kind
@@ -213,11 +233,14 @@ module _ (v t names : List ℕ) (r : Answer) (inOrder : InOrder (vocabularyIn v)
     pub told-continues : c .at < length t → refuse 15 (c .at) ≡ told (vocabularyIn v) t
     told-continues more = scan-continues t (c .at) scanned more ∙ ap (toldScan t) (ends .same) ∙ told-run
 
-    pub told-read : length t ≤ c .at → {gap : ℕ} → gap ≡ min (c .gap) (c .at) → accept (c .words ∷ c .deepest ∷ gap ∷ []) ≡ told (vocabularyIn v) t
-    told-read all e =
+    pub told-read : length t ≤ c .at → {complete : Bool} {gap : ℕ} {short : Bool} → complete ≡ completeIn c → gap ≡ gapShown c → short ≡ shortIn c →
+        accept (record { words = c .words; deepest = c .deepest; complete = complete; gap = gap; short = short }) ≡ told (vocabularyIn v) t
+    told-read all {complete} {gap} {short} e f g =
         let inside = ends .inside in
         let at : c .at ≡ length t = omega arith in
-        ap (λ g. accept (c .words ∷ c .deepest ∷ g ∷ [])) (e ∙ rw at (gap-read (length t) (c .gap)))
+        ap₂ (λ b g. accept (record { words = c .words; deepest = c .deepest; complete = b; gap = g; short = short }))
+        (e ∙ none-read (length t) c) (f ∙ gap-read (length t) c at (ends .near))
+        ∙ ap (λ k. accept (record { words = c .words; deepest = c .deepest; complete = noGap (gapLeft (length t) c); gap = gapBack (length t) (gapLeft (length t) c); short = k })) g
         ∙ scan-whole t (c .at) scanned all
         ∙ ap (toldScan t) (ends .same)
         ∙ told-run
@@ -235,30 +258,27 @@ refusal-reply input (T.Clashes q) = refl
 refusal-reply input (T.StrayBit q) = refl
 refusal-reply input (T.Continues q) = refl
 
-abbrev firstTwo : List ℕ → List ℕ
-firstTwo l = getD l 0 0 ∷ getD l 1 0 ∷ []
+-- What check's answer has of an extent.
+abbrev shown : Extent → List ℕ
+shown x = x .words ∷ x .deepest ∷ bit (x .complete) ∷ x .gap ∷ []
+
+pub complete-told : (W : Vocabulary) (t : Term) → noGap (firstGap W t) ≡ complete t
+complete-told W t = go (firstGap W t) refl (complete t) refl
+  where
+    go : (o : Option ℕ) → firstGap W t ≡ o → (b : Bool) → complete t ≡ b → noGap o ≡ complete t
+    go none e b h = sym (no-gap-is-complete W t .0 e)
+    go (some q) e false h = sym h
+    go (some q) e true h = absurd (true≢false (ap noGap (sym (no-gap-is-complete W t .1 h) ∙ e)))
 
 module _ (W : Vocabulary) where
-  told-reply : (n : ℕ) (r : Reading Kinded) → replyOf 1 firstTwo (toldBy W n r) ≡ replyOf 1 termValues r
-  told-reply n (accept k) = refl
+  told-reply : (n : ℕ) (r : Reading Kinded) → replyOf 1 shown (toldBy W n r) ≡ replyOf 1 (termValues W n) r
+  told-reply n (accept k) = ap (λ b. accepted (wordCount (k .term) ∷ deepest (k .term) ∷ bit b ∷ gapOr n (firstGap W (k .term)) ∷ [])) (complete-told W (k .term))
   told-reply n (refuse m q) = refl
 
   module _ (b : List ℕ) where
-    pub told-refused : (why : TermRefusal) → refuse (numberOf why) (placeOf why) ≡ told W b → termRefused 1 why ≡ replyOf 1 termValues (checkedTerm W b)
-    told-refused why e = refusal-reply 1 why ∙ ap (replyOf 1 firstTwo) e ∙ told-reply (length b) (checkedTerm W b)
+    pub told-refused : (why : TermRefusal) → refuse (numberOf why) (placeOf why) ≡ told W b → termRefused 1 why ≡ replyOf 1 (termValues W (length b)) (checkedTerm W b)
+    told-refused why e = refusal-reply 1 why ∙ ap (replyOf 1 shown) e ∙ told-reply (length b) (checkedTerm W b)
 
-    pub told-accepted : (x : Extent) → accept (extentValues x) ≡ told W b → accepted (x .words ∷ x .deepest ∷ []) ≡ replyOf 1 termValues (checkedTerm W b)
-    told-accepted x e = ap (replyOf 1 firstTwo) e ∙ told-reply (length b) (checkedTerm W b)
-
-  pub first-refused : (p : List ℕ) (why : TermRefusal) (y : Reading (List ℕ)) → refuse (numberOf why) (placeOf why) ≡ told W p → termRefused 1 why ≡ bothTold (told W p) y
-  first-refused p why y e = refusal-reply 1 why ∙ ap (λ r. bothTold r y) e
-
-  pub second-refused : (s : List ℕ) (why : TermRefusal) (a : List ℕ) → refuse (numberOf why) (placeOf why) ≡ told W s → termRefused 2 why ≡ bothTold (accept a) (told W s)
-  second-refused s why a e = refusal-reply 2 why ∙ ap (bothTold (accept a)) e
-
-  pub first-read : (p s a : List ℕ) {r : Reply} → accept a ≡ told W p → r ≡ bothTold (accept a) (told W s) → r ≡ bothTold (told W p) (told W s)
-  first-read p s a e h = h ∙ ap (λ z. bothTold z (told W s)) e
-
-  -- Two terms that are the same bytes tell the same.
-  pub same-read : (p s a : List ℕ) → p ≡ s → accept a ≡ told W p → accepted (a ++ a) ≡ bothTold (told W p) (told W s)
-  same-read p s a same e = ap₂ bothTold e (e ∙ ap (told W) same)
+    pub told-accepted : (x : Extent) → accept x ≡ told W b →
+        accepted (x .words ∷ x .deepest ∷ bit (x .complete) ∷ x .gap ∷ []) ≡ replyOf 1 (termValues W (length b)) (checkedTerm W b)
+    told-accepted x e = ap (replyOf 1 shown) e ∙ told-reply (length b) (checkedTerm W b)

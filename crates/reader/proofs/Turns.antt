@@ -19,12 +19,13 @@ use lib.Seq.{getD-set-same, getD-set-other}
 use Rattle.terms.specs.Term.{Occurrence}
 use Rattle.wire.specs.Map.{mapBytes}
 use Rattle.signature.specs.Tables.{Tables, vocabularyIn}
-use Rattle.reader.specs.Frames.{runIn, kindsIn, writtenIn, placesIn, WordFrame, FrameIn}
-use Rattle.reader.specs.Cursors.{pastWord, wentDown, wentUp, atFrame, openDue, restRun, Going}
+use Rattle.frames.specs.Frames.{runIn, kindsIn, writtenIn, placesIn, Behind, Advanced, WordFrame, FrameIn}
+use Rattle.cursors.specs.Cursors.{pastWord, wentDown, wentUp, atFrame}
+use Rattle.reader.specs.Cursors.{openDue, restRun, Going}
 use Rattle.reader.specs.Full.{NotFull, Passes}
 use Rattle.reader.specs.Terms.{Passed, nodeDue, nodeRun}
-use Rattle.reader.specs.declared.cursor.Cursor.{Cursor}
-use Rattle.reader.proofs.Frames.{no-ones, some-ones, Behind, Advanced, low-within, frame-behind, frame-advanced}
+use Rattle.cursors.specs.declared.Cursor.{Cursor}
+use Rattle.frames.proofs.Frames.{no-ones, some-ones, low-within, frame-behind, frame-advanced}
 use Rattle.reader.proofs.Full.{passes-none, passes-as, FullHere}
 use Rattle.reader.proofs.FullSteps.{FullNode, bare-going, bare-same, bare-path, down-framed, down-going, down-same, down-path}
 use Rattle.reader.proofs.Cursors.{going-onto, going-up, open-place, open-advanced, open-up, run-place, run-advanced, run-up}

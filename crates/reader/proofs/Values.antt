@@ -28,13 +28,14 @@ use Rattle.wire.proofs.WriteRead.{read-term}
 use Rattle.wire.proofs.Scan.{withTerm, run-reads}
 use Rattle.wire.proofs.FullTerms.{HasValues, Values, values-read}
 use Rattle.signature.specs.Tables.{Tabled, vocabularyIn}
-use Rattle.reader.specs.Frames.{runIn, kindsIn, WordFrame, frameDue, savedDue}
-use Rattle.reader.specs.Cursors.{started, pastWord, wentDown, atFrame, tallyAt, openDue, restRun, Going}
+use Rattle.frames.specs.Frames.{runIn, kindsIn, WordFrame, frameDue, savedDue}
+use Rattle.cursors.specs.Cursors.{started, pastWord, wentDown, atFrame}
+use Rattle.reader.specs.Cursors.{tallyAt, openDue, restRun, Going}
 use Rattle.reader.specs.Full.{NotFull, Passes}
 use Rattle.reader.specs.Terms.{Passed, nodeDue}
 use Rattle.reader.specs.Fillings.{valueDue, FaultAt, ValueEnds, ValueStops}
-use Rattle.reader.specs.declared.cursor.Cursor.{Cursor}
-use Rattle.reader.proofs.Frames.{no-ones, passed-framed, due-done}
+use Rattle.cursors.specs.declared.Cursor.{Cursor}
+use Rattle.frames.proofs.Frames.{no-ones, passed-framed, due-done}
 use Rattle.reader.proofs.Full.{passes-none, passes-as, passes-then, passes-all, passes-stop}
 use Rattle.reader.proofs.FullSteps.{FullNode, bare-going, bare-same, bare-path, down-going, down-same, down-path}
 use Rattle.reader.proofs.Cursors.{open-place}
@@ -50,7 +51,7 @@ module _ (v b : List ℕ) (from k : ℕ) where
   W = vocabularyIn v
 
   abbrev begun : Cursor
-  begun = started from (length b)
+  begun = started from
 
   -- What is told of the value, from its first byte on.
   abbrev valueRun : List ℕ → Got Scanned
@@ -82,7 +83,7 @@ value-run v b from k inOrder (gapp f gs) r sorted shallow =
 module _ {v b : List ℕ} {from k : ℕ} where
   -- ---- the first word
 
-  module _ {n : ℕ} {offsets results maps : List ℕ} {f : ℕ} (x : FullNode v b (replicate 32 0) (started from (length b)) n offsets results maps k f) where
+  module _ {n : ℕ} {offsets results maps : List ℕ} {f : ℕ} (x : FullNode v b (replicate 32 0) (started from) n offsets results maps k f) where
     begins : nodeDue false k (begun v b from k) ∷ openDue v (replicate 32 0) (begun v b from k) ≡ valueDue k ∷ []
     begins = ap {B = List Due} (λ ds. valueDue k ∷ ds) (open-none v (replicate 32 0) (begun v b from k) refl refl)
 
@@ -92,11 +93,11 @@ module _ {v b : List ℕ} {from k : ℕ} where
     first-run : run (vocabularyIn v) (nodeDue false k (begun v b from k) ∷ openDue v (replicate 32 0) (begun v b from k)) [] (tallyAt (length b) (begun v b from k)) (drop from b) ≡ valueRun v b from k (drop from b)
     first-run = ap (λ ds. run (vocabularyIn v) ds [] (tallyAt (length b) (begun v b from k)) (drop from b)) begins
 
-    pub came-bare : getD maps f 0 ≡ 0 → Came v b from k (replicate 32 0) (pastWord true (started from (length b)))
+    pub came-bare : getD maps f 0 ≡ 0 → Came v b from k (replicate 32 0) (pastWord true (started from))
     came-bare e = record { going = bare-going x; path = bare-path x e first-path; same = bare-same x e [] ∙ first-run }
 
     pub came-down : {z : ℕ} → (getD maps f 0 ≡ 0 → ⊥) → WordFrame z (getD maps f 0) (getD maps f 0) (getD offsets f 0) →
-        Came v b from k (replicate 32 0) (wentDown z (pastWord true (started from (length b))))
+        Came v b from k (replicate 32 0) (wentDown z (pastWord true (started from)))
     came-down other made = record { going = down-going x made; path = down-path x made first-path; same = down-same x made other [] ∙ first-run }
 
   -- ---- further on
@@ -131,6 +132,8 @@ module _ {v b : List ℕ} {from k : ℕ} where
           record {
             value = g;
             same = same;
+            sorted = h .sorted .0;
+            bytes = bytes;
             inside = within;
             span = omega (arith, ap length bytes, length-append (encodeAt U (asTerm g)) (drop (c .at) b), length-drop from b, length-drop (c .at) b);
             reached = reached;

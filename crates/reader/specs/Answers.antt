@@ -13,6 +13,7 @@ use mathlib.Core.Path.{_≡_}
 use mathlib.Core.List.{[], _∷_}
 use Prim.Native.Nat.{ℕ}
 use Rattle.wire.specs.Reply.{Reply, accepted, refused}
+use Rattle.wire.specs.Map.{bit}
 use Rattle.signature.specs.Answers.{vocabularyRefused}
 use Rattle.reader.specs.declared.refusal.TermRefusal.{TermRefusal}
 use Rattle.reader.specs.declared.refusal.TermRefusal.the-variants as T
@@ -42,8 +43,9 @@ termRefusedAt input at (T.Continues q) = refused 15 input q
 abbrev pub termRefused : ℕ → TermRefusal → Reply
 termRefused input why = termRefusedAt input 0 why
 
+-- Document 01's two values, and document 02's: 1 for a complete term and 0 for any other, and the gap.
 abbrev pub termNumbers : TermAnswer → Reply
-termNumbers (A.Accepted words deepest) = accepted (words ∷ deepest ∷ [])
+termNumbers (A.Accepted words deepest complete gap) = accepted (words ∷ deepest ∷ bit complete ∷ gap ∷ [])
 termNumbers (A.Vocabulary why) = vocabularyRefused why
 termNumbers (A.Term why) = termRefused 1 why
 

@@ -18,15 +18,15 @@
 --
 use mathlib.Core.Path.{_≡_}
 use mathlib.Core.Bool.{Bool, true, false}
-use mathlib.Core.List.{List, [], _∷_, map}
+use mathlib.Core.List.{List, [], _∷_, _++_, map}
 use mathlib.Core.Logic.{_⊎_}
 use Prim.Native.Nat.{ℕ, zero, suc, _+_, _-_, _/_, _%_, _<_, _≤_}
 use lib.ListN.{length, getD, drop, set}
 use Rattle.terms.specs.Lists.{range, keep}
-use Rattle.terms.specs.Term.{Term, Ground, gnil, gcons, asTerm}
+use Rattle.terms.specs.Term.{Term, Ground, gnil, gcons, SortedG, asTerm}
 use Rattle.terms.specs.Filling.{Binding, valueOf}
-use Rattle.wire.specs.Vocabulary.{Vocabulary}
-use Rattle.wire.specs.TermBytes.{nameCount, levels, mostLevels}
+use Rattle.wire.specs.Vocabulary.{Vocabulary, signature}
+use Rattle.wire.specs.TermBytes.{nameCount, encodeAt, levels, mostLevels}
 use Rattle.wire.specs.VocabularyLines.{byteAt}
 use Rattle.wire.specs.TermLines.{Due}
 use Rattle.wire.specs.Matching.{size}
@@ -54,6 +54,8 @@ pub record FaultAt (rest : List ℕ) (at depth k n : ℕ) (results : List ℕ) (
 pub record ValueEnds (v b : List ℕ) (from k at deep : ℕ) : Type 0 where
   pub value : Ground
   pub same : readValues (vocabularyIn v) (valueDue k ∷ []) (drop from b) ≡ got (gcons value gnil) (drop at b)
+  pub sorted : SortedG (signature (vocabularyIn v)) value k
+  pub bytes : drop from b ≡ encodeAt (vocabularyIn v) (asTerm value) ++ drop at b
   pub inside : at ≤ length b
   pub span : at ≡ from + size (vocabularyIn v) value
   pub reached : deep ≡ levels (asTerm value)

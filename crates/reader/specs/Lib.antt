@@ -3,11 +3,11 @@
 --   Answers    document 01's number and values for each case of the answer
 --   Checked    what checking a term gives beside its answer
 --   Nodes      what the private functions promise each other of what stands where a term is due; no public contract cites it
---   Whole      what reading two terms tells
+--   Whole      what reading a term tells; no public contract cites it
+--   Pairs      what reading a pattern and a situation gives
 --   Values     what reading the inputs of fill gives
 --   Books      what reading a vocabulary and a book gives
---   Frames     what the private functions promise each other of the places that are due; no public contract cites it
---   Names      the same, of the names that stood before
+--   Names      what the private functions promise each other of the names that stood before; no public contract cites it
 --   Cursors    the same, of where a reading stands
 --   Full       the same, of complete terms
 --   Terms      the same, of reading a term
@@ -16,9 +16,9 @@ pub mod Answers
 pub mod Checked
 pub mod Nodes
 pub mod Whole
+pub mod Pairs
 pub mod Values
 pub mod Books
-pub mod Frames
 pub mod Names
 pub mod Cursors
 pub mod Full

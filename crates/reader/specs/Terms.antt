@@ -31,13 +31,14 @@ use Rattle.wire.specs.TermLines.{Due}
 use Rattle.wire.specs.Parser.{Got, got, stop}
 use Rattle.wire.specs.Scan.{Scanned, run, rootDue, noTally}
 use Rattle.signature.specs.Tables.{Tables, vocabularyIn}
-use Rattle.reader.specs.Frames.{runIn, kindsIn}
+use Rattle.frames.specs.Frames.{runIn, kindsIn}
 use Rattle.reader.specs.Full.{NotFull, Passes}
 use Rattle.reader.specs.Names.{Named}
 use Rattle.reader.specs.Cursors.{tallyAt, openDue, restRun, Going}
 use Rattle.reader.specs.Nodes.{numberOf, placeOf}
 use Rattle.reader.specs.declared.refusal.TermRefusal.{TermRefusal}
-use Rattle.reader.specs.declared.cursor.Cursor.{Cursor}
+use Rattle.cursors.specs.Cursors.{completeIn, gapIn}
+use Rattle.cursors.specs.declared.Cursor.{Cursor}
 use Rattle.reader.specs.declared.term.Step.{Step}
 use Rattle.reader.specs.declared.term.Step.the-variants as S
 use Rattle.reader.specs.declared.term.Reading.{Reading}
@@ -80,6 +81,7 @@ pub record NodeAnswers (v t : List ℕ) (k : ℕ) (c : Cursor) (names frames nam
 
 -- A vocabulary whose tables these are, and under which the cursor is one that a reading comes to.
 pub record Under (v t : List ℕ) (n : ℕ) (offsets results maps frames : List ℕ) (c : Cursor) : Type 0 where
+  pub most : length t ≤ mostBytes
   pub tables : Tables v n offsets results maps
   pub bytes : (i : ℕ) → getD v i 0 < 256
   pub going : Going v t frames c
@@ -94,7 +96,7 @@ pub record Ends (t names : List ℕ) (c : Cursor) (g : Got Scanned) : Type 0 whe
   pub named : Named names seen
   pub same : got (record { tally = tallyAt (length t) c; seen = seen }) (drop (c .at) t) ≡ g
   pub inside : c .at ≤ length t
-  pub gapless : c .at ≤ c .gap → c .gap ≡ length t
+  pub near : completeIn c ≡ false → gapIn c ≤ length t
 
 abbrev pub Answers : List ℕ → List ℕ → Got Scanned → Reading → Type 0
 Answers t names g (R.Read c) = Ends t names c g

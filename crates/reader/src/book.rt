@@ -1,12 +1,11 @@
 // Document 02's book: a count, and as many patterns of one kind, one behind the other.
 ghost use mathlib.Core.Path.{_≡_};
-ghost use Prim.Native.Nat.{_+_, _<_, _≤_};
+ghost use Prim.Native.Nat.{_+_, _<_, _≤_, min};
 ghost use lib.ListN.{length};
 ghost use Rattle.signature.specs.Tables.{Tables, vocabularyIn};
 ghost use Rattle.reader.specs.Answers.{bookNumbers};
 ghost use Rattle.reader.specs.Nodes.{placeOf};
 ghost use Rattle.reader.specs.Books.{countOf, inWindow, placedAt, PatternJudged, PatternRead, bookReply};
-use crate::cursor;
 use crate::refusal::TermRefusal;
 use crate::term::Reading;
 use crate::whole;
@@ -34,6 +33,12 @@ pub enum BookAnswer {
 enum Pattern {
     Read(usize),
     Refused(BookRefusal),
+}
+
+fn least(a: usize, b: usize) -> usize
+    ensures { λ r. ⌜ r ≡ min a b ⌝ }
+{
+    if a < b { a } else { b }
 }
 
 // How many patterns a book has, 0 where that is missing or more than 64.
@@ -109,7 +114,7 @@ fn read_pattern<'a>(
     requires { ⌜ at ≤ length (now b) ⌝ }
     ensures { λ r. ⌜ PatternRead (vocabularyIn (now (v .entry))) (now (b .entry)) at r ⌝ }
 {
-    let limit = cursor::least(b.len(), at + 4096);
+    let limit = least(b.len(), at + 4096);
     let mut names = [65535u16; 64];
     match whole::read_front(v, &b[at..limit], &mut names, words, offsets, results, maps) {
         Reading::Fault(why) => Pattern::Refused(BookRefusal::Pattern(

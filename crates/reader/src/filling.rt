@@ -5,8 +5,6 @@ ghost use lib.ListN.{length};
 ghost use Rattle.namemaps.specs.Difference.{DifferenceAt};
 ghost use Rattle.signature.specs.Tables.{Tables};
 ghost use Rattle.reader.specs.Fillings.{FaultAt, ValueRead, EntryRead, Skips, startsPassed, ValuesRead, FileRead};
-use crate::cursor;
-use crate::frame;
 use crate::node;
 use crate::refusal::TermRefusal;
 use crate::term;
@@ -27,7 +25,7 @@ pub enum FillingAnswer {
 }
 
 // Where a complete term ends and how many levels it has, or where it is at fault.
-enum Value {
+pub(crate) enum Value {
     Read(usize, u8),
     Fault(usize),
 }
@@ -61,7 +59,7 @@ fn fault_at(
 }
 
 // Reads the complete term of a kind that stands at an offset of some bytes. Bytes may follow it.
-fn read_value<'a>(
+pub(crate) fn read_value<'a>(
     v: &[u8],
     b: &[u8],
     from: usize,
@@ -79,19 +77,19 @@ fn read_value<'a>(
         return Value::Fault(fault_at(&b[from..], from, 0, kind, words, results));
     }
     let f = node::wide(b[from]);
-    let past = cursor::start(from, b.len()).word(true);
+    let past = cursors::start(from).whole_word();
     if maps[f] == 0 {
         return Value::Read(past.at, past.deepest as u8);
     }
     let mut frames = [0u64; 32];
-    let first = past.down(frame::full(maps[f], offsets[f]));
+    let first = past.down(frames::full(maps[f], offsets[f]));
     let c = term::full_words(v, b, &mut frames, first, words, offsets, results, maps);
     let depth = c.depth;
     if depth == 0 {
         return Value::Read(c.at, c.deepest as u8);
     }
     let at = c.at;
-    let due = v[frame::kinds(c.due)];
+    let due = v[frames::kinds(c.due)];
     Value::Fault(fault_at(&b[at..], at, depth, due, words, results))
 }
 

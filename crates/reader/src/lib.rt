@@ -1,23 +1,21 @@
 // Document 01's check of a term, and the reading of several inputs under one loading of a vocabulary.
 ghost use mathlib.Core.Path.{_≡_};
-ghost use Rattle.wire.specs.Parser.{accept};
 ghost use Rattle.wire.specs.Checking.{TermPromise};
 ghost use Rattle.wire.specs.CheckComputed.{termReply};
-ghost use Rattle.signature.specs.Tables.{Tables, vocabularyIn};
+ghost use Rattle.signature.specs.Tables.{Tables};
 ghost use Rattle.reader.specs.Answers.{termNumbers};
 ghost use Rattle.reader.specs.Books.{BookRead};
 ghost use Rattle.reader.specs.Checked.{CheckedFrom};
 ghost use Rattle.reader.specs.Values.{PatternFilling, FillingJudged, FillingRead};
-ghost use Rattle.reader.specs.Whole.{pairNumbers, pairReply, told, bothTold, extentValues};
+ghost use Rattle.reader.specs.Pairs.{PairRead};
 use signature::VocabularyAnswer;
 use signature::VocabularyRefusal;
 use whole::Whole;
 
 pub mod book;
-mod cursor;
 pub mod filling;
-mod frame;
 mod node;
+pub mod pair;
 pub mod refusal;
 mod term;
 pub mod whole;
@@ -26,22 +24,16 @@ pub use book::BookAnswer;
 pub use book::BookRefusal;
 pub use filling::FillingAnswer;
 pub use filling::FillingRefusal;
+pub use pair::PairAnswer;
 pub use refusal::TermRefusal;
 pub use whole::Extent;
 
-// An accepted term's number of words and its deepest level, or why it or the vocabulary is refused.
+// An accepted term's number of words, its deepest level, whether it is complete and its first gap, which is its length where it
+// is, or why it or the vocabulary is refused.
 pub enum TermAnswer {
-    Accepted(usize, usize),
+    Accepted(usize, usize, bool, usize),
     Vocabulary(VocabularyRefusal),
     Term(TermRefusal),
-}
-
-// What reading two terms tells of them, or why the vocabulary or one of them is refused.
-pub enum PairAnswer {
-    Read(Extent, Extent),
-    Vocabulary(VocabularyRefusal),
-    First(TermRefusal),
-    Second(TermRefusal),
 }
 
 // Checks a term under a vocabulary.
@@ -65,58 +57,22 @@ pub fn load_term(vocabulary: &[u8], term: &[u8], results: &mut [u8; 96]) -> Term
             let words = node::wide(vocabulary[1]);
             match whole::read(vocabulary, term, words, &offsets, results, &maps) {
                 Whole::Refused(why) => TermAnswer::Term(why),
-                Whole::Read(x) => TermAnswer::Accepted(x.words, x.deepest),
+                Whole::Read(x) => TermAnswer::Accepted(x.words, x.deepest, x.complete, x.gap),
             }
         }
     }
 }
 
-// Reads a second term behind a first one, of which that is told.
-fn read_second<'a>(
-    v: &[u8],
-    x: Extent,
-    second: &[u8],
-    words: usize,
-    offsets: &'a [u16; 96],
-    results: &'a [u8; 96],
-    maps: &'a [u8; 96],
-) -> PairAnswer
-    requires { ⌜ Tables (now v) words (now offsets) (now results) (now maps) ⌝ }
-    ensures { λ r. ⌜ pairNumbers r ≡ bothTold (accept (extentValues x)) (told (vocabularyIn (now (v .entry))) (now (second .entry))) ⌝ }
-{
-    match whole::read(v, second, words, offsets, results, maps) {
-        Whole::Refused(why) => PairAnswer::Second(why),
-        Whole::Read(y) => PairAnswer::Read(x, y),
-    }
-}
-
-// Reads two terms under an accepted vocabulary. Where they are the same bytes, one reading is enough.
-fn read_both<'a>(
-    v: &[u8],
+// Reads a pattern and a situation under one loading of a vocabulary: the vocabulary first, then the one, then the other. Where
+// the situation is known to be the pattern with the parts that the spans give in place of its names, only the parts are read.
+pub fn read_pair(
+    vocabulary: &[u8],
     first: &[u8],
     second: &[u8],
-    words: usize,
-    offsets: &'a [u16; 96],
-    results: &'a [u8; 96],
-    maps: &'a [u8; 96],
+    spans: &[u16; 128],
+    agreed: bool,
 ) -> PairAnswer
-    requires { ⌜ Tables (now v) words (now offsets) (now results) (now maps) ⌝ }
-    ensures { λ r. ⌜ pairNumbers r ≡ bothTold (told (vocabularyIn (now (v .entry))) (now (first .entry))) (told (vocabularyIn (now (v .entry))) (now (second .entry))) ⌝ }
-{
-    match whole::read(v, first, words, offsets, results, maps) {
-        Whole::Refused(why) => PairAnswer::First(why),
-        Whole::Read(x) => {
-            if slices::equal(first, second) {
-                return PairAnswer::Read(x, x);
-            }
-            read_second(v, x, second, words, offsets, results, maps)
-        }
-    }
-}
-
-// Reads two terms under one loading of a vocabulary: the vocabulary first, then the one, then the other.
-pub fn read_pair(vocabulary: &[u8], first: &[u8], second: &[u8]) -> PairAnswer
-    ensures { λ r. ⌜ pairNumbers r ≡ pairReply (now (vocabulary .entry)) (now (first .entry)) (now (second .entry)) ⌝ }
+    ensures { λ r. ⌜ PairRead (now (vocabulary .entry)) (now (first .entry)) (now (second .entry)) (now (spans .entry)) agreed r ⌝ }
 {
     let mut offsets = [0u16; 96];
     let mut results = [0u8; 96];
@@ -125,7 +81,17 @@ pub fn read_pair(vocabulary: &[u8], first: &[u8], second: &[u8]) -> PairAnswer
         VocabularyAnswer::Refused(why) => PairAnswer::Vocabulary(why),
         VocabularyAnswer::Accepted => {
             let words = node::wide(vocabulary[1]);
-            read_both(vocabulary, first, second, words, &offsets, &results, &maps)
+            pair::read(
+                vocabulary,
+                first,
+                second,
+                spans,
+                agreed,
+                words,
+                &offsets,
+                &results,
+                &maps,
+            )
         }
     }
 }

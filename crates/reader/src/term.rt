@@ -3,16 +3,13 @@ ghost use mathlib.Core.Path.{_≡_};
 ghost use Prim.Native.Nat.{_+_, _<_, _≤_};
 ghost use lib.ListN.{length, replicate};
 ghost use Rattle.signature.specs.Tables.{Tables};
-ghost use Rattle.reader.specs.Frames.{runIn};
 ghost use Rattle.reader.specs.Cursors.{Going};
 ghost use Rattle.reader.specs.Full.{FullTest};
 ghost use Rattle.reader.specs.Terms.{Passed, NodeRead, NodesRead, WholeAt, TermRead};
-use crate::cursor;
-use crate::cursor::Cursor;
-use crate::frame;
 use crate::node;
 use crate::node::Node;
 use crate::refusal::TermRefusal;
+use cursors::Cursor;
 
 // How a reading goes on behind a node, or what is wrong there.
 enum Step {
@@ -71,14 +68,14 @@ pub(crate) fn full_words<'a>(
         let depth = c.depth;
         let due = c.due;
         if due % 256 == 0 {
-            if frame::written(due) == 0 {
+            if frames::written(due) == 0 {
                 c = c.up(frames[depth - 1]);
             } else {
-                c = c.onto(frame::advanced(due));
+                c = c.onto(frames::advanced(due));
             }
         } else {
             let at = c.at;
-            let kind = v[frame::kinds(due)];
+            let kind = v[frames::kinds(due)];
             if 31 < depth {
                 return c;
             }
@@ -86,11 +83,11 @@ pub(crate) fn full_words<'a>(
                 return c;
             }
             let f = node::wide(t[at]);
-            let rest = frame::passed(due);
-            c = c.onto(rest).word(true);
+            let rest = frames::passed(due);
+            c = c.onto(rest).whole_word();
             if maps[f] != 0 {
                 frames[depth] = rest;
-                c = c.down(frame::full(maps[f], offsets[f]));
+                c = c.down(frames::full(maps[f], offsets[f]));
             }
         }
     }
@@ -112,7 +109,7 @@ fn read_node<'a>(
 ) -> Step
     requires { ⌜ words ≤ 96 ⌝ }
     requires { ⌜ (length (now names) ≡ 64) × (length (now frames) ≡ 32) ⌝ }
-    requires { ⌜ (c .at ≤ length (now t)) × (c .words ≤ c .at) ⌝ }
+    requires { ⌜ (c .at ≤ length (now t)) × (c .words ≤ c .at) × (length (now t) ≤ 4096) ⌝ }
     ensures { λ r. ⌜ NodeRead (now (t .entry)) words (now (offsets .entry)) (now (results .entry)) (now (maps .entry)) kind c (now (names .entry)) (now (frames .entry)) (now (names .exit)) (now (frames .exit)) r ⌝ }
 {
     let at = c.at;
@@ -133,7 +130,7 @@ fn read_node<'a>(
                 return Step::Went(past);
             }
             frames[depth] = c.due;
-            Step::Went(past.down(frame::of_word(written, map, offsets[f])))
+            Step::Went(past.down(frames::of_word(written, map, offsets[f])))
         }
     }
 }
@@ -151,7 +148,7 @@ fn read_nodes<'a>(
     maps: &'a [u8; 96],
 ) -> Reading
     requires { ⌜ Tables (now v) words (now offsets) (now results) (now maps) ⌝ }
-    requires { ⌜ (length (now names) ≡ 64) × Going (now v) (now t) (replicate 32 0) from ⌝ }
+    requires { ⌜ (length (now names) ≡ 64) × Going (now v) (now t) (replicate 32 0) from × (length (now t) ≤ 4096) ⌝ }
     ensures { λ r. ⌜ NodesRead (now (v .entry)) (now (t .entry)) (now (names .entry)) from first (now (names .exit)) r ⌝ }
 {
     let mut frames = [0u64; 32];
@@ -178,8 +175,8 @@ fn read_nodes<'a>(
                 if past.depth == 0 {
                     return Reading::Read(past);
                 }
-                kind = v[frame::kinds(due)];
-                c = past.onto(frame::passed(due));
+                kind = v[frames::kinds(due)];
+                c = past.onto(frames::passed(due));
             }
         }
     }
@@ -209,10 +206,10 @@ pub(crate) fn read_term<'a>(
     maps: &'a [u8; 96],
 ) -> Reading
     requires { ⌜ Tables (now v) words (now offsets) (now results) (now maps) ⌝ }
-    requires { ⌜ (from ≤ length (now t)) × (length (now names) ≡ 64) ⌝ }
+    requires { ⌜ (from ≤ length (now t)) × (length (now names) ≡ 64) × (length (now t) ≤ 4096) ⌝ }
     ensures { λ r. ⌜ TermRead (now (v .entry)) (now (t .entry)) from kind (now (names .entry)) (now (names .exit)) r ⌝ }
 {
-    let c = cursor::start(from, t.len());
+    let c = cursors::start(from);
     if whole_at(t, from) {
         return Reading::Read(c.leaf());
     }

@@ -4,17 +4,18 @@ ghost use lib.ListN.{replicate};
 ghost use Rattle.signature.specs.Tables.{Tables, vocabularyIn};
 ghost use Rattle.reader.specs.Terms.{FrontRead};
 ghost use Rattle.reader.specs.Whole.{told, wholeTold, WholeRead};
-use crate::cursor;
 use crate::refusal::TermRefusal;
 use crate::term;
 use crate::term::Reading;
 
-// What reading a term tells of it: its words, its deepest level and the offset of its first gap, its length where it
-// has none.
+// What reading a term tells of it: its words, its deepest level, whether it is complete and the offset of its first gap, its
+// length where it has none, and whether a map in it is short.
 pub struct Extent {
     pub words: usize,
     pub deepest: usize,
+    pub complete: bool,
     pub gap: usize,
+    pub short: bool,
 }
 
 // What is told of a term, or why it is refused.
@@ -76,7 +77,9 @@ pub(crate) fn read_named<'a>(
             Whole::Read(Extent {
                 words: c.words,
                 deepest: c.deepest,
-                gap: cursor::least(c.gap, at),
+                complete: c.complete(),
+                gap: c.gap(),
+                short: c.short(),
             })
         }
     }

@@ -1,17 +1,27 @@
 -- Ending: where a ground term ends, and the terms that are due until then.
-use mathlib.Core.Path.{_≡_, ap, _∙_, subst}
-use mathlib.Core.List.{List, [], _∷_}
+--
+--   ends-inside                           it ends in the situation
+--   Ending s at i k                       k terms are due at i
+--   ending-begins, ending-turn, ending-four, ending-ends    so the end is found, node by node
+--   nodesLeft s end due                   more than the nodes that are left to pass, in any bytes
+--   Seeking s at end due                  the state while an end is looked for, in any bytes
+--   seeking-begins, seeking-one, seeking-four    its turns
+--
+use mathlib.Core.Path.{_≡_, refl, sym, ap, ap₂, _∙_, subst}
+use mathlib.Core.Bool.{Bool, true, false}
+use mathlib.Core.List.{List}
 use Prim.Native.Nat.{ℕ, suc, _+_, _-_, _*_, _<_, _≤_}
 use native.Mathlib.Omega.{arith}
 use lib.Count
-use lib.ListN.{length, length-append, length-drop}
-use Rattle.terms.specs.Term.{Grounds, gnil, gcons, SortedGs, asTerm, asTerms}
+use lib.Dec.{ltb}
+use lib.ListN.{length, length-append, length-drop, List·getD-eq-default}
+use borrow.Author.Tests.{ltb-true, ltb-false}
+use Rattle.terms.specs.Term.{asTerm}
 use Rattle.wire.specs.Map.{mapBytes, flags, ones}
-use Rattle.wire.specs.Vocabulary.{Vocabulary, signature, mapOf}
-use Rattle.wire.specs.TermBytes.{encodeAt, encodeAll}
+use Rattle.wire.specs.Vocabulary.{Vocabulary, mapOf}
+use Rattle.wire.specs.TermBytes.{encodeAt}
 use Rattle.wire.proofs.Map.{ones-count}
 use Rattle.wire.proofs.Words.{word-in-order}
-use Rattle.wire.proofs.GroundBytes.{size-least}
 use Rattle.wire.proofs.Pending.{Pending, Turn, pending-begins, pending-turn, pending-ends}
 use Rattle.spans.specs.Frames.{mapAt}
 use Rattle.spans.specs.Spans.{Standing, ends}
@@ -26,20 +36,6 @@ Ending s at i k = (a : Standing s at) → Pending (a .vocabulary) s (ends a) i k
 
 pub ending-begins : (s : List ℕ) (at : ℕ) → Ending s at at 1
 ending-begins s at a = pending-begins (a .vocabulary) s at (a .ground) (a .sort) (a .behind) (a .sorted) (a .stands) (a .inside)
-
--- A ground term has a node at least.
-terms-few : (W : Vocabulary) (gs : Grounds) (ks : List ℕ) → SortedGs (signature W) gs ks → (1 + mapBytes) * length ks ≤ length (encodeAll W (asTerms gs))
-terms-few W gnil [] h = omega arith
-terms-few W gnil (k ∷ ks) h = absurd h
-terms-few W (gcons g gs) [] h = absurd h
-terms-few W (gcons g gs) (k ∷ ks) h =
-    let ih = terms-few W gs ks (h .1) in
-    omega (arith, size-least W g, length-append (encodeAt W (asTerm g)) (encodeAll W (asTerms gs)))
-
-pub ending-few : {s : List ℕ} {at i k : ℕ} → Ending s at i k → Standing s at → i + (1 + mapBytes) * k ≤ length s
-ending-few {s} {at} {i} {k} e a =
-    let p = e a in
-    omega (arith, p .many, p .placed, p .inside, terms-few (a .vocabulary) (p .terms) (p .sorts) (p .sorted))
 
 pub ending-turn : {s : List ℕ} {at i k : ℕ} → Ending s at i k → 0 < k → Ending s at (i + (1 + mapBytes)) (k - 1 + Count.ones (mapAt s i))
 ending-turn {s} {at} {i} {k} e some a = go (pending-turn W (a .inOrder) s (ends a) i (k - 1) (subst (Pending W s (ends a) i) same (e a)))
@@ -85,3 +81,88 @@ pub ending-ends : {s : List ℕ} {at i k : ℕ} → Ending s at i k → k ≤ 0 
 ending-ends {s} {at} {i} {k} e none a =
     let zero : k ≡ 0 = omega arith in
     pending-ends (a .vocabulary) s (ends a) i (subst (Pending (a .vocabulary) s (ends a) i) zero (e a))
+
+-- ---- any bytes
+
+-- Behind the last byte each map is 0.
+map-behind : (s : List ℕ) (at : ℕ) → length s ≤ at + 1 → Count.ones (mapAt s at) ≡ 0
+unfolding Count.ones
+map-behind s at h = ap Count.ones (List·getD-eq-default s 0 h)
+
+-- More than the nodes that are left to pass, where so many terms are due: each map has at most 8 ones.
+abbrev pub nodesLeft : List ℕ → ℕ → ℕ → ℕ
+nodesLeft s end due = 32 * (length s - end) + due
+
+-- What is due while the end of what stands at `at` is looked for; the offsets stay small in any bytes.
+pub record Seeking (s : List ℕ) (at end due : ℕ) : Type 0 where
+  pub ending : Ending s at end due
+  pub later : at < end
+  pub near : end + (1 + mapBytes) * nodesLeft s end due ≤ 262144
+
+-- The state behind a turn, and that fewer nodes are left.
+pub record Sought (s : List ℕ) (at end due next more : ℕ) : Type 0 where
+  pub seeking : Seeking s at next more
+  pub fewer : nodesLeft s next more < nodesLeft s end due
+
+pub seeking-begins : (s : List ℕ) (at : ℕ) {m n : ℕ} → at ≤ length s → length s ≤ 4096 → m ≡ mapAt s at → n ≡ Count.ones m → n ≤ 8 →
+    Seeking s at (at + (1 + mapBytes)) n
+seeking-begins s at {m} {n} inside small map ones few = record {
+  ending = subst (Ending s at (at + (1 + mapBytes))) (let e : 1 - 1 + Count.ones (mapAt s at) ≡ n = omega (arith, ap Count.ones map) in e)
+      (ending-turn (ending-begins s at) (omega arith));
+  later = omega arith;
+  near = omega arith;
+}
+
+-- So many nodes are passed, whose maps have n ones.
+module _ {s : List ℕ} {at end due : ℕ} (c : Seeking s at end due) (nodes n : ℕ) (some : 0 < nodes) (more : nodes ≤ due) (few : n ≤ 32)
+    (none : length s ≤ end + 1 → n ≡ 0) (next : ℕ) (behind : next ≡ end + (1 + mapBytes) * nodes) where
+  fewer : nodesLeft s next (due - nodes + n) + nodes ≤ nodesLeft s end due
+  fewer = go (ltb (end + 1) (length s)) refl
+    where
+      go : (t : Bool) → ltb (end + 1) (length s) ≡ t → nodesLeft s next (due - nodes + n) + nodes ≤ nodesLeft s end due
+      go true e = let room = ltb-true (end + 1) (length s) e in omega arith
+      go false e = let zero = none (ltb-false (end + 1) (length s) e) in omega arith
+
+  passed : Ending s at next (due - nodes + n) → Sought s at end due next (due - nodes + n)
+  passed e = record {
+    seeking = record { ending = e; later = omega (arith, c .later); near = omega (arith, fewer, c .near) };
+    fewer = omega (arith, fewer);
+  }
+
+pub seeking-one : {s : List ℕ} {at end due m n : ℕ} → Seeking s at end due → 0 < due → m ≡ mapAt s end → n ≡ Count.ones m → n ≤ 8 →
+    Sought s at end due (end + (1 + mapBytes)) (due - 1 + n)
+seeking-one {s} {at} {end} {due} {m} {n} c some map ones few =
+    passed c 1 n (omega arith) some (omega arith) (λ h. counted ∙ map-behind s end h) (end + (1 + mapBytes)) (omega arith)
+    (subst (λ n. Ending s at (end + (1 + mapBytes)) (due - 1 + n)) (sym counted) (ending-turn (c .ending) some))
+  where
+    counted : n ≡ Count.ones (mapAt s end)
+    counted = ones ∙ ap Count.ones map
+
+pub seeking-four : {s : List ℕ} {at end due a b d e n : ℕ} → Seeking s at end due → 4 ≤ due →
+    a ≡ mapAt s end → b ≡ mapAt s (end + (1 + mapBytes)) → d ≡ mapAt s (end + (1 + mapBytes) + (1 + mapBytes)) →
+    e ≡ mapAt s (end + (1 + mapBytes) + (1 + mapBytes) + (1 + mapBytes)) →
+    n ≡ Count.ones a + Count.ones b + Count.ones d + Count.ones e → n ≤ 32 →
+    Sought s at end due (end + (1 + mapBytes) + (1 + mapBytes) + (1 + mapBytes) + (1 + mapBytes)) (due - 4 + n)
+seeking-four {s} {at} {end} {due} {a} {b} {d} {e} {n} c four first second third fourth ones few =
+    passed c 4 n (omega arith) four few (λ h. none h) (end + (1 + mapBytes) + (1 + mapBytes) + (1 + mapBytes) + (1 + mapBytes)) (omega arith)
+    (subst (λ n. Ending s at (end + (1 + mapBytes) + (1 + mapBytes) + (1 + mapBytes) + (1 + mapBytes)) (due - 4 + n)) (sym counted)
+    (ending-four (c .ending) four))
+  where
+    counted : n ≡ Count.ones (mapAt s end) + Count.ones (mapAt s (end + (1 + mapBytes))) + Count.ones (mapAt s (end + (1 + mapBytes) + (1 + mapBytes)))
+        + Count.ones (mapAt s (end + (1 + mapBytes) + (1 + mapBytes) + (1 + mapBytes)))
+    counted =
+        ones
+        ∙ ap₂ _+_ (ap₂ _+_ (ap₂ _+_ (ap Count.ones first) (ap Count.ones second)) (ap Count.ones third)) (ap Count.ones fourth)
+
+    none : length s ≤ end + 1 → n ≡ 0
+    none h =
+        let at2 : ℕ = end + (1 + mapBytes) in
+        let at3 : ℕ = at2 + (1 + mapBytes) in
+        omega (
+          arith,
+          counted,
+          map-behind s end h,
+          map-behind s at2 (omega arith),
+          map-behind s at3 (omega arith),
+          map-behind s (at3 + (1 + mapBytes)) (omega arith),
+        )

@@ -2,7 +2,7 @@
 --
 --   going-faces                         two terms are due first, at level 0
 --   going-differs, going-shared         a word: there is no filling, or it stands in both
---   going-same                          nodes that are the same: the walk goes on behind them
+--   going-full, going-same              nodes that are the same: the walk goes on behind them
 --   going-named, going-unnamed          a name: the walk goes on behind its part, or there is no filling
 --   shared-pattern, shared-situation    the nodes of a word that stands in both are there to read
 --
@@ -18,12 +18,12 @@ use Rattle.nodes.specs.Same.{SameNodes}
 use Rattle.wire.specs.Map.{mapBytes}
 use Rattle.wire.specs.Vocabulary.{InOrder}
 use Rattle.wire.proofs.GroundBytes.{known-word, joined}
-use Rattle.spans.specs.Frames.{mapAt}
-use Rattle.spans.specs.Spans.{Standing, Covered}
+use Rattle.spans.specs.Frames.{rest, mapAt}
+use Rattle.spans.specs.Spans.{Covered}
 use Rattle.spans.specs.Walking.{InputsRead, Walked, Side, Going, AtSharedWord}
 use Rattle.spans.proofs.Joined.{chained}
 use Rattle.spans.proofs.Offsets.{one-byte}
-use Rattle.spans.proofs.Side.{Facing, facing-shut, due, stands}
+use Rattle.spans.proofs.Side.{Facing, facing-shut, due}
 use Rattle.spans.proofs.Words.{AtWord, at-word, word-pattern, word-situation, word-differs, word-goes, word-shut}
 use Rattle.spans.proofs.Names.{AtName, at-name, name-inside, name-known, name-spans, name-goes, name-none}
 use Rattle.spans.proofs.Begin.{walked-none}
@@ -50,7 +50,7 @@ module _ {p s spans : List ℕ} {i j : ℕ} (c : Going p s spans i j) (some : i 
     pub going-shared : getD p i 0 ≡ getD s j 0 → AtSharedWord p s spans i j
     going-shared e = record { going = c; some = some; word = low; shared = e }
 
-    going-full : getD p i 0 ≡ getD s j 0 → mapAt p i ≡ mapAt s j → Going p s spans (i + (1 + mapBytes)) (j + (1 + mapBytes))
+    pub going-full : getD p i 0 ≡ getD s j 0 → mapAt p i ≡ mapAt s j → Going p s spans (i + (1 + mapBytes)) (j + (1 + mapBytes))
     going-full e full a =
         let at = going-word a in
         record {
@@ -72,10 +72,10 @@ module _ {p s spans : List ℕ} {i j : ℕ} (c : Going p s spans i j) (some : i 
     module _ {b : ℕ} (byte : b ≡ getD p i 0) where
       -- What covering the part asks for.
       pub going-covers : InputsRead p s →
-          Standing s j × (((b - 128 < 64) × (length s ≤ 4096)) × (getD spans (2 * (b - 128)) 0 + getD spans (2 * (b - 128) + 1) 0 ≤ length s))
+          ((b - 128 < 64) × (j ≤ length s) × (length s ≤ 4096)) × (getD spans (2 * (b - 128)) 0 + getD spans (2 * (b - 128) + 1) 0 ≤ length s)
       going-covers a =
           let at = going-name a in
-          (stands (at .side) (inOrder a), ((rw byte (name-known at), a .held .situation .limits .most), rw byte (name-spans at)))
+          ((rw byte (name-known at), at .side .insideSituation, a .held .situation .limits .most), rw byte (name-spans at))
 
       module _ {after : List ℕ} {r : ℕ} (covered : Covered s spans after (b - 128) j r) where
         here : Covered s spans after (getD p i 0 - 128) j r
@@ -103,10 +103,6 @@ part-low {p} {s} {spans} {i} {j} c some a = go (going-faces c some a .ground) (g
           known-word (a .inputs .vocabulary) (inOrder a) f hs (due c .0) (due c .1 .1 .ground .0),
           inOrder a .fewWords,
         )
-
--- The bytes from an offset on, as they are lent.
-abbrev rest : List ℕ → ℕ → List ℕ
-rest t i = take (length t - i) (drop i t)
 
 rest-inside : (t : List ℕ) (i n : ℕ) → i ≤ length t → n ≤ length (rest t i) → i + n ≤ length t
 rest-inside t i n inside l = omega (arith, length-take-le (length t - i) (drop i t) (omega (arith, length-drop i t)))

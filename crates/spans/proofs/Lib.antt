@@ -13,6 +13,7 @@
 --   Names      the turn at a name
 --   Begin      what is due before the first turn of a walk, and what follows behind the last
 --   Going      the turns of a walk while no open place is due
+--   Turns      the turns of the walk over bytes that nobody has read yet
 --   Framing    the turns of a walk through a word that has open places
 --   Left       .. come to an end
 --   Root       a name or 255 at the root
@@ -31,6 +32,7 @@ pub mod Words
 pub mod Names
 pub mod Begin
 pub mod Going
+pub mod Turns
 pub mod Framing
 pub mod Left
 pub mod Root

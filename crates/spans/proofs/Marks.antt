@@ -24,7 +24,7 @@ use Rattle.terms.specs.Signature.{Signature}
 use Rattle.terms.specs.Term.{Terms, nil, cons, SortedAll}
 use Rattle.wire.specs.Map.{mapBits, flagsIn, flags, bit, number, ones, isOpen, writtenFlags}
 use Rattle.wire.specs.TermBytes.{levels, levelsAll}
-use Rattle.wire.specs.SituationComputed.{someOpen}
+use Rattle.wire.specs.GapComputed.{someOpen}
 use Rattle.spans.specs.Frames.{writtenIn, placesIn, TwoMaps}
 use Rattle.spans.specs.Walking.{Shut}
 use Rattle.spans.proofs.Joined.{chained}

@@ -67,7 +67,7 @@ module _ (spans : List ℕ) (n at l : ℕ) (long : length spans ≡ 128) (low : 
   pub set-length : getD (withSpan spans n at l) (2 * n + 1) 0 ≡ l
   set-length = getD-set-same (set spans (2 * n) at) (2 * n + 1) l 0 (omega (arith, length-set spans (2 * n) at))
 
-  set-offset : getD (withSpan spans n at l) (2 * n) 0 ≡ at
+  pub set-offset : getD (withSpan spans n at l) (2 * n) 0 ≡ at
   set-offset =
       let apart : 2 * n ≢ 2 * n + 1 = (λ e. omega arith) in
       getD-set-other (set spans (2 * n) at) (2 * n + 1) (2 * n) l 0 apart ∙ getD-set-same spans (2 * n) at 0 (omega arith)

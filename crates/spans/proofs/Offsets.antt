@@ -3,10 +3,11 @@
 --   OneByte l i a r     the byte a stands at the offset i of l, and r behind it
 --   Node l i f m r      the word f and its map m stand there, and r behind them
 --   offset-fits         an offset does not wrap
+--   offset-low          .. and a map can be looked for there
 --
 use mathlib.Core.Path.{_≡_, sym, ap, _∙_}
 use mathlib.Core.List.{List, _∷_, _++_}
-use Prim.Native.Nat.{ℕ, _+_, _≤_}
+use Prim.Native.Nat.{ℕ, _+_, _<_, _≤_}
 use native.Mathlib.Nat.{le-trans}
 use native.Mathlib.Omega.{arith}
 use mir.Syntax.{w64}
@@ -15,7 +16,7 @@ use mir.Facts.{fits-below}
 use lib.ListN.{length, getD, drop, length-drop}
 use lib.Seq.{drop-drop, getD-drop}
 use Rattle.wire.specs.Map.{mapBytes, writeMap}
-use Rattle.spans.specs.Frames.{mapAt}
+use Rattle.spans.specs.Frames.{mostOffset, mapAt}
 
 pub record OneByte (l : List ℕ) (i a : ℕ) (r : List ℕ) : Type 0 where
   pub first : getD l i 0 ≡ a
@@ -45,3 +46,6 @@ node l i f m r e = record {
 
 pub offset-fits : {n m : ℕ} → n ≤ m → m ≤ 4096 → Fits w64 n
 offset-fits h small = fits-below tt (le-trans h small)
+
+pub offset-low : {n m : ℕ} → n + (1 + mapBytes) ≤ m → m ≤ 4096 → n < mostOffset
+offset-low h small = omega arith

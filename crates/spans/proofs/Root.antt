@@ -12,7 +12,7 @@ use native.Mathlib.Omega.{arith}
 use lib.ListN.{length, getD, replicate, length-drop, getD-replicate}
 use Rattle.terms.specs.Term.{Term, any, var, app, nil, cons, gnil, gcons}
 use Rattle.terms.specs.Matcher.{matcher}
-use Rattle.wire.specs.SituationComputed.{someOpen}
+use Rattle.wire.specs.GapComputed.{someOpen}
 use Rattle.wire.specs.Matching.{Inputs, size}
 use Rattle.wire.specs.MatchComputed.{spanTable}
 use Rattle.wire.proofs.Words.{length-symbols}

@@ -22,7 +22,7 @@ use Rattle.terms.proofs.Bools.{or-parts}
 use Rattle.wire.specs.Vocabulary.{Vocabulary, signature, InOrder}
 use Rattle.wire.specs.Map.{isOpen}
 use Rattle.wire.specs.TermBytes.{encodeAt, encodeAll}
-use Rattle.wire.specs.SituationComputed.{someOpen}
+use Rattle.wire.specs.GapComputed.{someOpen}
 use Rattle.wire.specs.Matching.{Inputs, size}
 use Rattle.spans.specs.Spans.{Standing}
 use Rattle.spans.specs.Walking.{Side, Shut}

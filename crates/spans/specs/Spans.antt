@@ -6,6 +6,7 @@
 --   Standing s at               a ground term stands in the bytes s at an offset
 --   ends a                      where it ends
 --   Covered                     what covering the part at an offset by a name does to the spans, and its answer
+--   KnownEnd s spans name at r  .. where a part is noted already; it passes a byte only then
 --   bound bs n                  what the bindings bs give the name n
 --   Holding W s x h             the span x of the bytes s holds the ground term h
 --   Told W s x o                a span is noted exactly where the name is bound, and it holds what the name is bound to
@@ -14,7 +15,7 @@ use mathlib.Core.Path.{_≡_}
 use mathlib.Core.Bool.{cond}
 use mathlib.Core.List.{List, [], _∷_, _++_}
 use mathlib.Core.Option.{Option, some, none}
-use Prim.Native.Nat.{ℕ, _+_, _-_, _*_, _≤_}
+use Prim.Native.Nat.{ℕ, _+_, _-_, _*_, _<_, _≤_}
 use lib.Dec.{eqb}
 use lib.ListN.{length, getD, take, drop, set}
 use Rattle.terms.specs.Term.{Ground, SortedG, asTerm}
@@ -48,6 +49,8 @@ ends {at} a = at + size (a .vocabulary) (a .ground)
 pub record Covered (s before after : List ℕ) (name at end : ℕ) : Type 0 where
   -- The first time the part is noted.
   pub new : getD before (2 * name + 1) 0 ≡ 0 → (a : Standing s at) → (end ≡ ends a) × (after ≡ withSpan before name at (end - at))
+  pub noting : getD before (2 * name + 1) 0 ≡ 0 → (end ≡ 0 → ⊥) → (at < end) × (after ≡ withSpan before name at (end - at))
+  pub inside : (end ≡ 0 → ⊥) → end ≤ length s
   -- Later it must be the part that is noted.
   pub kept : (getD before (2 * name + 1) 0 ≡ 0 → ⊥) → after ≡ before
   pub yes : (getD before (2 * name + 1) 0 ≡ 0 → ⊥) → (end ≡ 0 → ⊥) →
@@ -55,6 +58,10 @@ pub record Covered (s before after : List ℕ) (name at end : ℕ) : Type 0 wher
       × (take (getD before (2 * name + 1) 0) (drop (getD before (2 * name) 0) s) ≡ take (getD before (2 * name + 1) 0) (drop at s))
   pub no : (getD before (2 * name + 1) 0 ≡ 0 → ⊥) → end ≡ 0 → at + getD before (2 * name + 1) 0 ≤ length s →
       take (getD before (2 * name + 1) 0) (drop (getD before (2 * name) 0) s) ≡ take (getD before (2 * name + 1) 0) (drop at s) → ⊥
+
+pub record KnownEnd (s spans : List ℕ) (name at end : ℕ) : Type 0 where
+  pub noted : at < end → getD spans (2 * name + 1) 0 ≡ 0 → ⊥
+  pub covered : (getD spans (2 * name + 1) 0 ≡ 0 → ⊥) → Covered s spans spans name at end
 
 abbrev pub bound : List Binding → ℕ → Option Ground
 bound [] n = none

@@ -28,7 +28,7 @@ use Rattle.terms.specs.Matcher.{matchAll, matcher}
 use Rattle.wire.specs.Map.{mapBytes}
 use Rattle.wire.specs.Vocabulary.{signature}
 use Rattle.wire.specs.TermBytes.{nameCount, encodeAll, levelsAll}
-use Rattle.wire.specs.SituationComputed.{someOpen}
+use Rattle.wire.specs.GapComputed.{someOpen}
 use Rattle.wire.specs.Matching.{Inputs, HoldsInputs, spanFrom, spanAll}
 use Rattle.wire.specs.MatchComputed.{spanTable}
 use Rattle.spans.specs.Spans.{spanAt, Standing, Covered, bound, Told}

@@ -3,15 +3,18 @@ ghost use mathlib.Core.Path.{_≡_};
 ghost use Prim.Native.Nat.{_+_, _*_, _/_, _<_, _≤_};
 ghost use lib.Count.{ones};
 ghost use lib.ListN.{length, getD, replicate};
-ghost use Rattle.wire.specs.Map.{mapBytes};
 ghost use Rattle.wire.specs.Effect.{HasEffect};
 ghost use Rattle.wire.specs.MatchComputed.{matched};
 ghost use Rattle.spans.specs.Answers.{spansNumbers};
-ghost use Rattle.spans.specs.Frames.{mapAt, placesIn, writtenIn, TwoMaps};
-ghost use Rattle.spans.specs.Spans.{withSpan, Standing, ends, Covered};
-ghost use Rattle.spans.specs.Walking.{InputsRead, Walked, AtSharedWord, WordWalked, AtPlace, PlacePassed};
+ghost use Rattle.nodes.specs.Same.{SameNodes};
+ghost use Rattle.spans.specs.Frames.{mostOffset, rest, mapAt, placesIn, writtenIn, TwoMaps};
+ghost use Rattle.spans.specs.Spans.{withSpan, Standing, ends, Covered, KnownEnd};
+ghost use Rattle.spans.specs.Walking.{InputsRead, Walked, Going, AtSharedWord, WordWalked, AtPlace, PlacePassed};
+ghost use Rattle.spans.specs.Front.{Paused};
 use inputs::InputsAnswer;
 use inputs::InputsRefusal;
+
+mod front;
 
 // Whether a pattern fits a situation, or why the inputs are refused.
 pub enum SpansAnswer {
@@ -32,9 +35,9 @@ fn wide16(x: u16) -> usize
     x as usize
 }
 
-// The map of the word at an offset.
+// The map of the word at an offset, 0 where it is missing.
 fn map_at(t: &[u8], at: usize) -> u8
-    requires { ⌜ at + (1 + mapBytes) ≤ length (now t) ⌝ }
+    requires { ⌜ at < mostOffset ⌝ }
     ensures { λ r. ⌜ r ≡ mapAt (now (t .entry)) at ⌝ }
 {
     maps::read(t, at + 1)
@@ -56,14 +59,14 @@ fn count_four(a: u8, b: u8, c: u8, d: u8) -> usize
     u32::count_ones(low + 65536 * high) as usize
 }
 
-// Where the term that begins at an offset of a complete situation ends: its words' maps say how many
-// more terms are due. Where four are due the next four maps are counted in one go.
+// Where the term that begins at an offset ends: its words' maps say how many more terms are due. Where four are due the
+// next four maps are counted in one go. The bytes may be any: an end behind the last one says that they end before.
 fn end_of(s: &[u8], at: usize) -> usize
-    requires { ⌜ Standing (now s) at ⌝ }
-    ensures { λ r. ⌜ ((a : Standing (now (s .entry)) at) → r ≡ ends a) ⌝ }
+    requires { ⌜ (at ≤ length (now s)) × (length (now s) ≤ 4096) ⌝ }
+    ensures { λ r. ⌜ (at < r) × ((a : Standing (now (s .entry)) at) → r ≡ ends a) ⌝ }
 {
-    let mut end = at;
-    let mut due: usize = 1;
+    let mut due = count(map_at(s, at));
+    let mut end = at + maps::NODE;
     while 0 < due {
         if due < 4 {
             due = due - 1 + count(map_at(s, end));
@@ -94,20 +97,14 @@ fn note(spans: &mut [u16; 128], name: usize, at: usize, n: usize)
     spans[2 * name + 1] = n as u16;
 }
 
-// Where the part that a name covers from an offset on ends. The first time it is noted. Later the bytes of that part
-// must stand here too, which then end where the part does; 0 says that they do not.
-fn cover(s: &[u8], spans: &mut [u16; 128], name: usize, at: usize) -> usize
-    requires { ⌜ Standing (now s) at ⌝ }
-    requires { ⌜ (name < 64) × (length (now s) ≤ 4096) ⌝ }
+// Where the part that is noted for a name ends, if its bytes stand at an offset too, else 0. Where none is noted no byte
+// is passed.
+fn known_end(s: &[u8], spans: &[u16; 128], name: usize, at: usize) -> usize
+    requires { ⌜ (name < 64) × (at ≤ length (now s)) × (length (now s) ≤ 4096) ⌝ }
     requires { ⌜ getD (now spans) (2 * name) 0 + getD (now spans) (2 * name + 1) 0 ≤ length (now s) ⌝ }
-    ensures { λ r. ⌜ Covered (now (s .entry)) (now (spans .entry)) (now (spans .exit)) name at r ⌝ }
+    ensures { λ r. ⌜ KnownEnd (now (s .entry)) (now (spans .entry)) name at r ⌝ }
 {
     let n = wide16(spans[2 * name + 1]);
-    if n == 0 {
-        let end = end_of(s, at);
-        note(spans, name, at, end - at);
-        return end;
-    }
     if s.len() - at < n {
         return 0;
     }
@@ -116,6 +113,25 @@ fn cover(s: &[u8], spans: &mut [u16; 128], name: usize, at: usize) -> usize
         return at + n;
     }
     0
+}
+
+// Where the part that a name covers from an offset on ends. The first time it is noted. Later the bytes of that part
+// must stand here too, which then end where the part does; 0 says that they do not, or that the bytes end before.
+fn cover(s: &[u8], spans: &mut [u16; 128], name: usize, at: usize) -> usize
+    requires { ⌜ (name < 64) × (at ≤ length (now s)) × (length (now s) ≤ 4096) ⌝ }
+    requires { ⌜ getD (now spans) (2 * name) 0 + getD (now spans) (2 * name + 1) 0 ≤ length (now s) ⌝ }
+    ensures { λ r. ⌜ Covered (now (s .entry)) (now (spans .entry)) (now (spans .exit)) name at r ⌝ }
+{
+    let n = wide16(spans[2 * name + 1]);
+    if n == 0 {
+        let end = end_of(s, at);
+        if s.len() < end {
+            return 0;
+        }
+        note(spans, name, at, end - at);
+        return end;
+    }
+    known_end(s, spans, name, at)
 }
 
 // The places of a word that are due: its written map, and behind it its place map, both shifted past
@@ -221,18 +237,25 @@ fn walk_word(p: &[u8], s: &[u8], spans: &mut [u16; 128], from: usize, at: usize)
     }
 }
 
-// Goes through a pattern and a situation side by side, and notes the part that each name covers. While no open place
-// is due what is left of the pattern stands for what is left of the situation.
-fn walk_words(p: &[u8], s: &[u8], spans: &mut [u16; 128]) -> bool
+// How many bytes of nodes are the same in both from two offsets on.
+fn same_nodes(p: &[u8], s: &[u8], i: usize, j: usize) -> usize
+    requires { ⌜ (i ≤ length (now p)) × (j ≤ length (now s)) ⌝ }
+    ensures { λ r. ⌜ SameNodes (rest (now (p .entry)) i) (rest (now (s .entry)) j) r ⌝ }
+{
+    nodes::same_front(&p[i..], &s[j..])
+}
+
+// Goes through a pattern and a situation side by side, from two offsets on, and notes the part that each name covers.
+// While no open place is due what is left of the pattern stands for what is left of the situation.
+fn walk_words(p: &[u8], s: &[u8], spans: &mut [u16; 128], from: usize, at: usize) -> bool
     requires { ⌜ InputsRead (now p) (now s) ⌝ }
-    requires { ⌜ now spans ≡ replicate 128 0 ⌝ }
-    requires { ⌜ getD (now p) 1 0 < 128 ⌝ }
+    requires { ⌜ Going (now p) (now s) (now spans) from at ⌝ }
     ensures { λ r. ⌜ Walked (now (p .entry)) (now (s .entry)) (now (spans .exit)) r ⌝ }
 {
-    let mut i: usize = 1;
-    let mut j: usize = 1;
+    let mut i = from;
+    let mut j = at;
     while i < p.len() {
-        let n = nodes::same_front(&p[i..], &s[j..]);
+        let n = same_nodes(p, s, i, j);
         i += n;
         j += n;
         if i < p.len() {
@@ -259,16 +282,19 @@ fn walk_words(p: &[u8], s: &[u8], spans: &mut [u16; 128]) -> bool
     true
 }
 
-// Goes through a pattern and a situation, from the root on. A name or 255 there covers the whole situation, so that its
+// Goes on where the walk over the unread bytes stopped. A name or 255 at the root covers the whole situation, so that its
 // end need not be looked for.
-fn walk(p: &[u8], s: &[u8], spans: &mut [u16; 128]) -> bool
+fn walk(p: &[u8], s: &[u8], spans: &mut [u16; 128], from: usize, at: usize) -> bool
     requires { ⌜ InputsRead (now p) (now s) ⌝ }
-    requires { ⌜ now spans ≡ replicate 128 0 ⌝ }
+    requires { ⌜ Paused (now p) (now s) (now spans) from at ⌝ }
     ensures { λ r. ⌜ Walked (now (p .entry)) (now (s .entry)) (now (spans .exit)) r ⌝ }
 {
+    if from == 0 {
+        return false;
+    }
     let root = p[1];
     if root < 128 {
-        return walk_words(p, s, spans);
+        return walk_words(p, s, spans, from, at);
     }
     if root != 255 {
         note(spans, wide(root) - 128, 1, s.len() - 1);
@@ -277,7 +303,7 @@ fn walk(p: &[u8], s: &[u8], spans: &mut [u16; 128]) -> bool
 }
 
 // Judges a pattern and a situation and, where the pattern fits, leaves the part that each name covers in the table;
-// after any other answer the table is blank.
+// after any other answer the table is blank. The walk comes before the reading, as far as no word has open places.
 pub fn find(
     vocabulary: &[u8],
     pattern: &[u8],
@@ -287,13 +313,15 @@ pub fn find(
     ensures { λ r. ⌜ HasEffect (matched (now (vocabulary .entry)) (now (pattern .entry)) (now (situation .entry)) (replicate 128 0)) (spansNumbers r) (now (spans .exit)) ⌝ }
 {
     *spans = [0u16; 128];
-    match inputs::judge(vocabulary, pattern, situation) {
+    let front = front::walk_front(pattern, situation, spans);
+    match inputs::judge(vocabulary, pattern, situation, spans, front.agreed) {
         InputsAnswer::Refused(why) => {
+            *spans = [0u16; 128];
             return SpansAnswer::Refused(why);
         }
         InputsAnswer::Clear => {}
     }
-    if walk(pattern, situation, spans) {
+    if walk(pattern, situation, spans, front.pattern, front.situation) {
         return SpansAnswer::Fits;
     }
     *spans = [0u16; 128];

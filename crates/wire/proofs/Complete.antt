@@ -10,7 +10,8 @@ use Rattle.terms.proofs.Ground.{ground-sorted, sorted-ground, ground-names, gro
 use Rattle.wire.specs.Map.{mapBytes, isOpen}
 use Rattle.wire.specs.Vocabulary.{Vocabulary, signature}
 use Rattle.wire.specs.TermBytes.{GoodTerm, complete, completeAll, encodeAt}
-use Rattle.wire.specs.SituationComputed.{ground, grounds, someOpen, gapFrom, gapAll}
+use Rattle.wire.specs.GapComputed.{someOpen, gapFrom, gapAll}
+use Rattle.wire.specs.SituationComputed.{ground, grounds}
 use Rattle.terms.specs.Lists.{orElse}
 use Rattle.wire.specs.Laws.{CompleteIsGround, NoGapIsComplete}
 

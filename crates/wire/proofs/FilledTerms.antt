@@ -1,5 +1,6 @@
 -- FilledTerms: a pattern with each name replaced: it is good, where it is complete, and its written maps and bytes.
 --
+--   replaced-good              it is good where the values are of the kinds due
 --   filled-is-good, complete-without-open-place    the laws
 --   filled-open, filled-map    an open place stays open, and everything else stays written
 --   filled-bytes               the bytes of a word with its names replaced
@@ -14,24 +15,30 @@ use Rattle.terms.specs.Term.{Term, any, var, app, Terms, nil, cons, openingsAll
 use Rattle.terms.specs.Filling.{Binding, valueOf}
 use Rattle.terms.specs.Replacing.{replace, replaceAll}
 use Rattle.terms.proofs.Bools.{and-parts, and-both}
+use Rattle.terms.proofs.Fill.{Bound}
 use Rattle.terms.proofs.Replacing.{replace-names, replace-occurrences, replace-sorted}
 use Rattle.wire.specs.Map.{writeMap, flags, number, isOpen, writtenFlags}
 use Rattle.wire.specs.Vocabulary.{Vocabulary, signature, mapOf}
-use Rattle.wire.specs.TermBytes.{writtenMap, encodeAt, encodeAll, complete, completeAll}
+use Rattle.wire.specs.TermBytes.{writtenMap, encodeAt, encodeAll, GoodTerm, complete, completeAll}
 use Rattle.wire.specs.Laws.{FilledIsGood, CompleteWithoutOpenPlace}
 use Rattle.wire.proofs.Complete.{ground-complete}
 use Rattle.wire.proofs.GroundBytes.{ground-shut}
 
-pub filled-is-good : FilledIsGood
-filled-is-good W s t bs good filling =
+-- The values' kinds are all that counts.
+pub replaced-good : (W : Vocabulary) (s : ℕ) (t : Term) (bs : List Binding) → GoodTerm W s t → Bound (signature W) bs t s →
+    GoodTerm W s (replace bs t)
+replaced-good W s t bs good bound =
     record {
       kind = good .kind;
       sorted = record {
-        sorted = replace-sorted (signature W) bs t s (good .sorted .sorted) (filling .sorted);
+        sorted = replace-sorted (signature W) bs t s (good .sorted .sorted) bound;
         consistent = rw (replace-occurrences (signature W) bs t s) tt;
       };
       named = rw (replace-names bs t) tt;
     }
+
+pub filled-is-good : FilledIsGood
+filled-is-good W s t bs good filling = replaced-good W s t bs good (filling .sorted)
 
 mutual
   pub complete-without-open-place : CompleteWithoutOpenPlace

@@ -3,6 +3,7 @@
 --   valuesOf bs             the values of the bindings bs
 --   bindings-parts, bindings-joined, bindings-back    names and values put together, and taken apart
 --   row-values              the values are written as those terms
+--   names-hold              what holds of each name at the kind due holds of each occurrence
 --   dueOf l n               what is due for the name n, whose occurrences l tells
 --   values-good, good-sorted, good-fits    bindings of the pattern's names are a good filling exactly where their values
 --                           are of the kinds due, and fit
@@ -74,7 +75,7 @@ module _ (W : Vocabulary) (s : ℕ) (t : Term) (good : GoodTerm W s t) (P : ℕ 
       (ascending t) (all-keep (λ n. Unit {0}) (λ n. occurs n (names t)) (range 0 nameCount) (all-always (λ n. Unit {0}) (λ n. tt) (range 0 nameCount)))
 
   -- For any names among which each of the pattern's is.
-  names-hold : (ns : List ℕ) → ((n : ℕ) → occurs n (names t) ≡ true → occurs n ns ≡ true) →
+  pub names-hold : (ns : List ℕ) → ((n : ℕ) → occurs n (names t) ≡ true → occurs n ns ≡ true) →
       All (λ n. P n (sortIn seen n)) ns → All (λ o. P (o .name) (o .sort)) seen
   names-hold ns among a =
       all-implies (λ o. (occurs (o .name) (names t) ≡ true) × (sortIn seen (o .name) ≡ o .sort)) (λ o. P (o .name) (o .sort))

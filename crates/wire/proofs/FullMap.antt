@@ -11,7 +11,7 @@ use Rattle.terms.specs.Term.{Terms, nil, cons, SortedAll}
 use Rattle.terms.proofs.Bools.{or-parts, or-neither}
 use Rattle.wire.specs.Map.{flags, number, ones, isOpen, writtenFlags}
 use Rattle.wire.specs.Vocabulary.{mapOf, word}
-use Rattle.wire.specs.SituationComputed.{someOpen}
+use Rattle.wire.specs.GapComputed.{someOpen}
 use Rattle.wire.specs.Laws.{FullMapMeansNoOpenPlace}
 use Rattle.wire.proofs.Map.{number-flags, flags-written}
 use Rattle.wire.proofs.Words.{word-in-order}

@@ -12,7 +12,7 @@ use Rattle.terms.specs.Term.{Term, any, var, app, Terms, nil, cons, Sorted, Sor
 use Rattle.wire.specs.Map.{mapBytes}
 use Rattle.wire.specs.Vocabulary.{Vocabulary, signature, word, InOrder}
 use Rattle.wire.specs.TermBytes.{encodeAt, encodeAll}
-use Rattle.wire.specs.SituationComputed.{someOpen, gapFrom, gapAll, firstGap}
+use Rattle.wire.specs.GapComputed.{someOpen, gapFrom, gapAll, firstGap}
 use Rattle.terms.specs.Lists.{orElse}
 use Rattle.wire.specs.SituationLines.{GapAt, GapsAt, Gap, FirstGap}
 use Rattle.wire.specs.Laws.{FirstGapIsExact}

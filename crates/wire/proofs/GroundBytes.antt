@@ -19,7 +19,8 @@ use Rattle.terms.proofs.Ground.{ground-sorted}
 use Rattle.wire.specs.Map.{mapBytes, writeMap, flags, ones, isOpen}
 use Rattle.wire.specs.Vocabulary.{Vocabulary, signature, mapOf, InOrder}
 use Rattle.wire.specs.TermBytes.{writtenMap, encodeAt, encodeAll, encodeRoot, wordCount, wordCountAll}
-use Rattle.wire.specs.SituationComputed.{ground, grounds, someOpen}
+use Rattle.wire.specs.GapComputed.{someOpen}
+use Rattle.wire.specs.SituationComputed.{ground, grounds}
 use Rattle.wire.specs.Matching.{size}
 use Rattle.wire.proofs.Complete.{ground-good}
 use Rattle.wire.proofs.Front.{root-front}

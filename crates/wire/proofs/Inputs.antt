@@ -15,7 +15,8 @@ use Rattle.wire.specs.Parser.{Reading, accept, refuse, readVocabulary}
 use Rattle.wire.specs.Reply.{IsBytes, Kinded, kinded}
 use Rattle.wire.specs.Vocabulary.{Vocabulary, InOrder, HoldsVocabulary}
 use Rattle.wire.specs.TermBytes.{leastBytes, HoldsTerm, complete}
-use Rattle.wire.specs.SituationComputed.{ground, firstGap, situationOf, situationIn, checkedSituation}
+use Rattle.wire.specs.GapComputed.{firstGap}
+use Rattle.wire.specs.SituationComputed.{ground, situationOf, situationIn, checkedSituation}
 use Rattle.wire.specs.CheckComputed.{checkedTerm}
 use Rattle.wire.specs.Matching.{Inputs, HoldsInputs}
 use Rattle.wire.specs.MatchComputed.{Judged, clear, refusal, judgedSituation, judgedPattern, judgedVocabulary, judged}

@@ -92,6 +92,7 @@ pub mod FillingPath
 pub mod FillingRefusals
 pub mod FillJudging
 pub mod FilledTerms
+pub mod Splicing
 pub mod FilledMatches
 pub mod FillKeeps
 pub mod FillExample

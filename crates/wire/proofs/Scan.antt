@@ -11,7 +11,7 @@
 --   scan-reads                a scan from a term's first byte tells what readTerm reads
 --
 use mathlib.Core.Path.{_≡_, refl, sym, ap, _∙_}
-use mathlib.Core.Bool.{Bool, true, false, not, true≢false, false≢true}
+use mathlib.Core.Bool.{Bool, true, false, not, _||_, or-false, or-assoc, true≢false, false≢true}
 use mathlib.Core.List.{List, [], _∷_, _++_}
 use mathlib.Core.Option.{Option, some, none}
 use Prim.Native.Nat.{ℕ, zero, suc, pred, _+_, _-_, _<_, _≤_, max}
@@ -26,8 +26,8 @@ use Rattle.wire.specs.Vocabulary.{Vocabulary}
 use Rattle.wire.specs.TermBytes.{encodeAt, encodeAll, wordCount, wordCountAll, levels, levelsAll, deepest, mostLevels}
 use Rattle.wire.specs.TermLines.{Due, dueAt}
 use Rattle.wire.specs.Parser.{Got, got, stop, andThen, Node, wordHere, nameHere, wholeHere, fault, node, atLimit, Read, ReadAll, withFirst, readSlots, fromNode, readTerm}
-use Rattle.wire.specs.SituationComputed.{someOpen, gapFrom, gapAll}
-use Rattle.wire.specs.Scan.{everyWritten, Tally, withWord, Scanned, scanNode, scan, run, rootDue, noTally, gapHere, leftFrom, tallied}
+use Rattle.wire.specs.GapComputed.{someOpen, gapFrom, gapAll}
+use Rattle.wire.specs.Scan.{everyWritten, Tally, withWord, Scanned, scanNode, scan, run, rootDue, noTally, gapHere, leftFrom, hasShort, someShort, tallied}
 use Rattle.wire.proofs.Cond.{first-arm, second-arm, either}
 use Rattle.wire.proofs.Node.{NodeStands, node-stands}
 use Rattle.wire.proofs.ScanGap.{left-else, else-assoc, gaps-shift, gap-here, word-gap}
@@ -107,6 +107,7 @@ withTerm W level n y t = record {
   words = y .words + wordCount t;
   deepest = max (y .deepest) (pred level + deepest t);
   gap = orElse (y .gap) (leftFrom n (gapHere W t));
+  short = y .short || hasShort t;
 }
 
 abbrev withTerms : Vocabulary → ℕ → ℕ → Tally → Terms → Tally
@@ -114,10 +115,11 @@ withTerms W level n y ts = record {
   words = y .words + wordCountAll ts;
   deepest = max (y .deepest) (level + levelsAll ts);
   gap = orElse (y .gap) (leftFrom n (gapAll W ts 0));
+  short = y .short || someShort ts;
 }
 
-pub same-tally : (y z : Tally) → y .words ≡ z .words → y .deepest ≡ z .deepest → y .gap ≡ z .gap → y ≡ z
-same-tally y z p q o = λ i. record { words = p i; deepest = q i; gap = o i }
+pub same-tally : (y z : Tally) → y .words ≡ z .words → y .deepest ≡ z .deepest → y .gap ≡ z .gap → y .short ≡ z .short → y ≡ z
+same-tally y z p q o b = λ i. record { words = p i; deepest = q i; gap = o i; short = b i }
 
 else-none : (o : Option ℕ) → orElse o none ≡ o
 else-none none = refl
@@ -270,19 +272,20 @@ run-slot W left ih level e k ks rest ds seen y l h = go (k .written)
         rest ds (a .seen) (withTerm W (suc level) (length l) y (a .term)) r (omega arith)
         ∙ then-same (readSlots reader ks (a .seen) r) _ _
         (λ ts r′. ap (λ z. run W ds (ts .seen) z r′)
-        (same-tally _ _ (omega arith) (omega arith) (first-gap W (y .gap) (a .term) (ts .terms) (length l) (length r) (p .closed) (p .bytes))))
+        (same-tally _ _ (omega arith) (omega arith) (first-gap W (y .gap) (a .term) (ts .terms) (length l) (length r) (p .closed) (p .bytes))
+        (or-assoc (y .short) (hasShort (a .term)) (someShort (ts .terms)))))
         ∙ sym (then-then (readSlots reader ks (a .seen) r) _ _))
         ∙ sym (then-then (reader (k .sort) seen l) _ _)
     go false =
         rest ds seen y l h
         ∙ then-same (readSlots reader ks seen l) _ _
-        (λ ts r′. ap (λ z. run W ds (ts .seen) z r′) (same-tally _ _ (omega arith) (omega arith) refl))
+        (λ ts r′. ap (λ z. run W ds (ts .seen) z r′) (same-tally _ _ (omega arith) (omega arith) refl refl))
         ∙ sym (then-then (readSlots reader ks seen l) _ _)
 
 run-slots : (W : Vocabulary) (left : ℕ) → RunReads W left → (level : ℕ) → suc level + left ≡ suc mostLevels →
     (ks : List Slot) → RunReadsAll W left level ks
 run-slots W left ih level e [] ds seen y l h =
-    ap (λ z. run W ds seen z l) (same-tally _ _ (omega arith) (omega arith) (sym (else-none (y .gap))))
+    ap (λ z. run W ds seen z l) (same-tally _ _ (omega arith) (omega arith) (sym (else-none (y .gap))) (sym (or-false (y .short))))
 run-slots W left ih level e (k ∷ ks) ds seen y l h = run-slot W left ih level e k ks (run-slots W left ih level e ks) ds seen y l h
 
 pub run-reads : (W : Vocabulary) (left : ℕ) → RunReads W left
@@ -305,13 +308,14 @@ run-reads W (suc left) d ds seen y l o e =
         (λ ts r′ h. ap (λ z. run W ds (ts .seen) z r′)
         (same-tally _ _ (omega arith) (omega arith)
         (else-assoc (y .gap) _ (leftFrom (length r) (gapAll W (ts .terms) 0))
-        ∙ ap (orElse (y .gap)) (word-gap W f (ts .terms) (length r) (everyWritten ks) (h .opens) ∙ ap (λ m. leftFrom m (gapHere W (app f (ts .terms)))) (sym n)))))
+        ∙ ap (orElse (y .gap)) (word-gap W f (ts .terms) (length r) (everyWritten ks) (h .opens) ∙ ap (λ m. leftFrom m (gapHere W (app f (ts .terms)))) (sym n)))
+        (or-assoc (y .short) (not (everyWritten ks)) (someShort (ts .terms)) ∙ ap (λ b. y .short || (b || someShort (ts .terms))) (sym (h .opens)))))
         ∙ sym (then-then (readSlots (readTerm W left false) ks seen r) _ _)
     go ih (nameHere k r) n =
         ap (λ z. run W ds (seen ++ (record { name = k; sort = d .sort } ∷ [])) z r)
-        (same-tally _ _ (omega arith) (omega arith) (ap (λ m. orElse (y .gap) (some m)) (first-left (length l) (length r) n)))
+        (same-tally _ _ (omega arith) (omega arith) (ap (λ m. orElse (y .gap) (some m)) (first-left (length l) (length r) n)) (sym (or-false (y .short))))
     go ih (wholeHere r) n =
-        ap (λ z. run W ds seen z r) (same-tally _ _ (omega arith) (omega arith) (ap (λ m. orElse (y .gap) (some m)) (first-left (length l) (length r) n)))
+        ap (λ z. run W ds seen z r) (same-tally _ _ (omega arith) (omega arith) (ap (λ m. orElse (y .gap) (some m)) (first-left (length l) (length r) n)) (sym (or-false (y .short))))
     go ih (fault k r) n = refl
 
 pub scan-reads : (W : Vocabulary) (s : ℕ) (seen : List Occurrence) (l : List ℕ) →
@@ -319,5 +323,5 @@ pub scan-reads : (W : Vocabulary) (s : ℕ) (seen : List Occurrence) (l : List �
 scan-reads W s seen l = run-reads W mostLevels (rootDue s) [] seen noTally l (omega arith) refl ∙ go (readTerm W mostLevels true s seen l)
   where
     go : (x : Got Read) → andThen x (λ a r. run W [] (a .seen) (withTerm W 1 (length l) noTally (a .term)) r) ≡ tallied W l x
-    go (got a r) = ap (λ z. got (record { tally = z; seen = a .seen }) r) (same-tally _ _ (omega arith) (omega arith) refl)
+    go (got a r) = ap (λ z. got (record { tally = z; seen = a .seen }) r) (same-tally _ _ (omega arith) (omega arith) refl refl)
     go (stop n r) = refl

@@ -19,7 +19,7 @@ use Rattle.terms.specs.Term.{Term, any, var, app, Terms, nil, cons}
 use Rattle.wire.specs.Map.{mapBytes, isOpen}
 use Rattle.wire.specs.Vocabulary.{Vocabulary}
 use Rattle.wire.specs.TermBytes.{encodeAt, encodeAll, encodeRoot}
-use Rattle.wire.specs.SituationComputed.{someOpen, gapFrom, gapAll, firstGap}
+use Rattle.wire.specs.GapComputed.{someOpen, gapFrom, gapAll, firstGap}
 use Rattle.wire.specs.Scan.{gapHere, leftFrom}
 
 pub left-else : (n : ℕ) (a b : Option ℕ) → leftFrom n (orElse a b) ≡ orElse (leftFrom n a) (leftFrom n b)

@@ -12,7 +12,8 @@ use Rattle.terms.specs.Term.{Term}
 use Rattle.wire.specs.Parser.{Reading, accept, refuse}
 use Rattle.wire.specs.Vocabulary.{Vocabulary, InOrder}
 use Rattle.wire.specs.TermBytes.{encodeRoot, encodeTerm, GoodTerm}
-use Rattle.wire.specs.SituationComputed.{ground, firstGap, situationOf, situationIn, checkedSituation}
+use Rattle.wire.specs.GapComputed.{firstGap}
+use Rattle.wire.specs.SituationComputed.{ground, situationOf, situationIn, checkedSituation}
 use Rattle.wire.specs.Reply.{Kinded}
 use Rattle.wire.specs.CheckComputed.{checkedTerm}
 use Rattle.wire.specs.Refusals.{rank, Sooner, Decides}

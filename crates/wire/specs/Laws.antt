@@ -74,7 +74,8 @@ use Rattle.wire.specs.Text.{decimal}
 use Rattle.wire.specs.Printing.{vocabularyPart, patternPart, PrintPromise}
 use Rattle.wire.specs.Parser.{Reading, accept, refuse, got, readVocabulary, readAny}
 use Rattle.wire.specs.CheckComputed.{checkedTerm, vocabularyReply, termReply}
-use Rattle.wire.specs.SituationComputed.{someOpen, firstGap, checkedSituation}
+use Rattle.wire.specs.GapComputed.{someOpen, firstGap}
+use Rattle.wire.specs.SituationComputed.{checkedSituation}
 use Rattle.wire.specs.MatchComputed.{judged, clearReply, matched, partSpan, partOf}
 use Rattle.wire.specs.ListComputed.{checkedLinear, listed, readEntries}
 use Rattle.wire.specs.FillComputed.{readFilling, filled}

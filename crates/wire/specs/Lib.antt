@@ -27,10 +27,12 @@ pub mod Printing
 -- Ways to compute the replies, which laws fix:
 pub mod Effect
 pub mod Parser
+pub mod GapComputed
 pub mod CheckComputed
 pub mod SituationComputed
 pub mod Scan
 pub mod MatchComputed
+pub mod Splicing
 pub mod ListComputed
 pub mod FillComputed
 pub mod BookComputed

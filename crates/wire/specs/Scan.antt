@@ -4,7 +4,7 @@
 -- reads.
 --
 --   everyWritten ks           each of the slots ks is written
---   Tally                     words and deepest level so far, and where the first gap was
+--   Tally                     words and deepest level so far, where the first gap was, and whether a map was short
 --   withWord, withLeaf        the tally behind a word, and behind a name or 255
 --   Scanned                   what a scan gives: a tally and the names seen
 --   scanNode, scan W n due seen y l    what is due, read off the bytes l in at most n steps
@@ -12,22 +12,23 @@
 --   rootDue s, noTally        a scan's beginning, of a term of kind s
 --   gapHere W t               the first gap of the term t, counted from its own first byte
 --   leftFrom n o              the offset o of n bytes as the number of bytes from there on
+--   hasShort t, someShort ts  some word of t, or of ts, has a short map
 --   tallied W l x             what readTerm gives off the bytes l, told as a scan tells it
 --
-use mathlib.Core.Bool.{Bool, true, false, _&&_, cond}
+use mathlib.Core.Bool.{Bool, true, false, not, _&&_, _||_, cond}
 use mathlib.Core.List.{List, [], _∷_, _++_}
 use mathlib.Core.Option.{Option, some, none}
 use Prim.Native.Nat.{ℕ, zero, suc, _+_, _-_, max}
 use lib.Dec.{ltb}
 use lib.ListN.{length}
 use Rattle.terms.specs.Lists.{orElse}
-use Rattle.terms.specs.Term.{Term, any, var, app, Occurrence}
+use Rattle.terms.specs.Term.{Term, any, var, app, Terms, nil, cons, Occurrence}
 use Rattle.wire.specs.Map.{mapBytes, Slot}
 use Rattle.wire.specs.Vocabulary.{Vocabulary}
 use Rattle.wire.specs.TermBytes.{wordCount, deepest, mostLevels}
 use Rattle.wire.specs.TermLines.{Due, dueAt}
 use Rattle.wire.specs.Parser.{Got, got, stop, Node, wordHere, nameHere, wholeHere, fault, node, atLimit, Read}
-use Rattle.wire.specs.SituationComputed.{gapFrom}
+use Rattle.wire.specs.GapComputed.{someOpen, gapFrom}
 
 abbrev pub everyWritten : List Slot → Bool
 everyWritten [] = true
@@ -38,6 +39,7 @@ pub record Tally : Type 0 where
   pub words : ℕ
   pub deepest : ℕ
   pub gap : Option ℕ
+  pub short : Bool
 
 -- A word at a level with the slots ks, its map just before the bytes r.
 abbrev pub withWord : ℕ → List Slot → List ℕ → Tally → Tally
@@ -45,6 +47,7 @@ withWord level ks r y = record {
   words = y .words + 1;
   deepest = max (y .deepest) level;
   gap = orElse (y .gap) (cond (everyWritten ks) none (some (mapBytes + length r)));
+  short = y .short || not (everyWritten ks);
 }
 
 -- A name or 255 at a level, just before the bytes r.
@@ -53,6 +56,7 @@ withLeaf level r y = record {
   words = y .words;
   deepest = max (y .deepest) level;
   gap = orElse (y .gap) (some (suc (length r)));
+  short = y .short;
 }
 
 pub record Scanned : Type 0 where
@@ -82,7 +86,7 @@ abbrev pub rootDue : ℕ → Due
 rootDue s = record { sort = s; level = 1; root = true }
 
 abbrev pub noTally : Tally
-noTally = record { words = 0; deepest = 0; gap = none }
+noTally = record { words = 0; deepest = 0; gap = none; short = false }
 
 abbrev pub gapHere : Vocabulary → Term → Option ℕ
 gapHere W any = some 0
@@ -93,12 +97,23 @@ abbrev pub leftFrom : ℕ → Option ℕ → Option ℕ
 leftFrom n none = none
 leftFrom n (some q) = some (n - q)
 
+abbrev mutual
+  pub hasShort : Term → Bool
+  hasShort any = false
+  hasShort (var n) = false
+  hasShort (app f ts) = someOpen ts || someShort ts
+
+  pub someShort : Terms → Bool
+  someShort nil = false
+  someShort (cons t ts) = hasShort t || someShort ts
+
 abbrev pub tallied : Vocabulary → List ℕ → Got Read → Got Scanned
 tallied W l (got a r) = got (record {
   tally = record {
     words = wordCount (a .term);
     deepest = deepest (a .term);
     gap = leftFrom (length l) (gapHere W (a .term));
+    short = hasShort (a .term);
   };
   seen = a .seen;
 }) r

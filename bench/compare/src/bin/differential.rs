@@ -177,7 +177,9 @@ fn check(case: &Case, number: u64, seen: &mut Seen) {
         let mine = archive::check_term(v, term);
         let other = reference::check_term(v, term);
         replies(case, number, call, mine, other);
-        seen.add(call, outcome(mine, "accepted"));
+        let complete = mine[3] == 1;
+        let how = if complete { "complete" } else { "not complete" };
+        seen.add(call, outcome(mine, how));
     }
 }
 

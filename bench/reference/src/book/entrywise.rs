@@ -4,7 +4,7 @@
 use super::pattern::Kinds;
 use super::PATTERN;
 use crate::vocabulary::ONES;
-use crate::Reply;
+use crate::{accepted, Refusal, Reply};
 
 /// The first name; words are below.
 const NAME: u8 = 128;
@@ -154,7 +154,7 @@ fn strike(kinds: &Kinds, mut entries: &[u8], pattern: &[u8]) -> Result<Vec<u8>, 
 }
 
 /// Lists the leftovers of a book that is in order.
-pub fn list_read(kinds: &Kinds, book: &[u8], out: &mut [u8]) -> Result<Reply, Reply> {
+pub fn list_read(kinds: &Kinds, book: &[u8], out: &mut [u8]) -> Result<Reply, Refusal> {
     let mut listing = vec![book[1], 255];
     let mut rest = &book[1..];
     for number in 0..book[0] {
@@ -171,5 +171,5 @@ pub fn list_read(kinds: &Kinds, book: &[u8], out: &mut [u8]) -> Result<Reply, Re
         rest = &rest[1 + size(&rest[1..])..];
         entries += 1;
     }
-    Ok([0, entries, listing.len() as u64])
+    Ok(accepted(entries, listing.len() as u64))
 }

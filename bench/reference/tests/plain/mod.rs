@@ -3,6 +3,17 @@
 use reference::Reply;
 use std::collections::HashMap;
 
+/// Number, input and place.
+pub type Refusal = [u64; 3];
+
+fn accepted(one: u64, other: u64) -> Reply {
+    [0, one, other, 0, 0]
+}
+
+fn refused([number, input, place]: Refusal) -> Reply {
+    [number, input, place, 0, 0]
+}
+
 pub struct Word {
     pub result: u8,
     pub places: Vec<Option<u8>>,
@@ -29,7 +40,7 @@ pub struct Read {
     pub below: Vec<Option<Read>>,
 }
 
-pub fn vocabulary(bytes: &[u8]) -> Result<Vocabulary, Reply> {
+pub fn vocabulary(bytes: &[u8]) -> Result<Vocabulary, Refusal> {
     if bytes.len() < 2 || bytes[0] < 1 || bytes[0] > 16 {
         return Err([1, 0, 0]);
     }
@@ -38,7 +49,7 @@ pub fn vocabulary(bytes: &[u8]) -> Result<Vocabulary, Reply> {
     }
     let kinds = bytes[0];
     let mut at = 2;
-    let byte = |at: &mut usize, kind: bool| -> Result<u8, Reply> {
+    let byte = |at: &mut usize, kind: bool| -> Result<u8, Refusal> {
         let Some(&byte) = bytes.get(*at) else {
             return Err([3, 0, *at as u64]);
         };
@@ -96,7 +107,7 @@ struct Reader<'a> {
 }
 
 impl Reader<'_> {
-    fn byte(&self, at: usize) -> Result<u8, Reply> {
+    fn byte(&self, at: usize) -> Result<u8, Refusal> {
         match self.pattern {
             Some(first) if at == first + 4096 => Err([7, self.input, first as u64]),
             _ => {
@@ -106,7 +117,7 @@ impl Reader<'_> {
         }
     }
 
-    fn term(&mut self, at: usize, kind: u8, level: u64) -> Result<Read, Reply> {
+    fn term(&mut self, at: usize, kind: u8, level: u64) -> Result<Read, Refusal> {
         let refuse = |number, at: usize| Err([number, self.input, at as u64]);
         let byte = self.byte(at)?;
         if level == 33 {
@@ -188,7 +199,7 @@ struct Term {
     second: Option<usize>,
 }
 
-fn term(v: &Vocabulary, bytes: &[u8], input: u64) -> Result<Term, Reply> {
+fn term(v: &Vocabulary, bytes: &[u8], input: u64) -> Result<Term, Refusal> {
     if bytes.len() < 2 || bytes.len() > 4096 {
         return Err([7, input, 0]);
     }
@@ -222,14 +233,40 @@ fn term(v: &Vocabulary, bytes: &[u8], input: u64) -> Result<Term, Reply> {
 
 pub fn check_vocabulary(bytes: &[u8]) -> Reply {
     match vocabulary(bytes) {
-        Ok(_) => [0, 0, 0],
-        Err(refusal) => refusal,
+        Ok(_) => accepted(0, 0),
+        Err(refusal) => refused(refusal),
     }
 }
 
 pub fn check_term(v: &[u8], bytes: &[u8]) -> Reply {
-    let both = vocabulary(v).and_then(|v| term(&v, bytes, 1));
-    both.map_or_else(|refusal| refusal, |term| [0, term.words, term.deepest])
+    let v = match vocabulary(v) {
+        Ok(v) => v,
+        Err(refusal) => return refused(refusal),
+    };
+    match term(&v, bytes, 1) {
+        Err(refusal) => refused(refusal),
+        Ok(term) => {
+            let complete = complete(&v, &term.read.tree);
+            assert_eq!(complete, term.gap.is_none());
+            let gap = term.gap.unwrap_or(bytes.len());
+            [0, term.words, term.deepest, complete as u64, gap as u64]
+        }
+    }
+}
+
+/// Whether a term has no name, no 255, and all places written.
+fn complete(v: &Vocabulary, tree: &Tree) -> bool {
+    match tree {
+        Tree::Any | Tree::Name(_) => false,
+        Tree::Word(word, terms) => {
+            let places = &v.words[*word as usize].places;
+            let mut both = places.iter().zip(terms);
+            both.all(|(place, term)| match term {
+                Some(term) => complete(v, term),
+                None => place.is_none(),
+            })
+        }
+    }
 }
 
 type Parts = HashMap<u8, (Tree, u16, u16)>;
@@ -271,7 +308,7 @@ fn parts(
     pattern: &[u8],
     situation: &[u8],
     length: usize,
-) -> Result<Option<Parts>, Reply> {
+) -> Result<Option<Parts>, Refusal> {
     let v = vocabulary(v)?;
     let one = term(&v, pattern, 1)?;
     let two = term(&v, situation, 2)?;
@@ -290,15 +327,15 @@ fn parts(
 
 pub fn match_pattern(v: &[u8], pattern: &[u8], situation: &[u8], table: &mut [u16]) -> Reply {
     match parts(v, pattern, situation, table.len()) {
-        Err(refusal) => refusal,
-        Ok(None) => [0, 0, 0],
+        Err(refusal) => refused(refusal),
+        Ok(None) => accepted(0, 0),
         Ok(Some(parts)) => {
             for name in 0..64u8 {
                 let part = parts.get(&name).map_or((0, 0), |part| (part.1, part.2));
                 table[2 * name as usize] = part.0;
                 table[2 * name as usize + 1] = part.1;
             }
-            [0, 1, 0]
+            accepted(1, 0)
         }
     }
 }
@@ -306,10 +343,10 @@ pub fn match_pattern(v: &[u8], pattern: &[u8], situation: &[u8], table: &mut [u1
 pub fn part(v: &[u8], pattern: &[u8], situation: &[u8], name: u64) -> Reply {
     if let (Ok(Some(parts)), Ok(name)) = (parts(v, pattern, situation, 128), u8::try_from(name)) {
         if let Some(part) = parts.get(&name) {
-            return [0, part.1 as u64, part.2 as u64];
+            return accepted(part.1 as u64, part.2 as u64);
         }
     }
-    [0, 0, 0]
+    accepted(0, 0)
 }
 
 /// The listing of a term, in order. It may end early when it has more than so
@@ -361,7 +398,7 @@ fn write(tree: &Tree, out: &mut Vec<u8>) {
     }
 }
 
-pub fn entries(v: &[u8], pattern: &[u8]) -> Result<Vec<Vec<u8>>, Reply> {
+pub fn entries(v: &[u8], pattern: &[u8]) -> Result<Vec<Vec<u8>>, Refusal> {
     let v = vocabulary(v)?;
     let read = term(&v, pattern, 1)?;
     if let Some(second) = read.second {
@@ -381,14 +418,14 @@ pub fn entries(v: &[u8], pattern: &[u8]) -> Result<Vec<Vec<u8>>, Reply> {
 pub fn list(v: &[u8], pattern: &[u8], out: &mut [u8]) -> Reply {
     let entries = match entries(v, pattern) {
         Ok(entries) => entries,
-        Err(refusal) => return refusal,
+        Err(refusal) => return refused(refusal),
     };
     let whole = entries.concat();
     if whole.len() > out.len() {
-        return [20, 3, whole.len() as u64];
+        return refused([20, 3, whole.len() as u64]);
     }
     out[..whole.len()].copy_from_slice(&whole);
-    [0, entries.len() as u64, whole.len() as u64]
+    accepted(entries.len() as u64, whole.len() as u64)
 }
 
 /// The complete term of a kind that begins at an offset, and the offset behind
@@ -444,7 +481,7 @@ fn levels(tree: &Tree) -> usize {
     }
 }
 
-fn filled(v: &[u8], pattern: &[u8], file: &[u8]) -> Result<Vec<u8>, Reply> {
+fn filled(v: &[u8], pattern: &[u8], file: &[u8]) -> Result<Vec<u8>, Refusal> {
     let v = vocabulary(v)?;
     let read = term(&v, pattern, 1)?;
     if file.len() < 8 {
@@ -481,17 +518,17 @@ fn filled(v: &[u8], pattern: &[u8], file: &[u8]) -> Result<Vec<u8>, Reply> {
 
 pub fn fill(v: &[u8], pattern: &[u8], file: &[u8], out: &mut [u8]) -> Reply {
     match filled(v, pattern, file) {
-        Err(refusal) => refusal,
-        Ok(bytes) if bytes.len() > out.len() => [20, 3, bytes.len() as u64],
+        Err(refusal) => refused(refusal),
+        Ok(bytes) if bytes.len() > out.len() => refused([20, 3, bytes.len() as u64]),
         Ok(bytes) => {
             out[..bytes.len()].copy_from_slice(&bytes);
-            [0, bytes.len() as u64, 0]
+            accepted(bytes.len() as u64, 0)
         }
     }
 }
 
 /// The patterns of a book, all of one kind.
-fn patterns(v: &Vocabulary, book: &[u8]) -> Result<Vec<Tree>, Reply> {
+fn patterns(v: &Vocabulary, book: &[u8]) -> Result<Vec<Tree>, Refusal> {
     let count = match book.first() {
         Some(&count) if (1..=64).contains(&count) => count,
         _ => return Err([24, 5, 0]),
@@ -605,7 +642,7 @@ fn own_leftovers(v: &Vocabulary, entry: &Tree, pattern: &Tree) -> Vec<Tree> {
 }
 
 /// The entries of a book, each with its kind byte.
-pub fn book_entries(v: &[u8], book: &[u8]) -> Result<Vec<Vec<u8>>, Reply> {
+pub fn book_entries(v: &[u8], book: &[u8]) -> Result<Vec<Vec<u8>>, Refusal> {
     let v = vocabulary(v)?;
     let patterns = patterns(&v, book)?;
     let mut entries = vec![Tree::Any];
@@ -640,14 +677,14 @@ pub fn book_entries(v: &[u8], book: &[u8]) -> Result<Vec<Vec<u8>>, Reply> {
 pub fn list_book(v: &[u8], book: &[u8], out: &mut [u8]) -> Reply {
     let entries = match book_entries(v, book) {
         Ok(entries) => entries,
-        Err(refusal) => return refusal,
+        Err(refusal) => return refused(refusal),
     };
     let whole = entries.concat();
     if whole.len() > out.len() {
-        return [20, 3, whole.len() as u64];
+        return refused([20, 3, whole.len() as u64]);
     }
     out[..whole.len()].copy_from_slice(&whole);
-    [0, entries.len() as u64, whole.len() as u64]
+    accepted(entries.len() as u64, whole.len() as u64)
 }
 
 pub fn program(input: &[u8]) -> String {

@@ -9,8 +9,8 @@ use Rattle.numbers.proofs.term_numbers.Tie as tie
 enum-known-answer : tie.Need-enum-known-answer
 enum-known-answer c = search needs
 
-accepted-requires : tie.Need-accepted-requires
-accepted-requires c κs = search needs
+accepted-term-requires : tie.Need-accepted-term-requires
+accepted-term-requires c κs = search needs
 
 enum-known-answer-2 : tie.Need-enum-known-answer-2
 enum-known-answer-2 c = search needs
@@ -25,7 +25,7 @@ term-refused-requires : tie.Need-term-refused-requires
 term-refused-requires c κs = search needs
 
 returns : tie.Need-returns
-returns c = c .accepted .ensures ∙ sym (ap (λ w. replyNumbers (termNumbers w)) (c .before .before .answer .given .1))
+returns c = c .accepted-term .ensures ∙ sym (ap (λ w. replyNumbers (termNumbers w)) (c .before .before .answer .given .1))
 
 returns-2 : tie.Need-returns-2
 returns-2 c = c .vocabulary-refused .ensures ∙ sym (ap (λ w. replyNumbers (termNumbers w)) (c .before .before .answer2 .given .1))
@@ -38,7 +38,7 @@ term-numbers-spec =
     tie.close
     (tie.spec
     enum-known-answer
-    accepted-requires
+    accepted-term-requires
     enum-known-answer-2
     vocabulary-refused-requires
     enum-known-answer-3

@@ -2,11 +2,11 @@
 use mathlib.Core.Path.{sym, ap, _∙_}
 use denote.Ref.{now}
 use native.Mathlib.Omega.{arith}
-use borrow.Author.Needs.{needs}
 use Rattle.signature.specs.Tables.{vocabularyIn}
 use Rattle.signature.specs.Answers.{vocabularyNumbers}
 use Rattle.reader.proofs.Calls.{pair-refused, pair-accepted}
 use Rattle.reader.proofs.Tables.{tables-as, some-bytes}
+use borrow.Author.Needs.{needs}
 use Rattle.reader.proofs.read_pair.Statement.{statement}
 use Rattle.reader.proofs.read_pair.Tie as tie
 
@@ -25,20 +25,15 @@ shared-slice-read-wide c = omega (arith, some-bytes (c .before .before .before .
 wide-requires : tie.Need-wide-requires
 wide-requires c κs = search needs
 
-read-both-requires : tie.Need-read-both-requires
-read-both-requires c κs = tables-as (c .before .before .before .wide .ensures) (c .before .before .before .before .before .before .before .load .ensures .tables (c .before .before .before .before .before .enum-told .given .1))
+read-requires : tie.Need-read-requires
+read-requires c κs = tables-as (c .before .before .before .wide .ensures) (c .before .before .before .before .before .before .before .load .ensures .tables (c .before .before .before .before .before .enum-told .given .1))
 
 returns : tie.Need-returns
-returns c =
-    let a = c .before .before .before .before .before .before .before .before .before .before .args in
-    pair-refused (now (a .vocabulary)) (now (a .first)) (now (a .second)) (c .before .why .given .0 .0)
-    (sym (ap vocabularyNumbers (c .before .why .given .1)) ∙ c .before .before .before .load .ensures .answer)
+returns c = λ agree. let a = c .before .before .before .before .before .before .before .before .before .before .args in pair-refused (now (a .vocabulary)) (now (a .first)) (now (a .second)) (c .before .why .given .0 .0) (sym (ap vocabularyNumbers (c .before .why .given .1)) ∙ c .before .before .before .load .ensures .answer)
 
 returns-2 : tie.Need-returns-2
-returns-2 c =
-    let a = c .before .before .before .before .before .before .before .before .before .before .before .before .before .before .before .args in
-    let v = now (a .vocabulary) in
-    pair-accepted v (now (a .first)) (now (a .second)) (vocabularyIn v) (c .before .before .before .before .before .before .before .before .load .ensures .tables (c .before .before .before .before .before .before .enum-told .given .1) .accepted) (c .read-both .ensures)
+returns-2 c = λ agree. let a = c .before .before .before .before .before .before .before .before .before .before .before .before .before .before .before .args in let v = now (a .vocabulary) in
+    pair-accepted v (now (a .first)) (now (a .second)) (vocabularyIn v) (c .before .before .before .before .before .before .before .before .load .ensures .tables (c .before .before .before .before .before .before .enum-told .given .1) .accepted) (c .read .ensures agree)
 
 pub read-pair-spec : {M : Type 1} → statement M
 read-pair-spec =
@@ -49,6 +44,6 @@ read-pair-spec =
     enum-told
     shared-slice-read-wide
     wide-requires
-    read-both-requires
+    read-requires
     returns
     returns-2)

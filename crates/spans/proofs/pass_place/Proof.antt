@@ -68,7 +68,7 @@ cover-requires c κs =
     let start = at-if1 .before .before .before .before in
     let high = at-if1 .if1 .left in
     let byte = c .wide .ensures in
-    (start .pre .part high, ((rw byte (start .pre .known high), start .pre .most .1), rw byte (start .pre .spansInside high)))
+    ((rw byte (start .pre .known high), start .pre .part high .inside, start .pre .most .1), rw byte (start .pre .spansInside high))
 
 -- The name's part is covered.
 here : (c : tie.After-cover) →

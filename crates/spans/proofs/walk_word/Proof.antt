@@ -12,7 +12,7 @@ use lib.Dec.{lit<}
 use borrow.Author.Needs.{scaled-fits}
 use borrow.Author.Tests.{ltb-false}
 use Rattle.spans.specs.Walking.{InputsRead}
-use Rattle.spans.proofs.Offsets.{offset-fits}
+use Rattle.spans.proofs.Offsets.{offset-fits, offset-low}
 use Rattle.spans.proofs.Going.{shared-pattern, shared-situation}
 use Rattle.spans.proofs.Framing.{Framing, framing-begins, framing-ends, framing-rest, framing-fails, top-slot, turn-leave}
 use Rattle.spans.proofs.Framing.{Turn, turn-gap, open-part, turn-opened}
@@ -57,12 +57,12 @@ written c =
 map-at-requires : tie.Need-map-at-requires Inv-loop μ-loop
 map-at-requires c κs =
     let start = c .before .before in
-    shared-pattern (start .pre .1) (start .pre .0)
+    offset-low (shared-pattern (start .pre .1) (start .pre .0)) (start .pre .0 .held .pattern .limits .most)
 
 map-at-requires-2 : tie.Need-map-at-requires-2 Inv-loop μ-loop
 map-at-requires-2 c κs =
     let start = c .before .before .before in
-    shared-situation (start .pre .1) (start .pre .0)
+    offset-low (shared-situation (start .pre .1) (start .pre .0)) (start .pre .0 .held .situation .limits .most)
 
 frame-requires : tie.Need-frame-requires Inv-loop μ-loop
 frame-requires c κs = tt
@@ -121,14 +121,14 @@ end-of-requires : tie.Need-end-of-requires Inv-loop μ-loop
 end-of-requires c κs =
     let at-if3 = c .before in
     let at-passed = at-if3 .before in
-    open-part (turn at-passed) (at-if3 .if3 .taken) (c .if4 .taken) (read at-passed)
+    (open-part (turn at-passed) (at-if3 .if3 .taken) (c .if4 .taken) (read at-passed) .inside, read at-passed .held .situation .limits .most)
 
 loop-less-2 : tie.Need-loop-less-2 Inv-loop μ-loop
 loop-less-2 c =
     let at-if4 = c .before in
     let at-if3 = at-if4 .before in
     let at-passed = at-if3 .before in
-    let end = c .end-of .ensures (open-part (turn at-passed) (at-if3 .if3 .taken) (at-if4 .if4 .taken) (read at-passed)) in
+    let end = c .end-of .ensures .1 (open-part (turn at-passed) (at-if3 .if3 .taken) (at-if4 .if4 .taken) (read at-passed)) in
     left-on (turn at-passed) (at-passed .before .if2 .left) _ (omega arith)
 
 loop-again-2 : tie.Need-loop-again-2 Inv-loop μ-loop
@@ -136,7 +136,7 @@ loop-again-2 c =
     let at-if4 = c .before in
     let at-if3 = at-if4 .before in
     let at-passed = at-if3 .before in
-    turn-opened (turn at-passed) (at-if3 .if3 .taken) (at-if4 .if4 .taken) _ (c .end-of .ensures)
+    turn-opened (turn at-passed) (at-if3 .if3 .taken) (at-if4 .if4 .taken) _ (c .end-of .ensures .1)
 
 pass-place-requires : tie.Need-pass-place-requires Inv-loop μ-loop
 pass-place-requires c κs =
@@ -160,7 +160,7 @@ map-at-requires-3 : tie.Need-map-at-requires-3 Inv-loop μ-loop
 map-at-requires-3 c κs =
     let at-if4 = c .before .before .before .before .before .before in
     let at-passed = at-if4 .before .before in
-    place-stands (written at-if4) (read at-passed) .nodes (c .if6 .taken) .1
+    offset-low (place-stands (written at-if4) (read at-passed) .nodes (c .if6 .taken) .1) (read at-passed .held .situation .limits .most)
 
 mul-frames : tie.Need-mul-frames Inv-loop μ-loop
 mul-frames c =
@@ -181,7 +181,7 @@ map-at-requires-4 c κs =
     let at-if6 = c .before .before in
     let at-if4 = at-if6 .before .before .before .before .before .before in
     let at-passed = at-if4 .before .before in
-    place-stands (written at-if4) (read at-passed) .nodes (at-if6 .if6 .taken) .0
+    offset-low (place-stands (written at-if4) (read at-passed) .nodes (at-if6 .if6 .taken) .0) (read at-passed .held .pattern .limits .most)
 
 frame-requires-2 : tie.Need-frame-requires-2 Inv-loop μ-loop
 frame-requires-2 c κs = tt

@@ -12,7 +12,7 @@ use Rattle.reader.proofs.FullSteps.{FullNode}
 use Rattle.reader.proofs.Places.{root-going, positive}
 use Rattle.reader.proofs.Turns.{word-asks, kind-inside}
 use Rattle.reader.proofs.Values.{Came, came-bare, came-down, came-as, came-passed, came-ends, came-stuck, value-stops}
-use Rattle.reader.specs.Cursors.{started, pastWord, wentDown}
+use Rattle.cursors.specs.Cursors.{started, pastWord, wentDown}
 use Rattle.reader.specs.Fillings.{FaultAt, ValueEnds}
 use Rattle.reader.proofs.Faults.{lent-fits}
 use mathlib.Core.Bool.{true}
@@ -31,7 +31,7 @@ use Rattle.reader.proofs.filling.read_value.Tie as tie
 
 at-word : (c : tie.After-wide) →
     let a = c .before .before .before .before .before .before .before .args in
-    FullNode (now (a .v)) (now (a .b)) (replicate 32 0) (started (a .from) (length (now (a .b)))) (a .words) (now (a .offsets)) (now (a .results)) (now (a .maps))
+    FullNode (now (a .v)) (now (a .b)) (replicate 32 0) (started (a .from)) (a .words) (now (a .offsets)) (now (a .results)) (now (a .maps))
     (a .kind) (c .wide .result)
 at-word c =
     let tested = c .before .before .before in
@@ -48,23 +48,30 @@ at-word c =
 known : (c : tie.After-wide) → c .wide .result < 96
 known c = lt-of-lt-of-le (at-word c .here .known) (few-words (at-word c .tables) (at-word c .bytes))
 
-past : (c : tie.After-word) →
+past : (c : tie.After-whole-word) →
     let a = c .before .before .before .before .before .before .before .before .before .args in
-    c .word .result ≡ pastWord true (started (a .from) (length (now (a .b))))
-past c = c .word .ensures ∙ ap (pastWord true) (c .before .start .ensures)
+    c .whole-word .result ≡ pastWord true (started (a .from))
+past c =
+    let node = at-word (c .before .before) in
+    let begun = c .before .start in
+    let asks =
+    word-asks (begun .result) (node .going) (ap (λ d. d .at) (begun .ensures)) (ap (λ d. d .words) (begun .ensures)) (node .here .long)
+    (c .before .before .before .before .before .before .before .before .before .good .1 .0 .0) in
+    c .whole-word .ensures (asks .0) (asks .1) ∙ ap (pastWord true) (begun .ensures)
 
 came-first : (c : tie.After-down) →
     let a = c .before .before .before .before .before .before .before .before .before .before .before .before .before .before .before .args in
     Came (now (a .v)) (now (a .b)) (a .from) (a .kind) (replicate 32 0) (c .down .result)
 came-first c =
     let at-past = c .before .before .before .before .before .before in
-    came-as (c .down .ensures ∙ ap (wentDown (c .before .full .result)) (past at-past))
+    let depth = ap (λ d. d .depth) (past at-past) in
+    came-as (c .down .ensures (omega arith) ∙ ap (wentDown (c .before .full .result)) (past at-past))
     (came-down (at-word (at-past .before .before)) (c .before .before .before .before .if2 .left) (c .before .full .ensures))
 
-bare-ends : (c : tie.After-word) →
+bare-ends : (c : tie.After-whole-word) →
     let start = c .before .before .before .before .before .before .before .before .before in
     getD (now (start .args .maps)) (c .before .before .wide .result) 0 ≡ 0 →
-    ValueEnds (now (start .args .v)) (now (start .args .b)) (start .args .from) (start .args .kind) (c .word .result .at) (c .word .result .deepest)
+    ValueEnds (now (start .args .v)) (now (start .args .b)) (start .args .from) (start .args .kind) (c .whole-word .result .at) (c .whole-word .result .deepest)
 bare-ends c e =
     let node = at-word (c .before .before) in
     let start = c .before .before .before .before .before .before .before .before .before in
@@ -117,9 +124,8 @@ wide-requires c κs = search needs
 start-requires : tie.Need-start-requires
 start-requires c κs = search needs
 
-word-requires : tie.Need-word-requires
-word-requires c κs = let node = at-word (c .before) in
-    word-asks (c .start .result) (node .going) (ap (λ d. d .at) (c .start .ensures)) (ap (λ d. d .words) (c .start .ensures)) (node .here .long) (c .before .before .before .before .before .before .before .before .good .1 .0 .0)
+whole-word-requires : tie.Need-whole-word-requires
+whole-word-requires c κs = search needs
 
 element-copy-out-if2 : tie.Need-element-copy-out-if2
 element-copy-out-if2 c = known (c .before .before)
@@ -143,7 +149,7 @@ full-requires : tie.Need-full-requires
 full-requires c κs = search needs
 
 down-requires : tie.Need-down-requires
-down-requires c κs = let depth = ap (λ d. d .depth) (past (c .before .before .before .before .before)) in omega arith
+down-requires c κs = search needs
 
 full-words-requires : tie.Need-full-words-requires
 full-words-requires c κs = (c .before .before .before .before .before .before .before .before .before .before .before .before .before .before .before .before .pre .0, came-first (c .before) .going)
@@ -198,7 +204,7 @@ read-value-spec =
     shared-slice-read-wide
     wide-requires
     start-requires
-    word-requires
+    whole-word-requires
     element-copy-out-if2
     cast-t33
     returns-2

@@ -3,7 +3,7 @@
 --
 --   word-turn     the turn at a full word, up to where its place is passed
 --   known         the word's number is one of the tables'
---   past          the cursor behind the word
+--   past, below   the cursor behind the word, and at its places
 --
 use borrow.Author.Needs.{needs}
 use mathlib.Core.Path.{_≡_, refl, sym, ap, subst, _∙_}
@@ -19,7 +19,7 @@ use borrow.Author.Needs.{scaled-fits}
 use borrow.Author.Tests.{not-false, not-true}
 use Rattle.signature.specs.Tables.{vocabularyIn}
 use Rattle.reader.specs.Full.{NotFull}
-use Rattle.reader.specs.Cursors.{pastWord, wentDown, atFrame}
+use Rattle.cursors.specs.Cursors.{pastWord, wentDown, atFrame}
 use Rattle.reader.proofs.Tables.{few-words}
 use Rattle.reader.proofs.Turns.{Turned, turned-none, turned-as, turned-ends, turned-up, turned-advanced, turned-bare, turned-down}
 use Rattle.reader.proofs.Full.{FullHere, full-here, not-full, word-inside}
@@ -46,11 +46,13 @@ word-turn c =
     let loop = kinds .before .before .before .before in
     let start = loop .before .before .before in
     let a = start .args in
+    let first = first-due (loop .loop .c .due) (kinds .before .if2 .left) in
+    let asks = pass-asks (loop .loop .inv .going .due) first in
     record {
       turned = loop .loop .inv;
       low = kinds .before .before .if1 .taken;
-      first = first-due (loop .loop .c .due) (kinds .before .if2 .left);
-      behind = c .passed .ensures;
+      first = first;
+      behind = c .passed .ensures (asks .0) (asks .1) (asks .2);
       room = read .before .before .if4 .left;
       tables = start .pre .0;
       bytes = λ i. loop .before .before .shared-slice-known .given i .fits;
@@ -63,10 +65,26 @@ known : (c : tie.After-passed Inv-loop μ-loop) → c .before .wide .result < 96
 known c = lt-of-lt-of-le (word-turn c .here .known) (few-words (word-turn c .tables) (word-turn c .bytes))
 
 -- The cursor behind the word.
-past : (c : tie.After-word Inv-loop μ-loop) →
+past : (c : tie.After-whole-word Inv-loop μ-loop) →
     let at-loop = c .before .before .before .before .before .before .before .before .before .before .before .before .before .before in
-    c .word .result ≡ pastWord true (atFrame (c .before .before .passed .result) (at-loop .loop .c))
-past c = c .word .ensures ∙ ap (pastWord true) (c .before .onto2 .ensures)
+    c .whole-word .result ≡ pastWord true (atFrame (c .before .before .passed .result) (at-loop .loop .c))
+past c =
+    let onto = c .before .onto2 in
+    let turn = word-turn (c .before .before) in
+    let start = c .before .before .before .before .before .before .before .before .before .before .before .before .before .before .before .before .before in
+    let asks =
+    word-asks (onto .result) (turn .turned .going) (ap (λ d. d .at) (onto .ensures)) (ap (λ d. d .words) (onto .ensures)) (turn .here .long) (start .good .1 .0 .0) in
+    c .whole-word .ensures (asks .0) (asks .1) ∙ ap (pastWord true) (onto .ensures)
+
+-- The cursor at the word's places.
+below : (c : tie.After-down Inv-loop μ-loop) →
+    let at-loop = c .before .before .before .before .before .before .before .before .before .before .before .before .before .before .before .before .before .before .before .before in
+    c .down .result ≡ wentDown (c .before .full .result) (pastWord true (atFrame (c .before .before .before .before .before .before .before .before .passed .result) (at-loop .loop .c)))
+below c =
+    let at-word = c .before .before .before .before .before .before in
+    let depth = ap (λ d. d .depth) (past at-word) in
+    let room = word-turn (at-word .before .before) .room in
+    c .down .ensures (omega arith) ∙ ap (wentDown (c .before .full .result)) (past at-word)
 
 loop-holds : tie.Need-loop-holds Inv-loop μ-loop
 loop-holds c = turned-none (c .before .before .pre .1)
@@ -102,9 +120,7 @@ loop-again c =
     (turned-up (at-loop .loop .inv) (turn .before .if1 .taken) (none-due _ (turn .if2 .taken)) (sym (test .before .written .ensures) ∙ test .if3 .taken))
 
 advanced-requires : tie.Need-advanced-requires Inv-loop μ-loop
-advanced-requires c κs =
-    let at-loop = c .before .before .before .before .before in
-    advance-asks (at-loop .loop .inv .going .due)
+advanced-requires c κs = search needs
 
 onto-requires : tie.Need-onto-requires Inv-loop μ-loop
 onto-requires c κs = search needs
@@ -114,8 +130,9 @@ loop-less-2 c =
     let test = c .before .before in
     let at-loop = test .before .before .before .before .before in
     let t = now (at-loop .before .before .before .args .t) in
+    let asks = advance-asks (at-loop .loop .inv .going .due) in
     less-as t (at-loop .loop .frames) (c .onto .ensures)
-    (less-advanced t (at-loop .loop .frames) (at-loop .loop .c) (c .before .advanced .ensures) (none-due _ (test .before .before .if2 .taken))
+    (less-advanced t (at-loop .loop .frames) (at-loop .loop .c) (c .before .advanced .ensures (asks .0) (asks .1) (asks .2)) (none-due _ (test .before .before .if2 .taken))
     (λ e. test .if3 .left (test .before .written .ensures ∙ e)))
 
 loop-again-2 : tie.Need-loop-again-2 Inv-loop μ-loop
@@ -123,8 +140,9 @@ loop-again-2 c =
     let test = c .before .before in
     let turn = test .before .before in
     let at-loop = turn .before .before .before in
+    let asks = advance-asks (at-loop .loop .inv .going .due) in
     turned-as (c .onto .ensures)
-    (turned-advanced (at-loop .loop .inv) (turn .before .if1 .taken) (c .before .advanced .ensures) (none-due _ (turn .if2 .taken)))
+    (turned-advanced (at-loop .loop .inv) (turn .before .if1 .taken) (c .before .advanced .ensures (asks .0) (asks .1) (asks .2)) (none-due _ (turn .if2 .taken)))
 
 kinds-requires : tie.Need-kinds-requires Inv-loop μ-loop
 kinds-requires c κs = search needs
@@ -176,20 +194,13 @@ wide-requires : tie.Need-wide-requires Inv-loop μ-loop
 wide-requires c κs = search needs
 
 passed-requires : tie.Need-passed-requires Inv-loop μ-loop
-passed-requires c κs =
-    let turn = c .before .before .before .before .before .before .before .before in
-    let at-loop = turn .before .before .before in
-    pass-asks (at-loop .loop .inv .going .due) (first-due (at-loop .loop .c .due) (turn .if2 .left))
+passed-requires c κs = search needs
 
 onto-requires-2 : tie.Need-onto-requires-2 Inv-loop μ-loop
 onto-requires-2 c κs = search needs
 
-word-requires : tie.Need-word-requires Inv-loop μ-loop
-word-requires c κs =
-    let turn = word-turn (c .before) in
-    let start = c .before .before .before .before .before .before .before .before .before .before .before .before .before .before .before .before in
-    word-asks (c .onto2 .result) (turn .turned .going) (ap (λ d. d .at) (c .onto2 .ensures)) (ap (λ d. d .words) (c .onto2 .ensures)) (turn .here .long)
-    (start .good .1 .0 .0)
+whole-word-requires : tie.Need-whole-word-requires Inv-loop μ-loop
+whole-word-requires c κs = search needs
 
 element-copy-out-if6 : tie.Need-element-copy-out-if6 Inv-loop μ-loop
 element-copy-out-if6 c = known (c .before .before)
@@ -213,24 +224,20 @@ full-requires : tie.Need-full-requires Inv-loop μ-loop
 full-requires c κs = search needs
 
 down-requires : tie.Need-down-requires Inv-loop μ-loop
-down-requires c κs =
-    let at-word = c .before .before .before .before .before in
-    let depth = ap (λ d. d .depth) (past at-word) in
-    let room = word-turn (at-word .before .before) .room in
-    omega arith
+down-requires c κs = search needs
 
 loop-less-3 : tie.Need-loop-less-3 Inv-loop μ-loop
 loop-less-3 c =
     let at-word = c .before .before .before .before .before .before in
     let at-passed = at-word .before .before in
     let start = at-passed .before .before .before .before .before .before .before .before .before .before .before .before .before .before .before in
-    less-as (now (start .args .t)) _ (c .down .ensures ∙ ap (wentDown (c .before .full .result)) (past at-word))
+    less-as (now (start .args .t)) _ (below c)
     (less-down (word-turn at-passed) (c .before .full .result) (c .before .full .ensures))
 
 loop-again-3 : tie.Need-loop-again-3 Inv-loop μ-loop
 loop-again-3 c =
     let at-word = c .before .before .before .before .before .before in
-    turned-as (c .down .ensures ∙ ap (wentDown (c .before .full .result)) (past at-word))
+    turned-as (below c)
     (turned-down (word-turn (at-word .before .before)) (c .before .before .before .before .if6 .taken) (c .before .full .ensures))
 
 loop-less-4 : tie.Need-loop-less-4 Inv-loop μ-loop
@@ -276,7 +283,7 @@ full-words-spec =
     wide-requires
     passed-requires
     onto-requires-2
-    word-requires
+    whole-word-requires
     element-copy-out-if6
     mul-frames
     element-write-frames

@@ -14,7 +14,7 @@ use lib.Dec.{lit<}
 use lib.ListN.{drop}
 use borrow.Author.Needs.{scaled-fits}
 use Rattle.signature.specs.Tables.{vocabularyIn}
-use Rattle.reader.specs.Cursors.{wentDown}
+use Rattle.cursors.specs.Cursors.{wentDown}
 use Rattle.reader.specs.Terms.{Under}
 use Rattle.reader.specs.declared.node.Node.{Node as Answer}
 use Rattle.reader.specs.declared.node.Node.the-variants.{Word, Name}
@@ -83,6 +83,10 @@ mul-names c = scaled-fits _ 64 2 (name-known (c .before .before .before .before 
 element-write-names : tie.Need-element-write-names
 element-write-names c = name-known (c .before .before .before .before .before .before) (c .before .before .before .before .n .given .1)
 
+-- A written map is a byte.
+map-byte : (c : tie.After-known-told3) → c .before .f .given .0 .1 .0 < 256
+map-byte c = omega arith
+
 leaf-requires : tie.Need-leaf-requires
 leaf-requires c κs = search needs
 
@@ -100,7 +104,10 @@ returns-2 c =
     let read = c .before .before .before .before .before .before in
     let found = c .before .before .before .before .f .given .1 in
     let start = read .before .before .before in
-    λ v u small. answers-went (follows-as (c .before .word .ensures) (step-bare u (start .args .kind) (stood-at read found v u) (omega arith) (c .if2 .taken)))
+    let inside = start .pre .1 .1 .0 in
+    let fewer = start .pre .1 .1 .1 in
+    let fits = start .good .0 .0 in
+    λ v u small. answers-went (follows-as (c .before .word .ensures (omega arith) (omega arith)) (step-bare u (start .args .kind) (stood-at read found v u) (omega arith) (c .if2 .taken)))
 
 mul-frames : tie.Need-mul-frames
 mul-frames c = scaled-fits _ 32 8 (word-shallow (c .before .before .before .before .before .before) (c .before .before .before .before .f .given .1)) (lit< tt)
@@ -118,10 +125,7 @@ of-word-requires : tie.Need-of-word-requires
 of-word-requires c κs = search needs
 
 down-requires : tie.Need-down-requires
-down-requires c κs =
-    let depth = ap (λ d. d .depth) (c .before .before .before .word .ensures) in
-    let room = word-shallow (c .before .before .before .before .before .before .before .before) (c .before .before .before .before .before .before .f .given .1) in
-    omega arith
+down-requires c κs = search needs
 
 returns-3 : tie.Need-returns-3
 returns-3 c =
@@ -135,17 +139,26 @@ returns-4 c =
     let start = read .before .before .before in
     λ v u small.
     answers-went
-    (follows-as (c .leaf .ensures)
+    (follows-as (c .leaf .ensures (let inside = start .pre .1 .1 .0 in let most = start .pre .1 .1 .2 in omega arith) (let inside = start .pre .1 .1 .0 in let most = start .pre .1 .1 .2 in omega arith))
     (step-name u (start .args .kind) (stood-at read found v u) (now (start .args .names)) (start .pre .1 .0 .0) small
     (sym (c .before .before .clashes .ensures) ∙ c .before .if1 .left)))
 
 returns-5 : tie.Need-returns-5
-returns-5 c = λ v u small.
+returns-5 c =
+    let read = c .before .before .before .before .before .before .before .before .before in
+    let found = c .before .before .before .before .before .before .before .f .given .1 in
+    let start = read .before .before .before in
+    let inside = start .pre .1 .1 .0 in
+    let fewer = start .pre .1 .1 .1 in
+    let fits = start .good .0 .0 in
+    let past = c .before .before .before .before .word .ensures (omega arith) (omega arith) in
+    let depth = ap (λ d. d .depth) past in
+    let room = word-shallow read found in
+    λ v u small.
     answers-went
-    (follows-as (c .down .ensures ∙ ap (wentDown (c .before .of-word .result)) (c .before .before .before .before .word .ensures))
-    (step-down u (c .before .before .before .before .before .before .before .before .before .before .before .before .args .kind)
-    (stood-at (c .before .before .before .before .before .before .before .before .before) (c .before .before .before .before .before .before .before .f .given .1) v u)
-    (omega arith) (c .before .before .before .if2 .left) (c .before .of-word .ensures)))
+    (follows-as (c .down .ensures (omega arith) ∙ ap (wentDown (c .before .of-word .result)) past)
+    (step-down u (start .args .kind) (stood-at read found v u)
+    (map-byte (c .before .before .before .before .before .before)) (c .before .before .before .if2 .left) (c .before .of-word .ensures)))
 
 pub read-node-spec : {M : Type 1} → statement M
 read-node-spec =

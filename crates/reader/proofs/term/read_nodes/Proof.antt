@@ -27,7 +27,7 @@ under : (c : tie.After-read-node Inv-loop μ-loop) →
     Under (now (a .v)) (now (a .t)) (a .words) (now (a .offsets)) (now (a .results)) (now (a .maps)) (at-loop .loop .frames) (at-loop .loop .c)
 under c =
     let at-loop = c .before .before .before in
-    node-under (at-loop .loop .inv) (at-loop .before .before .before .pre .0) (λ i. at-loop .before .before .shared-slice-known .given i .fits)
+    node-under (at-loop .loop .inv) (at-loop .before .before .before .pre .1 .2) (at-loop .before .before .before .pre .0) (λ i. at-loop .before .before .shared-slice-known .given i .fits)
 
 loop-holds : tie.Need-loop-holds Inv-loop μ-loop
 loop-holds c = node-first (c .before .before .args .first) (omega arith) (c .before .before .pre .1 .0) (c .before .before .pre .1 .1)
@@ -37,7 +37,7 @@ read-node-requires c κs =
     let inv = c .before .before .loop .inv in
     let start = c .before .before .before .before .before in
     let few = few-words (start .pre .0) (λ i. c .before .before .before .before .shared-slice-known .given i .fits) in
-    (few, ((inv .entries, inv .going .entries), (inv .going .inside, inv .going .fewer)))
+    (few, ((inv .entries, inv .going .entries), (inv .going .inside, inv .going .fewer, start .pre .1 .2)))
 
 enum-known-why : tie.Need-enum-known-why Inv-loop μ-loop
 enum-known-why c = c .match .keys1
@@ -80,9 +80,7 @@ shared-slice-read-kind c =
     kind-inside (p .going .due) (p .due (positive _ (c .before .before .if1 .left))) (c .before .kinds .ensures)
 
 passed-requires : tie.Need-passed-requires Inv-loop μ-loop
-passed-requires c κs =
-    let p = c .before .before .before .before .full-words .ensures in
-    pass-asks (p .going .due) (p .due (positive _ (c .before .before .if1 .left)))
+passed-requires c κs = tt
 
 onto-requires : tie.Need-onto-requires Inv-loop μ-loop
 onto-requires c κs = tt
@@ -106,7 +104,8 @@ loop-again c =
     let followed = answers .went _ (c .before .before .before .before .before .before .before .before .before .x .given .1) in
     let p = c .before .before .before .before .before .before .full-words .ensures in
     let low = positive _ (c .before .before .before .before .if1 .left) in
-    onward-node (onward-passed (node-follows (at-loop .loop .inv) followed) p) low (p .due low) (c .before .passed .ensures) (c .onto .ensures)
+    let asks = pass-asks (p .going .due) (p .due low) in
+    onward-node (onward-passed (node-follows (at-loop .loop .inv) followed) p) low (p .due low) (c .before .passed .ensures (asks .0) (asks .1) (asks .2)) (c .onto .ensures)
     (c .before .before .before .kinds .ensures) (at-loop .before .before .shared-slice-known .given (c .before .before .before .kinds .result) .fits)
 
 pub read-nodes-spec : {M : Type 1} → statement M

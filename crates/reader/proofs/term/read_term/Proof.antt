@@ -3,8 +3,8 @@ use mathlib.Core.Path.{sym, ap, subst, _∙_}
 use Prim.Native.Nat.{_+_, _<_}
 use native.Mathlib.Omega.{arith}
 use denote.Ref.{now}
-use Rattle.reader.specs.Cursors.{pastLeaf}
-use Rattle.reader.specs.declared.cursor.Cursor.{Cursor}
+use Rattle.cursors.specs.Cursors.{pastLeaf}
+use Rattle.cursors.specs.declared.Cursor.{Cursor}
 use Rattle.reader.proofs.Tables.{few-words}
 use Rattle.reader.proofs.Places.{ends-as, root-whole, root-at, root-read}
 use borrow.Author.Needs.{needs}
@@ -18,10 +18,7 @@ whole-at-requires : tie.Need-whole-at-requires
 whole-at-requires c κs = search needs
 
 leaf-requires : tie.Need-leaf-requires
-leaf-requires c κs =
-    let start = c .before .before .before .before .before in
-    let there = c .before .whole-at .ensures .there (c .if1 .taken) in
-    subst (λ (d : Cursor). d .at + 1 < 18446744073709551616) (sym (c .before .before .start .ensures)) (let long = there .0 in omega (arith, start .good .1 .0 .0))
+leaf-requires c κs = search needs
 
 returns : tie.Need-returns
 returns c =
@@ -30,12 +27,13 @@ returns c =
     let few = few-words (start .pre .0) (λ i. c .before .before .before .before .before .shared-slice-known .given i .fits) in
     let words = start .pre .0 .tabled .words in
     λ seen named.
-    ends-as (c .leaf .ensures ∙ ap pastLeaf (c .before .before .before .start .ensures))
-    (root-whole (now (start .args .v)) (now (start .args .t)) (start .args .from) (start .args .kind) (start .pre .1 .0) (there .0) (there .1)
+    let at = ap (λ (d : Cursor). d .at) (c .before .before .before .start .ensures) in
+    ends-as (c .leaf .ensures (let long = there .0 in let most = start .pre .1 .2 in omega arith) (let long = there .0 in let most = start .pre .1 .2 in omega arith) ∙ ap pastLeaf (c .before .before .before .start .ensures))
+    (root-whole (now (start .args .v)) (now (start .args .t)) (start .args .from) (start .args .kind) (start .pre .1 .0) (start .pre .1 .2) (there .0) (there .1)
     (omega arith) seen named)
 
 read-nodes-requires : tie.Need-read-nodes-requires
-read-nodes-requires c κs = let start = c .before .before .before .before .before .before in (start .pre .0, (start .pre .1 .1, root-at (now (start .args .v)) (now (start .args .t)) (start .args .from) (start .args .kind) (start .pre .1 .0) (c .before .before .before .start .ensures)))
+read-nodes-requires c κs = let start = c .before .before .before .before .before .before in (start .pre .0, (start .pre .1 .1, root-at (now (start .args .v)) (now (start .args .t)) (start .args .from) (start .args .kind) (start .pre .1 .0) (c .before .before .before .start .ensures), start .pre .1 .2))
 
 returns-2 : tie.Need-returns-2
 returns-2 c =

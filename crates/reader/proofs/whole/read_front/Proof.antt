@@ -28,7 +28,7 @@ returns-3 c = let a = c .before .before .before .before .before .before .before 
     record { inside = omega arith; same = front-kind (vocabularyIn (now (a .v))) (now (a .t)) (c .before .before .before .before .if1 .left) (c .before .before .before .if2 .left) (omega (arith, kinds, c .if3 .taken)) }
 
 read-term-requires : tie.Need-read-term-requires
-read-term-requires c κs = (c .before .before .before .before .before .before .before .before .pre .0, (omega (arith, c .before .before .before .before .before .if1 .left), ap length (c .before .before .before .before .before .before .before .before .pre .1)))
+read-term-requires c κs = (c .before .before .before .before .before .before .before .before .pre .0, (omega (arith, c .before .before .before .before .before .if1 .left), ap length (c .before .before .before .before .before .before .before .before .pre .1), c .before .before .before .before .if2 .left))
 
 returns-4 : tie.Need-returns-4
 returns-4 c = let a = c .before .before .before .before .before .before .before .before .before .args in

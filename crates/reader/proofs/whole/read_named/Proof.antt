@@ -38,8 +38,14 @@ returns c =
     let a = lent .before .before .args in
     whole-refused refl (told-continues (now (a .v)) (now (a .t)) _ _ (ordered lent) (bytes lent) (read .read-front .ensures) (at-c .c .given .0 .0) (at-c .c .given .1) (c .if1 .taken))
 
-least-requires : tie.Need-least-requires
-least-requires c κs = search needs
+complete-requires : tie.Need-complete-requires
+complete-requires c κs = search needs
+
+gap-requires : tie.Need-gap-requires
+gap-requires c κs = search needs
+
+short-requires : tie.Need-short-requires
+short-requires c κs = search needs
 
 returns-2 : tie.Need-returns-2
 returns-2 c =
@@ -51,12 +57,13 @@ returns-2 c =
 
 returns-3 : tie.Need-returns-3
 returns-3 c =
-    let at-c = c .before .before .before in
+    let at-c = c .before .before .before .before .before in
     let read = at-c .before .before in
     let lent = read .before .before in
     let a = lent .before .before .args in
     whole-read
-    (told-read (now (a .v)) (now (a .t)) _ _ (ordered lent) (bytes lent) (read .read-front .ensures) (at-c .c .given .0 .0) (at-c .c .given .1) (c .before .if1 .left) (c .least .ensures))
+    (told-read (now (a .v)) (now (a .t)) _ _ (ordered lent) (bytes lent) (read .read-front .ensures) (at-c .c .given .0 .0) (at-c .c .given .1) (c .before .before .before .if1 .left)
+    (c .before .before .complete .ensures) (c .before .gap .ensures) (c .short .ensures))
     (ordered lent) (bytes lent) (ends (now (a .v)) (now (a .t)) _ _ (ordered lent) (bytes lent) (read .read-front .ensures) (at-c .c .given .0 .0) (at-c .c .given .1))
 
 pub read-named-spec : {M : Type 1} → statement M
@@ -67,6 +74,8 @@ read-named-spec =
     enum-known-why
     enum-known-c
     returns
-    least-requires
+    complete-requires
+    gap-requires
+    short-requires
     returns-2
     returns-3)

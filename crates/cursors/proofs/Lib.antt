@@ -1,0 +1,2 @@
+-- The laws of a cursor's steps.
+pub mod Laws

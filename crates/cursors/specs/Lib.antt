@@ -1,0 +1,2 @@
+-- What the contracts of a cursor's methods cite.
+pub mod Cursors

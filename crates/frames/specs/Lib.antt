@@ -1,0 +1,2 @@
+-- What the contracts of frames cite.
+pub mod Frames
