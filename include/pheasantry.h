@@ -49,9 +49,9 @@
 #include <stdint.h>
 
 /* The version of this header and of the archive that it is installed with. */
-#define PHEASANTRY_VERSION "0.4.0"
+#define PHEASANTRY_VERSION "0.5.0"
 #define PHEASANTRY_VERSION_MAJOR 0
-#define PHEASANTRY_VERSION_MINOR 4
+#define PHEASANTRY_VERSION_MINOR 5
 #define PHEASANTRY_VERSION_PATCH 0
 
 /* The length that `reply` must have. A later version may have more numbers. */
@@ -81,7 +81,8 @@ enum pheasantry_refusal {
     PHEASANTRY_REFUSED_RECORD_KIND = 4,
     /* bytes follow the last record */
     PHEASANTRY_REFUSED_RECORDS_CONTINUE = 5,
-    /* a kind has no complete situation (place: the lowest such kind) */
+    /* a kind has no complete situation (place: the lowest such kind). 6 is no longer given (document 02,
+     * request iv): such a vocabulary is accepted */
     PHEASANTRY_REFUSED_EMPTY_KIND = 6,
 
     /* the term has fewer than 2 or more than 4,096 bytes (place 0, in a book the pattern's first byte) */
@@ -133,7 +134,7 @@ enum pheasantry_refusal {
 
 /* Which input is refused: reply[1]. */
 enum pheasantry_input {
-    /* 1 to 6 */
+    /* 1 to 5 */
     PHEASANTRY_INPUT_VOCABULARY = 0,
     /* the pattern, or the term that pheasantry_check_term is to check: 7 to 15 and 18 */
     PHEASANTRY_INPUT_PATTERN = 1,
@@ -152,10 +153,10 @@ extern "C" {
 #endif
 
 /*
- * Checks a vocabulary.
+ * Checks a vocabulary. A kind may have no complete situation.
  *
  * Accepted: 0.
- * Refused: 1 to 6.
+ * Refused: 1 to 5. 6 is no longer given (document 02, request iv).
  */
 void pheasantry_check_vocabulary(const uint8_t *vocabulary, size_t vocabulary_length,
                                  uint64_t reply[PHEASANTRY_REPLY_LENGTH]);
@@ -168,7 +169,7 @@ void pheasantry_check_vocabulary(const uint8_t *vocabulary, size_t vocabulary_le
  *   A term is complete if it has no name, no 255, and no short map: one that lacks a bit of its word's
  *   place map. The gap is the offset of the first of these, and of a complete term its length; both count
  *   the kind byte. As a situation, a term that is accepted but not complete is refused with 16 at its gap.
- * Refused: 1 to 15. The term is input 1.
+ * Refused: 1 to 5 and 7 to 15. The term is input 1.
  */
 void pheasantry_check_term(const uint8_t *vocabulary, size_t vocabulary_length,
                            const uint8_t *term, size_t term_length,
@@ -182,7 +183,7 @@ void pheasantry_check_term(const uint8_t *vocabulary, size_t vocabulary_length,
  *   covers, and table[2 * n + 1] its length in bytes; 0 and 0 for a name that is not in the
  *   pattern. Offsets count the situation's kind byte.
  *   No leaves the table as it was.
- * Refused: 1 to 17 and 19.
+ * Refused: 1 to 5, 7 to 17 and 19.
  */
 void pheasantry_match(const uint8_t *vocabulary, size_t vocabulary_length,
                       const uint8_t *pattern, size_t pattern_length,
@@ -207,12 +208,15 @@ void pheasantry_part(const uint8_t *vocabulary, size_t vocabulary_length,
 
 /*
  * Writes the leftovers of a pattern into out: whole patterns, each with its kind byte, each directly
- * behind the one before it.
+ * behind the one before it. For every entry there is a complete situation that fits it.
+ *
+ * Where no complete situation fits the pattern, all of the kind are left over: there is one entry, the kind
+ * byte and 255, or none if the kind has no complete situation.
  *
  * Accepted: 0, the number of entries, the number of bytes written. Bytes of out behind them stay as
  *   they were.
- * Refused: 1 to 15, 18 and 20. A call with an out_length of 0 measures: where the inputs are in order
- *   and there are leftovers it is refused with 20, and reply[2] is the length that out has to have.
+ * Refused: 1 to 5, 7 to 15, 18 and 20. A call with an out_length of 0 measures: where the inputs are in
+ *   order and there are leftovers it is refused with 20, and reply[2] is the length that out has to have.
  */
 void pheasantry_list(const uint8_t *vocabulary, size_t vocabulary_length,
                      const uint8_t *pattern, size_t pattern_length,
@@ -229,9 +233,10 @@ void pheasantry_list(const uint8_t *vocabulary, size_t vocabulary_length,
  * Accepted: 0, the number of bytes written. The result has its kind byte, and bytes of out behind it
  *   stay as they were. If it is complete, pheasantry_match of the pattern with it says yes, and the table
  *   has the parts that were filled in.
- * Refused: 1 to 15 and 20 to 23, of which 20 is the last to be checked. A call with an out_length of 0
- *   measures: where the inputs are in order and the result is within the limits it is refused with 20,
- *   and reply[2] is the length that out has to have, at most 4,096.
+ * Refused: 1 to 5, 7 to 15 and 20 to 23, of which 20 is the last to be checked. A name of a kind that has
+ *   no complete situation cannot be filled: 22. A call with an out_length of 0 measures: where the inputs
+ *   are in order and the result is within the limits it is refused with 20, and reply[2] is the length that
+ *   out has to have, at most 4,096.
  */
 void pheasantry_fill(const uint8_t *vocabulary, size_t vocabulary_length,
                      const uint8_t *pattern, size_t pattern_length,
@@ -242,7 +247,9 @@ void pheasantry_fill(const uint8_t *vocabulary, size_t vocabulary_length,
 /*
  * Writes the leftovers of a whole book into out: whole patterns without names, each with its kind byte,
  * each directly behind the one before it. Every complete situation of the kind fits some pattern of the
- * book or exactly one of these entries, never both.
+ * book or exactly one of these entries, never both, and for every entry there is one that fits it. A
+ * pattern that no complete situation fits changes nothing; a book of such patterns alone leaves one entry,
+ * the kind byte and 255, or none if the kind has no complete situation.
  *
  * A book is a count byte, 1 to 64, and then so many whole patterns in a row, each with its kind byte, all
  * of one kind. Names are a pattern's own: the same name in two patterns means nothing.
@@ -252,8 +259,8 @@ void pheasantry_fill(const uint8_t *vocabulary, size_t vocabulary_length,
  *
  * Accepted: 0, the number of entries, the number of bytes written. Bytes of out behind them stay as
  *   they were.
- * Refused: 1 to 15, 18, 20 and 24 to 26. Behind the vocabulary 24 is checked, then for each pattern in
- *   turn 7 to 14, 18 and 25, then 15, 26 and 20. A call with an out_length of 0 measures: where the
+ * Refused: 1 to 5, 7 to 15, 18, 20 and 24 to 26. Behind the vocabulary 24 is checked, then for each pattern
+ *   in turn 7 to 14, 18 and 25, then 15, 26 and 20. A call with an out_length of 0 measures: where the
  *   inputs are in order and there are leftovers it is refused with 20, and reply[2] is the length that
  *   out has to have, at most PHEASANTRY_BOOK_LISTING_LENGTH.
  */

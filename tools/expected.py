@@ -47,8 +47,11 @@ class Word:
 
 @dataclass
 class Vocabulary:
+    """The number of kinds, the words, and the kinds that have a complete situation."""
+
     kinds: int
     words: list
+    having: set
 
 
 def bits(number):
@@ -57,7 +60,7 @@ def bits(number):
 
 
 def read_vocabulary(data):
-    """The vocabulary that the bytes write; Refused by lines 1 to 6."""
+    """The vocabulary that the bytes write; Refused by lines 1 to 5. "6 no longer occurs": a kind may have no situation."""
     if len(data) < 2 or not 1 <= data[0] <= 16:
         raise Refused(1, VOCABULARY, 0)
     if not 1 <= data[1] <= 96:
@@ -84,18 +87,14 @@ def read_vocabulary(data):
         words.append(Word(result, {bit: kind_due() for bit in bits(place_map)}))
     if at < len(data):
         raise Refused(5, VOCABULARY, at)
-    read = Vocabulary(data[0], words)
-    empty = set(range(read.kinds)) - kinds_with_situations(read)
-    if empty:
-        raise Refused(6, VOCABULARY, min(empty))
-    return read
+    return Vocabulary(data[0], words, kinds_with_situations(words))
 
 
-def kinds_with_situations(vocabulary):
+def kinds_with_situations(words):
     """The kinds that have a complete situation: a word whose places' kinds all have one gives one."""
     having = set()
     while True:
-        more = {w.result for w in vocabulary.words if having.issuperset(w.places.values())}
+        more = {w.result for w in words if having.issuperset(w.places.values())}
         if more <= having:
             return having
         having |= more
@@ -261,6 +260,14 @@ def carried_out(vocabulary, pattern, named, nameless):
     return fill(pattern)
 
 
+def is_fitted(vocabulary, kind, term):
+    """Whether some complete situation fits a term of a kind, in which no name stands twice: whether each name, each open
+    place (None) and a 255 can be given a complete term of the kind due there."""
+    if not isinstance(term, Node):
+        return kind in vocabulary.having
+    return all(is_fitted(vocabulary, below, term.written.get(bit)) for bit, below in vocabulary.words[term.word].places.items())
+
+
 # ---------------------------------------------------------------- leftovers
 
 
@@ -277,8 +284,8 @@ def map_of(written):
     return sum(1 << bit for bit in written)
 
 
-def listing(vocabulary, tree):
-    """The entries of a term's listing, each written out; none for 255, a name or an open place."""
+def listing_order(vocabulary, tree):
+    """The entries that document 01's listing order has for a term, each written out; none for 255, a name or an open place."""
     if not isinstance(tree, Node):
         return
     for number, word in enumerate(vocabulary.words):
@@ -287,8 +294,24 @@ def listing(vocabulary, tree):
     for place in sorted(tree.written):
         lower = sorted(bit for bit in tree.written if bit < place)
         start = bytes([tree.word, map_of([*lower, place])]) + b"".join(writing(tree.written[bit]) for bit in lower)
-        for entry in listing(vocabulary, tree.written[place]):
+        for entry in listing_order(vocabulary, tree.written[place]):
             yield start + entry
+
+
+def listing(vocabulary, kind, tree):
+    """The entries of a pattern's listing, each written out with its kind byte."""
+    # "If no complete situation fits the pattern, the listing is 255 alone, or nothing where the kind itself has none."
+    if not is_fitted(vocabulary, kind, tree):
+        if kind in vocabulary.having:
+            yield bytes([kind, 255])
+        return
+    # Where every kind has situations, every term is fitted.
+    every = len(vocabulary.having) == vocabulary.kinds
+    for written in listing_order(vocabulary, tree):
+        entry = bytes([kind]) + written
+        # "leaves out every entry that no complete situation fits"
+        if every or is_fitted(vocabulary, *read_term(vocabulary, entry)):
+            yield entry
 
 
 def names_in(tree):
@@ -402,13 +425,17 @@ def without_names(term):
     return word_with(term.word, {bit: without_names(below) for bit, below in term.written.items()})
 
 
-def share_a_situation(entry, pattern):
-    """Whether a situation fits both. No name stands twice and every kind has situations, so one does unless the two
-    have different words at some place."""
-    if not isinstance(entry, Node) or not isinstance(pattern, Node):
-        return True
-    both = entry.written.keys() & pattern.written.keys()
-    return entry.word == pattern.word and all(share_a_situation(entry.written[bit], pattern.written[bit]) for bit in both)
+def share_a_situation(vocabulary, kind, entry, pattern):
+    """Whether some complete situation fits an entry's term and a pattern's, both of a kind. No name stands twice, so one
+    does if at each place one does."""
+    if not isinstance(entry, Node):
+        return is_fitted(vocabulary, kind, pattern)
+    if not isinstance(pattern, Node):
+        return is_fitted(vocabulary, kind, entry)
+    places = vocabulary.words[entry.word].places
+    return entry.word == pattern.word and all(
+        share_a_situation(vocabulary, below, entry.written.get(bit), pattern.written.get(bit)) for bit, below in places.items()
+    )
 
 
 def what_both_allow(entry, pattern):
@@ -429,7 +456,7 @@ def leftovers_against(vocabulary, entry, pattern):
     # "where the entry is open or 255, the listing of the pattern's term there"
     if entry is None:
         kind = bytes([vocabulary.words[pattern.word].result])
-        for written in listing(vocabulary, pattern):
+        for written in listing_order(vocabulary, pattern):
             _, tree = read_term(vocabulary, kind + written)
             yield without_names(tree)
         return
@@ -442,28 +469,30 @@ def leftovers_against(vocabulary, entry, pattern):
             yield word_with(entry.word, lower | {place: left} | higher)
 
 
-def left_after(vocabulary, entries, pattern):
+def left_after(vocabulary, kind, entries, pattern):
     """The entries left after one more pattern."""
     for entry in entries:
-        if share_a_situation(entry, pattern):
-            yield from leftovers_against(vocabulary, entry, pattern)
-        else:
-            yield entry
+        shared = share_a_situation(vocabulary, kind, entry, pattern)
+        for left in leftovers_against(vocabulary, entry, pattern) if shared else [entry]:
+            # "A listing, in a book after each pattern, now leaves out every entry that no complete situation fits."
+            if is_fitted(vocabulary, kind, left):
+                yield left
 
 
 def book_listing(vocabulary, kind, patterns):
     """The entries that the patterns of a book leave, each written out with its kind byte; Refused by line 26."""
-    entries = [None]
+    # "Books start with no entry for such a kind."
+    entries = [None] if kind in vocabulary.having else []
     for number, pattern in enumerate(patterns):
         left, length = [], 0
-        for entry in left_after(vocabulary, entries, pattern):
+        for entry in left_after(vocabulary, kind, entries, pattern):
             left.append(entry)
-            size = 1 + len(writing(entry))
+            size = 2 if entry is None else 1 + len(writing(entry))
             length += size
             if size > MOST_BYTES or length > MOST_BYTES_OF_ENTRIES:
                 raise Refused(26, BOOK, number)
         entries = left
-    return [bytes([kind]) + writing(entry) for entry in entries]
+    return [bytes([kind]) + (bytes([255]) if entry is None else writing(entry)) for entry in entries]
 
 
 # ---------------------------------------------------------------- the calls
@@ -541,11 +570,11 @@ def list_leftovers(vocabulary, pattern, out):
     kind, tree = read_term(vocabulary, pattern, PATTERN)
     no_name_twice(tree, PATTERN)
     entries = length = 0
-    for entry in listing(vocabulary, tree):
-        entries, length = entries + 1, length + 1 + len(entry)
+    for entry in listing(vocabulary, kind, tree):
+        entries, length = entries + 1, length + len(entry)
     if length > len(out):
         raise Refused(20, LENT, length)
-    out[:length] = b"".join(bytes([kind]) + entry for entry in listing(vocabulary, tree))
+    out[:length] = b"".join(listing(vocabulary, kind, tree))
     return entries, length
 
 
@@ -588,7 +617,7 @@ def printed(data):
         return f"{refusal.reply}\n"
     vocabulary = read_vocabulary(vocabulary)
     kind, tree = read_term(vocabulary, pattern)
-    lines = [f"{number} {kind:02x}{entry.hex()}\n" for number, entry in enumerate(listing(vocabulary, tree), 1)]
+    lines = [f"{number} {entry.hex()}\n" for number, entry in enumerate(listing(vocabulary, kind, tree), 1)]
     return f"leftovers {entries}\n" + "".join(lines)
 
 
@@ -670,7 +699,7 @@ def reply_to_find(vocabulary, length, pattern, sought):
     answer, entries, _ = listed(vocabulary, length, pattern)
     vocabulary = read_vocabulary(vocabulary)
     kind, tree = read_term(vocabulary, pattern)
-    single = [bytes([kind]) + entry for entry in listing(vocabulary, tree)] if entries else []
+    single = list(listing(vocabulary, kind, tree)) if entries else []
     assert b"".join(single) == entries
     place = f"entry {single.index(sought) + 1}" if sought in single else "no entry"
     return f"{answer}, it is {place}"
@@ -834,6 +863,20 @@ GAPS_FAMILY = h("02 06  00 00  00 00  01 00  01 00  00 81 00 01  01 12 01 00")
 # One kind, a, b, and a word with places 0, 3 and 6.
 THREE = h("01 03  00 00  00 00  00 49 00 00 00")
 
+# Kinds without complete situation. Kind 1 of the first has no word: a, g(., kind 1), h(.). The second's only word stands over
+# itself. In the third, A has a printer that is not there: the words print(printer), a step, and jam(printer), a queue. In the
+# fourth, C has d(kind 1).
+NO_PART = h("02 03  00 00  00 03 00 01  00 01 00")
+OVER_ITSELF = h("01 01  00 01 00")
+NO_PRINTER = h("04 08  00 03 01 02  01 00  01 00  02 00  02 00  00 00  00 01 03  02 01 03")
+C_AND_D = h("02 04  00 00  00 00  00 03 00 00  00 01 01")
+
+
+# 16 kinds, of which each but the last has one word over the next; the last word of the row is given. Word 16 is of kind 0.
+def row_of_16(last):
+    return h("10 11") + b"".join(bytes([kind, 1, kind + 1]) for kind in range(15)) + h(last) + h("00 00")
+
+
 # An input for `leftovers` of almost 5,000 bytes with a listing of almost 65,536: of the kinds in the pattern only the
 # last, 5, has several words. Kind 6 does not stand in the pattern and makes the vocabulary long.
 LONG_VOCABULARY = (
@@ -944,7 +987,7 @@ def listings_divide():
             kind, tree = read_term(read, pattern)
             names = [name.number for name in names_in(tree)]
             if len(names) == len(set(names)):
-                heads = [pattern, *(bytes([kind]) + entry for entry in listing(read, tree))]
+                heads = [pattern, *listing(read, kind, tree)]
                 assert all(sum(covered(vocabulary, head, s) is not None for head in heads) == 1 for s in situations)
 
 
@@ -982,6 +1025,46 @@ def books_divide():
         assert not any([*names_in(read_term(read, entry)[1])] for entry in stood)
 
 
+def empty_kinds_divide():
+    """The same where kinds have no complete situation, and that no entry can be struck: one of the situations fits it. The
+    situations are large enough for that."""
+    for vocabulary, kind, most_in_pattern, most_in_situation in [
+        (NO_PART, 0, 4, 6),
+        (NO_PART, 1, 1, 6),
+        (OVER_ITSELF, 0, 4, 6),
+        (NO_PRINTER, 0, 3, 3),
+        (NO_PRINTER, 2, 2, 3),
+        (NO_PRINTER, 3, 1, 3),
+        (C_AND_D, 0, 2, 7),
+        # Kind 1's words stand over kind 2, which has none, and over kind 3, which has one.
+        (h("04 07  00 00  00 03 01 00  01 01 02  01 01 03  02 01 02  03 00  00 01 02"), 0, 3, 10),
+        (h("04 07  00 00  00 03 01 00  01 01 02  01 01 03  02 01 02  03 00  00 01 02"), 1, 3, 3),
+    ]:
+        read = read_vocabulary(vocabulary)
+        patterns, situations = family(read, kind, most_in_pattern, most_in_situation)
+        tree_of = {pattern: read_term(read, pattern)[1] for pattern in patterns}
+        once = [p for p in patterns if len({name.number for name in names_in(tree_of[p])}) == len([*names_in(tree_of[p])])]
+        fitting = {}
+
+        def fit(head):
+            if head not in fitting:
+                fitting[head] = {s for s in situations if covered(vocabulary, head, s) is not None}
+            return fitting[head]
+
+        whole = [bytes([kind, 255])] if situations else []
+        for pattern in once:
+            entries = list(listing(read, kind, tree_of[pattern]))
+            assert all(fit(entry) for entry in entries)
+            assert sorted([*fit(pattern), *(s for entry in entries for s in fit(entry))]) == sorted(situations)
+            assert fit(pattern) or entries == whole
+        for book in [*product(once, repeat=1), *product(once, repeat=2)]:
+            entries = book_listing(read, kind, [tree_of[pattern] for pattern in book])
+            assert all(fit(entry) for entry in entries)
+            assert sorted(s for entry in entries for s in fit(entry)) == sorted(set(situations) - set().union(*map(fit, book)))
+            some = [tree_of[pattern] for pattern in book if fit(pattern)]
+            assert sorted(entries) == sorted(book_listing(read, kind, some))
+
+
 # ---------------------------------------------------------------- values worked out by hand
 
 
@@ -990,15 +1073,15 @@ def by_hand():
     assert (len(A), len(B), len(C)) == (16, 7, 10)
     assert (len(words_96(95)), len(words_96(96))) == (954, 962)
     assert (len(PAIRS_4096), len(PAIRS_4097)) == (4096, 4097)
-    # "Vocabulary `01 01 00 01 00`: 6, input 0, place 0."
-    assert reply(check_vocabulary, h("01 01 00 01 00")) == "refused 6 0 0"
+    # "6 no longer occurs ..., and its starred case is now accepted."
+    assert reply(check_vocabulary, h("01 01 00 01 00")) == "accepted"
     # The third byte of `02 02 00 00 02 00`'s second record is no kind: offsets 2, 3, then 4.
     assert reply(check_vocabulary, h("02 02 00 00 02 00")) == "refused 4 0 4"
     # One word, whose map's only kind is due at offset 4.
     assert reply(check_vocabulary, h("01 01 00 01")) == "refused 3 0 4"
     # "more can't alter the result": an accepted vocabulary has at most 962 bytes.
-    assert reply(check_vocabulary, words_96(95)) == "accepted"
-    assert reply(check_vocabulary, words_96(96)) == "refused 6 0 0"
+    assert reply(check_vocabulary, words_96(95)) == reply(check_vocabulary, words_96(96)) == "accepted"
+    assert reply(check_vocabulary, words_96(96) + h("00")) == "refused 5 0 962"
     # wait, up and free are 3 words; up and free stand at level 2.
     assert reply(check_term, A, h("00 00 03 01 00 03 00")) == "accepted 3 2 1 7"
     # more, more and none, each below the one before.
@@ -1264,7 +1347,7 @@ def booked_by_hand():
     assert entries(A, "01 01 01 00", 3) == ("accepted 1 3", {"010200"})
     # 24: no count, or one outside 1 to 64; after the vocabulary.
     assert refusal(C, "") == refusal(C, "00 00 ff") == refusal(C, "41 00 ff [1,128]") == "refused 24 5 0"
-    assert refusal(h("02 01 00 00"), "") == "refused 6 0 1"
+    assert refusal(h("02 01 01 00 00"), "") == "refused 5 0 4"
     assert entries(C, "40 00 ff [1,126]", 0) == ("accepted 0 0", set())
     # 7 names the pattern's first byte where fewer than two bytes are left; with two, 9 names the missing one.
     assert refusal(C, "01") == refusal(C, "01 05") == "refused 7 5 1"
@@ -1309,6 +1392,80 @@ def booked_by_hand():
     assert refusal(FILLERS, together(one, left, right)) == refusal(FILLERS, together(one, left, right, whole)) == "refused 26 5 2"
 
 
+def empty_kinds_by_hand():
+    """Values for vocabularies in which kinds have no complete situation, worked out from the request's sentences on paper."""
+
+    def entries(vocabulary, pattern, length=100):
+        """The answer of list and its entries in a row."""
+        answer, entries, _ = listed(vocabulary, length, decoded(pattern))
+        return answer, entries.hex()
+
+    def left(vocabulary, book, length=100):
+        """The answer of a book and its entries."""
+        answer, entries, _ = booked(vocabulary, length, decoded(book))
+        return answer, {entry.hex() for entry in entries}
+
+    def refusal(vocabulary, pattern, filling):
+        return filled(vocabulary, 100, decoded(pattern), decoded(filling))[0]
+
+    one, nothing, none = ("accepted 1 2", "00ff"), ("accepted 0 0", ""), ("accepted 0 0", set())
+    # "g(a,_), `00 01 01 00 00`, lists `00 ff` alone and not {a, h}; in a book the entry 255 is kept."
+    assert entries(NO_PART, "00 01 01 00 00", 2) == one
+    assert entries(NO_PART, "00 01 01 00 00", 1) == entries(NO_PART, "00 01 01 00 00", 0) == ("refused 20 3 2", "")
+    assert left(NO_PART, "01 00 01 01 00 00", 2) == ("accepted 1 2", {"00ff"})
+    assert left(NO_PART, "01 00 01 01 00 00", 1) == ("refused 20 3 2", set())
+    # g(n0, n1), g(., n0) and h(g(., .)) fit nothing either.
+    assert entries(NO_PART, "00 01 03 80 81") == entries(NO_PART, "00 01 02 80") == entries(NO_PART, "00 02 01 01 00") == one
+    # a leaves h(.) and not g(., .); h(h(a)) leaves a, h(a) and h(h(h(.))), and no g at any depth.
+    assert entries(NO_PART, "00 00 00") == ("accepted 1 3", "000200")
+    assert entries(NO_PART, "00 02 01 02 01 00 00") == ("accepted 3 15", "000000" + "0002010000" + "00020102010200")
+    # A kind without situations lists nothing, whatever the pattern.
+    assert entries(NO_PART, "01 ff", 0) == entries(NO_PART, "01 80", 0) == nothing
+    assert entries(OVER_ITSELF, "00 ff", 0) == entries(OVER_ITSELF, "00 80", 0) == entries(OVER_ITSELF, "00 00 00", 0) == nothing
+    assert entries(h("01 02  00 01 00  00 01 00"), "00 00 01 01 00") == nothing
+    # The bench example's listing, though print(.) and wait(up, jam(.)) are no entries; they list 255.
+    assert entries(NO_PRINTER, "00 00 03 01 00 03 00", 15) == ("accepted 3 15", "000500" + "0000010200" + "00000301000400")
+    assert entries(NO_PRINTER, "00 00 03 01 00 03 00", 14) == ("refused 20 3 15", "")
+    assert entries(NO_PRINTER, "00 06 00") == entries(NO_PRINTER, "00 00 03 01 00 07 00") == one
+    assert entries(NO_PRINTER, "02 07 00") == ("accepted 1 2", "02ff")
+    # wait(n0, free) keeps its name.
+    assert entries(NO_PRINTER, "00 00 03 80 03 00") == ("accepted 2 9", "000500" + "000003800400")
+    # Word 16 leaves word 0, which only situations of 16 levels fit; with the last word over itself it leaves nothing.
+    assert entries(row_of_16("0f 00"), "00 10 00") == ("accepted 1 3", "000000")
+    assert entries(row_of_16("0f 01 0f"), "00 10 00") == nothing
+    assert entries(row_of_16("0f 01 0f"), "00 00 00") == one
+    # Line 18 comes before all this.
+    assert entries(h("01 01  00 03 00 00"), "00 00 03 80 80", 0) == ("refused 18 1 4", "")
+    # A pattern that nothing fits changes nothing: first, in the middle and last. a leaves h(.), and then h(a) leaves h(h(.)).
+    assert left(NO_PART, "02 00 01 01 00 00 00 00 00") == left(NO_PART, "02 00 00 00 00 01 01 00 00") == ("accepted 1 3", {"000200"})
+    assert left(NO_PART, "03 00 00 00 00 01 00 00 02 01 00 00") == ("accepted 1 5", {"0002010200"})
+    # h(a) leaves a and h(h(.)); h(h(g(., .))) has the words of the second, and no situation.
+    assert left(NO_PART, "02 00 02 01 00 00 00 02 01 02 01 01 00") == ("accepted 2 8", {"000000", "0002010200"})
+    # Of a and h(.) nothing is left, since g(., .) was left out after the first; any leaves nothing, and g(., .) then neither.
+    assert left(NO_PART, "02 00 00 00 00 02 00") == left(NO_PART, "02 00 ff 00 01 00") == left(NO_PART, "02 00 01 00 00 ff") == none
+    # A book of a kind without situations starts with no entry.
+    assert left(NO_PART, "01 01 ff", 0) == left(NO_PART, "01 01 80", 0) == none
+    assert left(OVER_ITSELF, "01 00 ff", 0) == left(OVER_ITSELF, "02 00 00 00 00 00 01 00 00", 0) == none
+    # 127 words of two other words each leave 32,766 bytes; the third other word would make it half as much again.
+    small = bytes([1, 0, *pairs(7)]).hex(" ")
+    assert left(C_AND_D, small, 0)[0] == "refused 20 3 32766"
+    assert booked(h("02 04  00 00  00 00  00 03 00 00  00 01 01"), 40000, decoded(small))[0] == "accepted 254 32766"
+    assert booked(h("01 04  00 00  00 00  00 03 00 00  00 01 00"), 40000, decoded(small))[0] == "refused 26 5 0"
+    # "`01 01 00 01 00` with `00 01 00 01 ..` fails at its end or at level 33", which begins at 8 + 64.
+    n0, n0_n1 = "01 00 00 00 00 00 00 00", "03 00 00 00 00 00 00 00"
+    assert refusal(OVER_ITSELF, "00 80", n0) == "refused 22 4 8"
+    assert refusal(OVER_ITSELF, "00 80", f"{n0} 00 01 00 01") == "refused 22 4 12"
+    assert refusal(OVER_ITSELF, "00 80", f"{n0} 00 01 [8,62]") == refusal(OVER_ITSELF, "00 80", f"{n0} 00 01 [8,64]") == "refused 22 4 72"
+    assert refusal(OVER_ITSELF, "00 80", f"{n0} 00 00") == "refused 22 4 9"
+    # No word yields kind 1: n1's first byte fails, or is missing.
+    assert refusal(NO_PART, "00 01 03 80 81", f"{n0_n1} 00 00 00 00") == refusal(NO_PART, "00 01 03 80 81", f"{n0_n1} 00 00") == "refused 22 4 10"
+    assert filled(NO_PART, 5, h("00 01 01 80"), decoded(f"{n0} 00 00"))[:2] == ("accepted 5 0", h("00 01 01 00 00"))
+    # The program: two length bytes, the vocabulary, the pattern.
+    for pattern in ("00 ff", "00 80", "00 00 00"):
+        assert printed(h("00 05") + OVER_ITSELF + h(pattern)) == "leftovers 0\n"
+    assert printed(h("00 0b") + NO_PART + h("00 01 01 00 00")) == "leftovers 1\n1 00ff\n"
+
+
 def printed_by_hand():
     """The text that document 01 gives whole, and DECISIONS' inputs."""
     assert printed(h("00 10") + A + h("00 00 03 01 00 03 00")) == "leftovers 3\n1 000500\n2 0000010200\n3 00000301000400\n"
@@ -1344,9 +1501,11 @@ def main():
     listed_by_hand()
     filled_by_hand()
     booked_by_hand()
+    empty_kinds_by_hand()
     printed_by_hand()
     listings_divide()
     books_divide()
+    empty_kinds_divide()
     if wanted == "long-input":
         sys.stdout.buffer.write(LONG_INPUT)
         return

@@ -1,6 +1,6 @@
 //! Books to time their listing with.
 
-use crate::terms::{chance, d, e, entry_lengths, even, A, C};
+use crate::terms::{chance, d, e, entry_lengths, even, half, A, A_EMPTY, C, C_EMPTY, W};
 
 /// A book and the vocabulary of its patterns.
 pub struct Book {
@@ -22,6 +22,15 @@ fn bound(patterns: &[Vec<u8>]) -> Vec<u8> {
 fn pairs(count: u8) -> Patterns {
     let pair = |number: u8| vec![0, 50, 3, number / 8, 0, 8 + number % 8, 0];
     (0..count)
+        .map(|number| pair(number.wrapping_mul(7) % 64))
+        .collect()
+}
+
+/// The same with leaves of even numbers, which complete situations have, under the 96 words of which half
+/// have a place of the empty kind.
+fn half_pairs() -> Patterns {
+    let pair = |number: u8| vec![0, 50, 3, number / 8 * 2, 0, 16 + number % 8 * 2, 0];
+    (0..64u8)
         .map(|number| pair(number.wrapping_mul(7) % 64))
         .collect()
 }
@@ -70,8 +79,13 @@ impl Chance {
 
 /// Trees of C by chance.
 fn chance_c() -> Chance {
+    chance_of(&C)
+}
+
+/// Trees of C by chance under a vocabulary that has its words.
+fn chance_of(vocabulary: &[u8]) -> Chance {
     Chance {
-        vocabulary: C.to_vec(),
+        vocabulary: vocabulary.to_vec(),
         front: &[0],
         words: &[(2, 3)],
         leaves: &[0, 1],
@@ -204,6 +218,67 @@ pub fn all() -> Vec<Book> {
         book("C even and all its entries", &C, &whole),
         strike_all(),
         strike_each(),
+    ]
+}
+
+/// Books under vocabularies in which a kind has no complete situation.
+pub fn empty() -> Vec<Book> {
+    let book = |name, vocabulary: &[u8], patterns: &[Vec<u8>]| Book {
+        name,
+        vocabulary: vocabulary.to_vec(),
+        book: bound(patterns),
+    };
+    let (wait, down) = (vec![0, 0, 3, 1, 0, 3, 0], vec![0, 0, 1, 2, 0]);
+    let (print, jam) = (vec![0, 6, 0], vec![0, 0, 3, 1, 0, 7, 0]);
+    // Pairs of which the second place is of the empty kind.
+    let unfit: Patterns = (0..64).map(|_| vec![0, 51, 1, 48, 0]).collect();
+    let mut among = half_pairs();
+    among.iter_mut().step_by(2).for_each(|pattern| {
+        *pattern = vec![0, 51, 1, 48, 0];
+    });
+    let long = vec![0, 0, 0];
+    vec![
+        book(
+            "A without printer, print(_), any is kept",
+            &A_EMPTY,
+            &[print.clone()],
+        ),
+        book(
+            "A without printer, wait(up, free), wait(down, _)",
+            &A_EMPTY,
+            &[wait.clone(), down.clone()],
+        ),
+        book(
+            "A without printer, the same and two that nothing fits",
+            &A_EMPTY,
+            &[print, wait, jam, down],
+        ),
+        book("a word over itself, nothing", &W, &[long]),
+        book(
+            "96 words, half unusable, pairs of leaves",
+            &half(),
+            &half_pairs(),
+        ),
+        book(
+            "96 words, half unusable, every other fits nothing",
+            &half(),
+            &among,
+        ),
+        book(
+            "96 words, half unusable, 64 that nothing fits",
+            &half(),
+            &unfit,
+        ),
+        book(
+            "C and an empty kind, by chance",
+            &C_EMPTY,
+            &chance_of(&C_EMPTY).patterns(64, 32_768),
+        ),
+        book(
+            "C and an empty kind, even, near 32,768 bytes",
+            &C_EMPTY,
+            &[even(255)],
+        ),
     ]
 }
 

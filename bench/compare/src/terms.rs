@@ -6,6 +6,14 @@ pub const A: [u8; 16] = [3, 6, 0, 3, 1, 2, 1, 0, 1, 0, 2, 0, 2, 0, 0, 0];
 pub const B: [u8; 7] = [1, 2, 0, 0, 0, 1, 0];
 /// a 0, b 1, pair(.,.) 2.
 pub const C: [u8; 10] = [1, 3, 0, 0, 0, 0, 0, 3, 0, 0];
+/// A word over itself: its kind has no complete situation.
+pub const W: [u8; 5] = [1, 1, 0, 1, 0];
+/// A with kind 3, which no word makes, and print(kind 3) 6, a step, and jam(kind 3) 7, a queue.
+pub const A_EMPTY: [u8; 22] = [
+    4, 8, 0, 3, 1, 2, 1, 0, 1, 0, 2, 0, 2, 0, 0, 0, 0, 1, 3, 2, 1, 3,
+];
+/// C with kind 1, which no word makes, and d(kind 1) 3.
+pub const C_EMPTY: [u8; 13] = [2, 4, 0, 0, 0, 0, 0, 3, 0, 0, 0, 1, 1];
 /// a 0, b 1, pair(.,.) 2, more(.) 3.
 const G: [u8; 13] = [1, 4, 0, 0, 0, 0, 0, 3, 0, 0, 0, 1, 0];
 
@@ -40,7 +48,24 @@ pub fn e() -> Vec<u8> {
     bytes
 }
 
-/// 954 bytes, as long as an accepted vocabulary can be.
+/// 96 words of two kinds, the same sorts of words as in the vocabulary above. Every second one has a
+/// place of kind 1, which no word makes.
+pub fn half() -> Vec<u8> {
+    let mut bytes = vec![2, 96];
+    for word in 0..96 {
+        let last = word % 2;
+        bytes.push(0);
+        match word {
+            0..=47 if last == 0 => bytes.push(0),
+            0..=47 => bytes.extend([1, 1]),
+            48..=79 => bytes.extend([3, 0, last]),
+            _ => bytes.extend([255, 0, 0, 0, 0, 0, 0, 0, last]),
+        }
+    }
+    bytes
+}
+
+/// 954 bytes, as long as a vocabulary can be in which every kind has a complete situation.
 pub fn longest() -> Vec<u8> {
     let mut bytes = vec![1, 96, 0, 0];
     for _ in 1..96 {
@@ -58,6 +83,16 @@ pub fn chain(last_first: bool) -> Vec<u8> {
             kind => bytes.extend([kind, 1, kind + 1]),
         }
     }
+    bytes
+}
+
+/// The same by ascending kinds with a last word over itself, and word 16, a constant of kind 0, which
+/// alone has a complete situation.
+pub fn empty_chain() -> Vec<u8> {
+    let mut bytes = chain(false);
+    bytes[1] = 17;
+    bytes.truncate(bytes.len() - 2);
+    bytes.extend([15, 1, 15, 0, 0]);
     bytes
 }
 
@@ -122,6 +157,25 @@ pub fn even(most: usize) -> Vec<u8> {
     }
     let mut out = vec![0];
     grow(&mut out, &mut (most - 3));
+    out
+}
+
+/// The same with d(_) for its last word: under C with an empty kind nothing fits it.
+pub fn even_unfit(most: usize) -> Vec<u8> {
+    let mut out = even(most);
+    let at = out.len() - 2;
+    out[at] = 3;
+    out
+}
+
+/// The same with pairs under the 96 words of which half have a place of the empty kind.
+pub fn even_half(most: usize) -> Vec<u8> {
+    let mut out = even(most);
+    for node in out[1..].chunks_exact_mut(2) {
+        if node[0] == 2 {
+            node[0] = 48;
+        }
+    }
     out
 }
 

@@ -7,8 +7,8 @@ mod pattern;
 mod places;
 
 use crate::term::{go_on, Names, Stack, BOOK};
-use crate::vocabulary::Words;
-use crate::{accepted, Refusal, Reply};
+use crate::vocabulary::{Usable, Words};
+use crate::{accepted, any_alone, Refusal, Reply};
 use leftovers::Leftovers;
 use pattern::{Kinds, Pattern};
 
@@ -25,22 +25,24 @@ type Set = u128;
 #[inline(always)]
 pub(crate) fn list<const W: usize, const S: usize>(
     words: &Words<W>,
+    usable: Option<&Usable>,
     book: &[u8],
     out: &mut [u8],
 ) -> Result<Reply, Refusal> {
     read::<W, S>(words, book)?;
-    list_read(&Kinds::new(words), book, out)
+    list_read(&Kinds::new(words, usable), book, out)
 }
 
 /// Lists them entry by entry.
 #[inline(always)]
 pub(crate) fn list_entrywise<const W: usize, const S: usize>(
     words: &Words<W>,
+    usable: Option<&Usable>,
     book: &[u8],
     out: &mut [u8],
 ) -> Result<Reply, Refusal> {
     read::<W, S>(words, book)?;
-    entrywise::list_read(&Kinds::new(words), book, out)
+    entrywise::list_read(&Kinds::new(words, usable), book, out)
 }
 
 /// Reads a whole book up to refusal 15.
@@ -98,17 +100,31 @@ fn read_pattern<const W: usize, const S: usize>(
 
 /// Lists the leftovers of a book that is in order.
 fn list_read(kinds: &Kinds, book: &[u8], out: &mut [u8]) -> Result<Reply, Refusal> {
+    if !kinds.has(book[1]) {
+        return Ok(accepted(0, 0));
+    }
     let mut left = Leftovers::new(book[1]);
     let mut pattern = Pattern::new();
     let mut rest = &book[1..];
+    let mut struck = false;
     for number in 0..book[0] {
-        rest = pattern.load(kinds, rest);
+        let behind = pattern.load(kinds, rest);
+        let (bytes, behind) = rest.split_at(rest.len() - behind.len());
+        rest = behind;
+        // One that no situation fits changes nothing.
+        if !kinds.fits(bytes) {
+            continue;
+        }
+        struck = true;
         if left.strike(kinds, &pattern).is_none() {
             return Err([26, 5, number as u64]);
         }
         if left.is_empty() {
             break;
         }
+    }
+    if !struck {
+        return any_alone(book[1], out);
     }
     let Some(out) = out.get_mut(..left.bytes as usize) else {
         return Err([20, 3, left.bytes]);

@@ -142,8 +142,21 @@ impl Vocabulary {
         bytes
     }
 
-    fn sound(&self) -> bool {
-        self.size.iter().all(|&size| size < HUGE)
+    /// Whether a kind has a complete situation.
+    fn has(&self, kind: usize) -> bool {
+        self.size[kind] < HUGE
+    }
+
+    /// Whether some complete situation fits a term of a kind.
+    fn fits(&self, kind: usize, tree: Option<&Tree>) -> bool {
+        match tree {
+            Some(Tree::Word(number, terms)) => {
+                let places = self.words[*number].places.iter();
+                let mut both = places.zip(terms);
+                both.all(|(&(_, kind), term)| self.fits(kind, term.as_ref()))
+            }
+            _ => self.has(kind),
+        }
     }
 
     fn write(&self, tree: &Tree, out: &mut Vec<u8>) {
@@ -347,7 +360,78 @@ impl Gen {
         }
     }
 
+    /// A vocabulary; in every third some kinds have no complete situation.
     fn vocabulary(&mut self) -> Vocabulary {
+        let made = self.any_vocabulary();
+        if self.once_in(3) {
+            self.emptied(made)
+        } else {
+            made
+        }
+    }
+
+    /// The vocabulary with a kind that has no complete situation, and with words
+    /// over it.
+    fn emptied(&mut self, made: Vocabulary) -> Vocabulary {
+        let (mut kinds, mut words) = (made.kinds, made.words);
+        // A kind of its own, without words or with words over itself, or all
+        // words of one that is there stand over kinds that have none.
+        let own = kinds < 16 && !self.once_in(4);
+        let empty = if own { kinds } else { self.below(kinds) };
+        kinds += own as usize;
+        let mut dead = vec![empty];
+        if own && self.once_in(2) {
+            for _ in 0..self.between(1, 3).min(96 - words.len()) {
+                let places = self.between(1, 2);
+                words.push(self.word(empty, places, &[empty]));
+            }
+        }
+        if !own {
+            for word in words.iter_mut().filter(|word| word.result == empty) {
+                word.places = self.places(&[empty]);
+            }
+        }
+        // A chain of kinds, each over the one before.
+        while kinds < 16 && words.len() < 96 && self.once_in(3) {
+            words.push(self.word(kinds, 1, &[dead[dead.len() - 1]]));
+            dead.push(kinds);
+            kinds += 1;
+        }
+        let all: Vec<usize> = (0..kinds).collect();
+        for _ in 0..self.pick(&[0, 1, 2, 2, 4, 12]) {
+            if words.len() == 96 {
+                break;
+            }
+            // A word over one of them, perhaps beside others.
+            let mut places = vec![self.pick(&dead)];
+            for _ in 0..self.pick(&[0, 0, 1, 2, 7]) {
+                let other = self.pick(&all);
+                places.insert(self.below(places.len() + 1), other);
+            }
+            let result = self.below(kinds);
+            words.push(Word {
+                result,
+                places: self.places(&places),
+            });
+        }
+        // Some places get a kind without situations.
+        if self.once_in(2) {
+            let rarely = self.between(4, 40);
+            for word in &mut words {
+                for place in &mut word.places {
+                    if self.once_in(rarely) {
+                        place.1 = self.pick(&dead);
+                    }
+                }
+            }
+        }
+        if !self.once_in(4) {
+            self.shuffle(&mut words);
+        }
+        Vocabulary::new(kinds, words)
+    }
+
+    fn any_vocabulary(&mut self) -> Vocabulary {
         let place = |bits: &[(u8, usize)]| bits.to_vec();
         let plain = |result, places: &[(u8, usize)]| Word {
             result,
@@ -475,7 +559,8 @@ impl Gen {
     }
 
     /// A complete term of the kind with at most so many bytes more than the
-    /// least; a growing one uses words with places while it can.
+    /// least; a growing one uses words with places while it can. Of a kind that
+    /// has none, a term that goes on until it is large or deep, with names.
     fn complete(
         &mut self,
         v: &Vocabulary,
@@ -484,7 +569,7 @@ impl Gen {
         spare: &mut usize,
         grow: bool,
     ) -> Tree {
-        if self.left == 0 {
+        if self.left == 0 || level > 60 {
             return Tree::Name(0);
         }
         self.left -= 1;
@@ -813,10 +898,17 @@ impl Gen {
     /// A pattern and a situation under a vocabulary.
     fn terms(&mut self, v: &Vocabulary) -> (Vec<u8>, Vec<u8>) {
         let usable: Vec<usize> = (0..v.kinds).filter(|&kind| v.size[kind] < 4000).collect();
-        if usable.is_empty() {
+        let worded: Vec<usize> = (0..v.kinds)
+            .filter(|&kind| !v.by_kind[kind].is_empty())
+            .collect();
+        if usable.is_empty() && self.once_in(4) || self.once_in(200) {
             let kind = self.below(v.kinds) as u8;
             let root = self.pick(&[255, 128, 0]);
             return (vec![kind, root], vec![kind, root, 0]);
+        }
+        if usable.is_empty() || usable.len() < v.kinds && self.once_in(4) {
+            let kind = self.pick(&worded);
+            return self.empty_terms(v, kind);
         }
         let many: Vec<usize> = usable
             .iter()
@@ -911,6 +1003,37 @@ impl Gen {
             _ => (),
         }
         (v.term(kind, &pattern), v.term(other, &situation))
+    }
+
+    /// A pattern that mostly no complete situation fits, of a kind that may have
+    /// none, and a situation, mostly a complete one if there are any.
+    fn empty_terms(&mut self, v: &Vocabulary, kind: usize) -> (Vec<u8>, Vec<u8>) {
+        let mut pattern = Tree::Any;
+        let naming = match self.below(12) {
+            0 => Naming::Clash,
+            1 => Naming::Loose,
+            _ => Naming::Once,
+        };
+        for _ in 0..self.pick(&[1, 4, 4, 8]) {
+            let mut spare = self.bytes().max(6) - 1;
+            pattern = match self.below(24) {
+                0 => Tree::Any,
+                1 => Tree::Name(self.below(64) as u8),
+                _ => self.pattern(v, kind, 1, &mut spare, &mut Vec::new(), naming),
+            };
+            if !v.fits(kind, Some(&pattern)) {
+                break;
+            }
+        }
+        let situation = if v.size[kind] < 4000 && !self.once_in(4) {
+            let bytes = self.bytes().min(200);
+            self.situation(v, kind, bytes)
+        } else {
+            self.left = self.pick(&[3, 20, 40, 70, 2500]);
+            let mut given = [const { None }; 64];
+            self.fill(v, &pattern, kind, 1, &mut given, 0)
+        };
+        (v.term(kind, &pattern), v.term(kind, &situation))
     }
 
     /// A pattern of just about as many bytes as there may be.
@@ -1045,10 +1168,13 @@ impl Gen {
             } = stands[name];
             self.left = 5000;
             let last = rank + 1 == order.len();
-            let tree = if v.size[kind] >= 4000 {
+            let tree = if v.size[kind] >= 4000 && (v.has(kind) || self.once_in(4)) {
                 Tree::Name(0)
+            } else if !v.has(kind) {
+                self.left = self.pick(&[1, 3, 20, 31, 32, 33, 70, 300]);
+                self.complete(v, kind, 1, &mut 0, false)
             } else if last && deep {
-                let levels = self.pick(&[32, 33, 33, 34, 34, 65 - deepest, 66 - deepest]);
+                let levels = self.pick(&[32, 33, 33, 34, 34, 65usize.saturating_sub(deepest), 66usize.saturating_sub(deepest)]);
                 self.deep(v, kind, levels.saturating_sub(deepest).max(1), true)
             } else {
                 let mut spare = match self.below(4) {
@@ -1187,10 +1313,6 @@ impl Gen {
         pattern: &[u8],
         situation: &[u8],
     ) -> (Vec<u8>, usize) {
-        if !v.sound() {
-            let length = self.pick(&[0, 8, 12]);
-            return (vec![0; length], 4);
-        }
         let parts = if self.once_in(4) {
             self.parts(vocabulary, pattern, situation)
         } else {
@@ -1263,11 +1385,7 @@ impl Gen {
         } else {
             128
         };
-        let listing = if v.sound() {
-            crate::list(&vocabulary, &pattern, &mut [])
-        } else {
-            crate::accepted(0, 0)
-        };
+        let listing = crate::list(&vocabulary, &pattern, &mut []);
         let exact = if listing[0] == 20 {
             listing[2] as usize
         } else {

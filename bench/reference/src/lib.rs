@@ -32,6 +32,15 @@ fn refused([number, input, place]: Refusal) -> Reply {
     [number, input, place, 0, 0]
 }
 
+/// Writes the entry 255 of a kind as a whole listing.
+fn any_alone(kind: u8, out: &mut [u8]) -> Result<Reply, Refusal> {
+    let Some(entry) = out.first_chunk_mut() else {
+        return Err([20, 3, 2]);
+    };
+    *entry = [kind, 255];
+    Ok(accepted(1, 2))
+}
+
 /// Calls the function with tables sized for the vocabulary's number of words
 /// and for the longest term.
 macro_rules! sized {
@@ -158,7 +167,8 @@ fn list_sized<const W: usize, const S: usize>(
 ) -> Result<Reply, Refusal> {
     let mut words = Words::<W>::new();
     words.fill(vocabulary)?;
-    listing::list::<W, S>(&words, pattern, out)
+    let usable = words.settle(vocabulary);
+    listing::list::<W, S>(&words, usable.as_ref(), pattern, out)
 }
 
 /// Fills the names of a pattern from a filling file; accepted has the number
@@ -195,7 +205,8 @@ fn list_book_sized<const W: usize, const S: usize>(
 ) -> Result<Reply, Refusal> {
     let mut words = Words::<W>::new();
     words.fill(vocabulary)?;
-    book::list::<W, S>(&words, book, out)
+    let usable = words.settle(vocabulary);
+    book::list::<W, S>(&words, usable.as_ref(), book, out)
 }
 
 /// The same as [`list_book`] by a plain loop over the entries, to compare times
@@ -212,7 +223,8 @@ fn list_entrywise_sized<const W: usize, const S: usize>(
 ) -> Result<Reply, Refusal> {
     let mut words = Words::<W>::new();
     words.fill(vocabulary)?;
-    book::list_entrywise::<W, S>(&words, book, out)
+    let usable = words.settle(vocabulary);
+    book::list_entrywise::<W, S>(&words, usable.as_ref(), book, out)
 }
 
 /// The bytes that the program `leftovers` prints for this standard input.

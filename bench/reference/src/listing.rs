@@ -1,12 +1,12 @@
 //! Listing the leftovers of a pattern.
 
 use crate::term::{self, Stack, LIST};
-use crate::vocabulary::Words;
-use crate::{accepted, Refusal, Reply};
+use crate::vocabulary::{Usable, Words};
+use crate::{accepted, any_alone, Refusal, Reply};
 use std::mem;
 
-/// The words of each kind, as bits: word n is bit n % 64 of its kind's low or
-/// high number.
+/// The words of each kind that stand in complete situations, as bits: word n is
+/// bit n % 64 of its kind's low or high number.
 struct Groups {
     low: [u64; 16],
     high: [u64; 16],
@@ -16,13 +16,16 @@ struct Groups {
 
 impl Groups {
     #[inline(always)]
-    fn new<const W: usize>(words: &Words<W>) -> Self {
+    fn new<const W: usize>(words: &Words<W>, usable: Option<&Usable>) -> Self {
         let mut groups = Groups {
             low: [0; 16],
             high: [0; 16],
             others: [255; 16],
         };
         for (number, facts) in (0..words.words).zip(words.facts.iter()) {
+            if usable.is_some_and(|usable| usable.words >> (number & 127) & 1 == 0) {
+                continue;
+            }
             let kind = *facts as usize & 15;
             let bit = 1 << (number & 63);
             if W <= 64 || number < 64 {
@@ -64,14 +67,23 @@ impl Groups {
 #[inline(always)]
 pub(crate) fn list<const W: usize, const S: usize>(
     words: &Words<W>,
+    usable: Option<&Usable>,
     pattern: &[u8],
     out: &mut [u8],
 ) -> Result<Reply, Refusal> {
-    let groups = Groups::new(words);
+    let groups = Groups::new(words, usable);
     let mut stack = Stack::<S>::new();
     let reading = term::read::<W, S, LIST>(words, pattern, 1, &mut stack, &groups.others)?;
     if reading.second != 0 {
         return Err([18, 1, reading.second as u64]);
+    }
+    if let Some(usable) = usable {
+        if !usable.has(pattern[0]) {
+            return Ok(accepted(0, 0));
+        }
+        if !usable.fits(pattern) {
+            return any_alone(pattern[0], out);
+        }
     }
     let Some(out) = out.get_mut(..reading.bytes as usize) else {
         return Err([20, 3, reading.bytes]);

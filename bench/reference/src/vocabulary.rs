@@ -100,12 +100,13 @@ fn covered(record: &Record, set: u32) -> bool {
 }
 
 /// Checks a whole vocabulary, handing over each record with its number, and
-/// replies with the number of kinds and of words.
+/// replies with the number of kinds and of words, and with the kinds that a
+/// first round finds to have complete situations, as bits.
 #[inline(always)]
 pub(crate) fn scan(
     vocabulary: &[u8],
     mut each: impl FnMut(usize, &Record),
-) -> Result<(u8, u8), Refusal> {
+) -> Result<(u8, u8, u32), Refusal> {
     let (kinds, words, mut rest) = counts(vocabulary)?;
     let mut settled = 0u32;
     for number in 0..words as usize {
@@ -125,13 +126,7 @@ pub(crate) fn scan(
     if !rest.is_empty() {
         return Err([5, 0, (vocabulary.len() - rest.len()) as u64]);
     }
-    if settled != (1 << kinds) - 1 {
-        settled = settle(vocabulary, settled);
-        if settled != (1 << kinds) - 1 {
-            return Err([6, 0, settled.trailing_ones() as u64]);
-        }
-    }
-    Ok((kinds, words))
+    Ok((kinds, words, settled))
 }
 
 /// Adds to the set every kind that has a complete situation, in a vocabulary
@@ -190,6 +185,9 @@ fn settle(vocabulary: &[u8], mut settled: u32) -> u32 {
 pub(crate) struct Words<const W: usize> {
     pub kinds: u8,
     pub words: u8,
+    /// The kinds that are known to have complete situations, as bits: some of
+    /// them, and once they are settled all.
+    settled: u32,
     /// Result kind, place map and number of places, from the lowest byte.
     pub facts: [u32; W],
     /// The places' kinds, that of the last place in the lowest byte.
@@ -202,6 +200,7 @@ impl<const W: usize> Words<W> {
         Words {
             kinds: 0,
             words: 0,
+            settled: 0,
             facts: [0; W],
             dues: [0; W],
         }
@@ -212,7 +211,7 @@ impl<const W: usize> Words<W> {
     pub fn fill(&mut self, vocabulary: &[u8]) -> Result<(), Refusal> {
         let facts = &mut self.facts;
         let dues = &mut self.dues;
-        let (kinds, words) = scan(vocabulary, |number, read| {
+        let (kinds, words, settled) = scan(vocabulary, |number, read| {
             let at = number & (W - 1);
             facts[at] = read.result as u32 | (read.map as u32) << 8 | (read.places as u32) << 16;
             let back = read.kinds.swap_bytes();
@@ -220,6 +219,75 @@ impl<const W: usize> Words<W> {
         })?;
         self.kinds = kinds;
         self.words = words;
+        self.settled = settled;
         Ok(())
+    }
+
+    /// Finds all kinds with complete situations, and the words that stand in
+    /// one: those whose places all have such kinds. Nothing if all words do.
+    #[inline(always)]
+    pub fn settle(&mut self, vocabulary: &[u8]) -> Option<Usable> {
+        let all = (1 << self.kinds) - 1;
+        if self.settled != all {
+            self.settled = settle(vocabulary, self.settled);
+        }
+        if self.settled == all {
+            return None;
+        }
+        Some(self.usable())
+    }
+
+    #[inline(never)]
+    fn usable(&self) -> Usable {
+        let mut words = 0;
+        let facts = &self.facts[..self.words as usize];
+        for (number, (facts, dues)) in facts.iter().zip(&self.dues).enumerate() {
+            let mut left = *dues;
+            let mut usable = true;
+            for _ in 0..facts >> 16 {
+                usable &= self.settled >> (left & 15) & 1 == 1;
+                left >>= 8;
+            }
+            words |= (usable as u128) << number;
+        }
+        Usable {
+            kinds: self.settled,
+            words,
+        }
+    }
+}
+
+/// The kinds that have complete situations and the words that stand in one, as
+/// bits, where some kind has none.
+#[derive(Clone, Copy)]
+pub(crate) struct Usable {
+    kinds: u32,
+    pub words: u128,
+}
+
+impl Usable {
+    /// Whether a kind has complete situations.
+    #[inline(always)]
+    pub fn has(&self, kind: u8) -> bool {
+        self.kinds >> (kind & 15) & 1 == 1
+    }
+
+    /// Whether a complete situation fits a pattern that is in order, of a kind
+    /// that has some: all its words then stand in one, and so every name and
+    /// every open place has a kind with situations.
+    #[inline(always)]
+    pub fn fits(&self, pattern: &[u8]) -> bool {
+        let mut rest = &pattern[1..];
+        while let [first, tail @ ..] = rest {
+            rest = tail;
+            if *first < 128 {
+                if self.words >> first & 1 == 0 {
+                    return false;
+                }
+                // The written map.
+                rest = rest.get(1..).unwrap_or(&[]);
+            }
+        }
+        true
     }
 }

@@ -278,7 +278,7 @@ fn the_same_pattern_again() {
 #[test]
 fn the_vocabulary_and_the_count_come_first() {
     assert_eq!(refused("", ""), [1, 0, 0]);
-    assert_eq!(refused("01 01 00 01 00", ""), [6, 0, 0]);
+    assert_eq!(refused("01 01 00 01 00", ""), [24, 5, 0]);
     assert_eq!(refused("01 01 00 00 00", "41"), [5, 0, 4]);
     assert_eq!(refused(C, ""), [24, 5, 0]);
     for count in [0, 65, 66, 128, 255] {

@@ -158,7 +158,7 @@ fn bench_examples() {
     let yes = matched(C, "00 80", "00 02 03 00 00 00 00");
     assert_eq!(yes, ([0, 1, 0], table(&[(0, 1, 6)])));
     assert_eq!(matched(C, "00 ff", "00 02 01 00 00").0, [16, 2, 2]);
-    assert_eq!(vocabulary("01 01 00 01 00"), [6, 0, 0]);
+    assert_eq!(vocabulary("01 01 00 01 00"), [0, 0, 0]);
     for v in [A, B, C] {
         assert_eq!(vocabulary(v), [0, 0, 0]);
     }
@@ -180,8 +180,9 @@ fn readings_of_vocabularies() {
     assert_eq!(vocabulary("01 61"), [2, 0, 1]);
     assert_eq!(vocabulary("01 00"), [2, 0, 1]);
     assert_eq!(vocabulary("01 01 00 01 00 00"), [5, 0, 5]);
-    assert_eq!(vocabulary("02 01 00 00"), [6, 0, 1]);
-    // The longest accepted vocabulary, and one in which every kind gets 6.
+    assert_eq!(vocabulary("02 01 00 00"), [0, 0, 0]);
+    // The longest vocabulary in which every kind has situations, and the
+    // longest accepted one.
     let mut longest = bytes("01 60 00 00");
     for _ in 0..95 {
         longest.extend(bytes("00 ff 00 00 00 00 00 00 00 00"));
@@ -195,7 +196,7 @@ fn readings_of_vocabularies() {
         full.extend(bytes("00 ff 00 00 00 00 00 00 00 00"));
     }
     assert_eq!(full.len(), 962);
-    assert_eq!(check_vocabulary(&full), [6, 0, 0]);
+    assert_eq!(check_vocabulary(&full), [0, 0, 0]);
     assert_eq!(check_vocabulary(&full[..961]), [3, 0, 961]);
     full.extend([0; 8]);
     assert_eq!(check_vocabulary(&full), [5, 0, 962]);
@@ -349,10 +350,10 @@ fn refusals_of_vocabularies() {
         v[11] = 15;
         assert_ne!(check_vocabulary(&v)[0], 4);
     }
-    // 5 at the first byte behind, 6 at the lowest kind.
+    // 5 at the first byte behind; 6 is no longer given.
     assert_eq!(vocabulary("01 01 00 00 00"), [5, 0, 4]);
-    assert_eq!(vocabulary("03 03 00 01 01 01 01 00 02 00"), [6, 0, 0]);
-    assert_eq!(vocabulary("03 03 00 00 01 01 01 02 01 00"), [6, 0, 1]);
+    assert_eq!(vocabulary("03 03 00 01 01 01 01 00 02 00"), [0, 0, 0]);
+    assert_eq!(vocabulary("03 03 00 00 01 01 01 02 01 00"), [0, 0, 0]);
     // Sixteen kinds, each needing the next.
     let mut chain = vec![16, 16];
     for kind in 0..15 {
@@ -362,7 +363,7 @@ fn refusals_of_vocabularies() {
     assert_eq!(check_vocabulary(&chain), [0, 0, 0]);
     chain[1] = 15;
     let shorter = &chain[..chain.len() - 2];
-    assert_eq!(check_vocabulary(shorter), [6, 0, 0]);
+    assert_eq!(check_vocabulary(shorter), [0, 0, 0]);
 }
 
 #[test]

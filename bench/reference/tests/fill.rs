@@ -120,7 +120,7 @@ fn no_names() {
 #[test]
 fn the_vocabulary_and_the_pattern_come_first() {
     assert_eq!(refused("", "", ""), [1, 0, 0]);
-    assert_eq!(refused("01 01 00 01 00", "", ""), [6, 0, 0]);
+    assert_eq!(refused("01 01 00 01 00", "", ""), [7, 1, 0]);
     assert_eq!(refused(C, "00", ""), [7, 1, 0]);
     assert_eq!(refused(C, "01 80", ""), [8, 1, 0]);
     assert_eq!(refused(C, "00 02 03 80", ""), [9, 1, 4]);

@@ -51,15 +51,16 @@ fn every_reply_occurs() {
     }
     let mut rows: Vec<_> = seen.iter().collect();
     rows.sort();
-    for ((call, number), times) in rows {
+    for ((call, number), times) in &rows {
         println!("{call} {number}: {times}");
     }
     println!("yes {yes}, no {no}, parts {instance}, listed {listed}, repeated {repeated}");
     println!("listed bytes {bytes}, largest {largest}");
     let of = |call, number| seen.get(&(call, number)).copied().unwrap_or(0);
-    for number in 1..=6 {
+    for number in 1..=5 {
         assert!(of("vocabulary", number) >= 100, "{number}");
     }
+    assert!(rows.iter().all(|((_, number), _)| *number != 6));
     for number in 7..=15 {
         assert!(of("term", number) >= 100, "term {number}");
         assert!(
@@ -107,6 +108,15 @@ fn boundaries_occur() {
         count("96 words", v[1] == 96);
         count("900 bytes or more", v.len() >= 900);
         count("954 bytes", v.len() == 954);
+        count("962 bytes, accepted", v.len() == 962);
+        let read = plain::vocabulary(v).unwrap();
+        let emptied = read.inhabited.contains(&false);
+        count("an empty kind", emptied);
+        count(
+            "16 kinds, 12 of them empty or more",
+            v[0] == 16 && read.inhabited.iter().filter(|&&yes| yes).count() <= 4,
+        );
+        count("no kind with situations", !read.inhabited.contains(&true));
         let reply = reference::check_term(v, pattern);
         count("pattern 4097", pattern.len() == 4097);
         count("pattern 1", pattern.len() == 1);
@@ -185,6 +195,26 @@ fn boundaries_occur() {
             count("fill, open places", matched[0] == 16 && named);
         }
         let reply = reference::list(v, pattern, &mut []);
+        let mut space = vec![
+            0;
+            if emptied && reply[0] == 20 {
+                reply[2] as usize
+            } else {
+                0
+            }
+        ];
+        reference::list(v, pattern, &mut space);
+        let alone = space == [pattern[0], 255];
+        let kind = read.inhabited[pattern[0] as usize];
+        count("any alone", alone);
+        count("any alone, no space", alone && case.out_len == 0);
+        count("any alone, 1000 or more", alone && pattern.len() >= 1000);
+        count("listed beside an empty kind", emptied && space.len() > 2);
+        count("listed, of an empty kind", !kind && reply == [0; 5]);
+        count("18, of an empty kind", !kind && reply[0] == 18);
+        let matched = reference::match_pattern(v, pattern, situation, &mut [0; 128]);
+        count("any alone, and no", alone && matched == NO);
+        count("yes beside an empty kind", emptied && matched == YES);
         count("18", reply[0] == 18);
         count("18 and yes", {
             reply[0] == 18 && reference::match_pattern(v, pattern, situation, &mut [0; 128]) == YES
@@ -311,6 +341,19 @@ fn every_reply_to_books_occurs() {
             continue;
         }
         let exact = listing[2] as usize;
+        let read = plain::vocabulary(&case.vocabulary).unwrap();
+        let emptied = read.inhabited.contains(&false);
+        let kind = read.inhabited[case.book[1] as usize];
+        count("of an empty kind", !kind && exact == 0);
+        count("beside an empty kind", emptied && exact > 2);
+        count(
+            "beside an empty kind, nothing",
+            emptied && kind && exact == 0,
+        );
+        count("beside an empty kind, over 1,000", emptied && exact > 1000);
+        count("any is kept", exact == 2);
+        count("any is kept, no space", exact == 2 && case.out_len == 0);
+        count("any is kept, several", exact == 2 && case.book[0] > 2);
         count("exact", exact > 0 && case.out_len == exact);
         count("one less", case.out_len + 1 == exact);
         count("one more", exact > 0 && case.out_len == exact + 1);
@@ -335,7 +378,8 @@ fn every_reply_to_books_occurs() {
     let mut rows: Vec<_> = seen.iter().collect();
     rows.sort();
     println!("{rows:?}");
-    for number in (0..16).chain([18, 20, 24, 25, 26]) {
+    assert!(!seen.contains_key(&6));
+    for number in (0..6).chain(7..16).chain([18, 20, 24, 25, 26]) {
         let times = seen.get(&number).copied().unwrap_or(0);
         assert!(times >= 40, "{number}: {times}");
     }

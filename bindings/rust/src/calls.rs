@@ -11,21 +11,22 @@ fn values(reply: Reply) -> Result<[usize; 4], Refusal> {
     }
 }
 
-/// Checks a vocabulary.
+/// Checks a vocabulary. A kind may have no complete situation.
 ///
 /// ```
 /// use pheasantry::{check_vocabulary, Reason};
 ///
 /// assert_eq!(check_vocabulary(&[1, 2, 0, 0, 0, 1, 0]), Ok(()));
 /// // The only word needs a situation of its own kind.
-/// let refusal = check_vocabulary(&[1, 1, 0, 1, 0]).unwrap_err();
-/// assert_eq!(refusal.reason(), Reason::EmptyKind);
-/// assert_eq!(refusal.to_string(), "refused 6 0 0: a kind has no complete situation (vocabulary, kind 0)");
+/// assert_eq!(check_vocabulary(&[1, 1, 0, 1, 0]), Ok(()));
+/// let refusal = check_vocabulary(&[1, 1, 0, 1, 0, 0]).unwrap_err();
+/// assert_eq!(refusal.reason(), Reason::RecordsContinue);
+/// assert_eq!(refusal.to_string(), "refused 5 0 5: bytes follow the last record (vocabulary, byte 5)");
 /// ```
 ///
 /// # Errors
 ///
-/// Refused with 1 to 6.
+/// Refused with 1 to 5. 6 is no longer given (document 02, request iv).
 pub fn check_vocabulary(vocabulary: &[u8]) -> Result<(), Refusal> {
     let mut reply = Reply::default();
     // SAFETY: the pointers and lengths are those of slices that live through the call.
@@ -51,7 +52,7 @@ pub fn check_vocabulary(vocabulary: &[u8]) -> Result<(), Refusal> {
 ///
 /// # Errors
 ///
-/// Refused with 1 to 6 for the vocabulary and 7 to 15 for the term, which is [`Input::Pattern`].
+/// Refused with 1 to 5 for the vocabulary and 7 to 15 for the term, which is [`Input::Pattern`].
 ///
 /// [`Input::Pattern`]: crate::Input::Pattern
 pub fn check_term(vocabulary: &[u8], term: &[u8]) -> Result<Checked, Refusal> {
@@ -91,7 +92,7 @@ pub fn check_term(vocabulary: &[u8], term: &[u8]) -> Result<Checked, Refusal> {
 ///
 /// # Errors
 ///
-/// Refused with 1 to 6 for the vocabulary, 7 to 15 for the pattern and 7 to 17 for the situation.
+/// Refused with 1 to 5 for the vocabulary, 7 to 15 for the pattern and 7 to 17 for the situation.
 pub fn match_pattern(
     vocabulary: &[u8],
     pattern: &[u8],
@@ -167,7 +168,11 @@ pub fn part<'s>(vocabulary: &[u8], pattern: &[u8], situation: &'s [u8], name: u8
 }
 
 /// Writes the leftovers of a pattern into `out`: whole patterns, each directly behind the one before
-/// it, which [`entries`] takes apart. Bytes behind the last stay as they were.
+/// it, which [`entries`] takes apart. Bytes behind the last stay as they were. For every entry there is a
+/// complete situation that fits it.
+///
+/// Where no complete situation fits the pattern, all of the kind are left over: there is one entry, the
+/// kind byte and 255, or none if the kind has no complete situation.
 ///
 /// ```
 /// use pheasantry::{list, Reason};
@@ -185,7 +190,7 @@ pub fn part<'s>(vocabulary: &[u8], pattern: &[u8], situation: &'s [u8], name: u8
 ///
 /// # Errors
 ///
-/// Refused with 1 to 6 for the vocabulary, 7 to 15 and 18 for the pattern, and 20 where `out` is too
+/// Refused with 1 to 5 for the vocabulary, 7 to 15 and 18 for the pattern, and 20 where `out` is too
 /// short; the place is then the length that is needed. A refusal leaves `out` as it was.
 pub fn list(vocabulary: &[u8], pattern: &[u8], out: &mut [u8]) -> Result<Listed, Refusal> {
     let mut reply = Reply::default();
@@ -214,7 +219,7 @@ pub fn list(vocabulary: &[u8], pattern: &[u8], out: &mut [u8]) -> Result<Listed,
 ///
 /// # Errors
 ///
-/// Refused with 1 to 6 for the vocabulary, and 7 to 15 and 18 for the pattern.
+/// Refused with 1 to 5 for the vocabulary, and 7 to 15 and 18 for the pattern.
 pub fn leftovers(vocabulary: &[u8], pattern: &[u8]) -> Result<Vec<Vec<u8>>, Refusal> {
     let needed = match list(vocabulary, pattern, &mut []) {
         Ok(_) => return Ok(Vec::new()),
@@ -252,7 +257,7 @@ pub fn leftovers(vocabulary: &[u8], pattern: &[u8]) -> Result<Vec<Vec<u8>>, Refu
 ///
 /// # Errors
 ///
-/// Refused with 1 to 6 for the vocabulary, 7 to 15 for the pattern, 21 to 23 for the filling file, and 20
+/// Refused with 1 to 5 for the vocabulary, 7 to 15 for the pattern, 21 to 23 for the filling file, and 20
 /// where `out` is too short; the place is then the length that is needed. It is never above 4,096. A
 /// refusal leaves `out` as it was.
 pub fn fill(
@@ -282,7 +287,10 @@ pub fn fill(
 
 /// Writes the leftovers of a whole book into `out`: whole patterns without names, each directly behind the
 /// one before it, which [`entries`] takes apart. Bytes behind the last stay as they were. Every complete
-/// situation of the kind fits some pattern of the book or exactly one of these entries, never both.
+/// situation of the kind fits some pattern of the book or exactly one of these entries, never both, and for
+/// every entry there is one that fits it. A pattern that no complete situation fits changes nothing; a book
+/// of such patterns alone leaves one entry, the kind byte and 255, or none if the kind has no complete
+/// situation.
 ///
 /// A book is a count byte, 1 to 64, and then so many whole patterns in a row, all of one kind. Names are a
 /// pattern's own: the same name in two patterns means nothing.
@@ -307,7 +315,7 @@ pub fn fill(
 ///
 /// # Errors
 ///
-/// Refused with 1 to 6 for the vocabulary; then for the book with 24, for each of its patterns in turn with
+/// Refused with 1 to 5 for the vocabulary; then for the book with 24, for each of its patterns in turn with
 /// 7 to 14, 18 and 25, and with 15 and 26; and with 20 where `out` is too short: the place is then the length
 /// that is needed, at most [`BOOK_LISTING_LENGTH`]. A refusal leaves `out` as it was.
 pub fn list_book(vocabulary: &[u8], book: &[u8], out: &mut [u8]) -> Result<Listed, Refusal> {

@@ -67,7 +67,8 @@ pub enum Reason {
     RecordKind = 4,
     /// 5: bytes follow the last record.
     RecordsContinue = 5,
-    /// 6: a kind has no complete situation. The place is the lowest such kind.
+    /// 6: a kind has no complete situation. The place is the lowest such kind. 6 is no longer given (document
+    /// 02, request iv): such a vocabulary is accepted.
     EmptyKind = 6,
     /// 7: the term has fewer than 2 or more than 4,096 bytes. The place is 0, in a book the pattern's first
     /// byte.
@@ -234,7 +235,7 @@ impl Refusal {
         self.reason
     }
 
-    /// The line's number, 1 to 26.
+    /// The line's number, 1 to 26, and never 6.
     #[must_use]
     pub fn number(&self) -> u8 {
         self.reason.number()
@@ -246,8 +247,8 @@ impl Refusal {
         self.input
     }
 
-    /// The offset of the byte at fault or of the missing one. For [`Reason::EmptyKind`] it is a kind, for
-    /// [`Reason::NamesDiffer`] a name, or 0 where the bit map is short, for [`Reason::ListingSize`] a
+    /// The offset of the byte at fault or of the missing one. For
+    /// [`Reason::NamesDiffer`] it is a name, or 0 where the bit map is short, for [`Reason::ListingSize`] a
     /// pattern's number, from 0, for [`Reason::NoRoom`] the length that is needed, and 0 for
     /// [`Reason::Head`], [`Reason::Size`], [`Reason::KindsDiffer`], [`Reason::TableLength`],
     /// [`Reason::ResultSize`] and [`Reason::PatternCount`], which are about no one byte.

@@ -4,7 +4,7 @@ use crate::{calls, Checked, Listed, Refusal, Spans};
 /// A vocabulary that was checked.
 ///
 /// Its methods are the functions of the crate without their first argument. They are not refused for the
-/// vocabulary: 1 to 6 come from [`Vocabulary::new`] alone.
+/// vocabulary: 1 to 5 come from [`Vocabulary::new`] alone.
 ///
 /// The archive checks the vocabulary again at each call, since its calls take bytes and keep nothing. The
 /// type spares its user a refusal, not the time.
@@ -32,7 +32,7 @@ impl<'a> Vocabulary<'a> {
     ///
     /// # Errors
     ///
-    /// Refused with 1 to 6.
+    /// Refused with 1 to 5.
     pub fn new(bytes: &'a [u8]) -> Result<Vocabulary<'a>, Refusal> {
         calls::check_vocabulary(bytes).map(|()| Vocabulary { bytes })
     }

@@ -216,7 +216,8 @@ fn every_line_of_the_refusal_list() {
     assert_eq!(numbers(check_vocabulary(&[1, 1, 0])), (3, 0, 3));
     assert_eq!(numbers(check_vocabulary(&[1, 1, 1, 0])), (4, 0, 2));
     assert_eq!(numbers(check_vocabulary(&[1, 1, 0, 0, 0])), (5, 0, 4));
-    assert_eq!(numbers(check_vocabulary(&[2, 1, 0, 0])), (6, 0, 1));
+    // 6 is no longer given.
+    assert_eq!(check_vocabulary(&[2, 1, 0, 0]), Ok(()));
     assert_eq!(numbers(check_term(&C, &[0])), (7, 1, 0));
     assert_eq!(numbers(check_term(&C, &[0; 4097])), (7, 1, 0));
     assert_eq!(numbers(check_term(&C, &[1, 0, 0])), (8, 1, 0));
@@ -262,6 +263,26 @@ fn every_line_of_the_refusal_list() {
 }
 
 #[test]
+fn a_kind_without_situations() {
+    // a, g(., kind 1) and h(.), where no word makes kind 1.
+    let g = [2, 3, 0, 0, 0, 3, 0, 1, 0, 1, 0];
+    assert_eq!(check_vocabulary(&g), Ok(()));
+    assert_eq!(completeness(check_term(&g, &[0, 1, 1, 0, 0])), (false, 2));
+    // g(a, _) leaves everything over, and a leaves h(_) over, but not g(_, _).
+    assert_eq!(leftovers(&g, &[0, 1, 1, 0, 0]).unwrap(), [[0, 255]]);
+    assert_eq!(numbers(list(&g, &[0, 1, 1, 0, 0], &mut [0; 1])), (20, 3, 2));
+    assert_eq!(leftovers(&g, &[0, 0, 0]).unwrap(), [[0, 2, 0]]);
+    assert_eq!(leftovers(&g, &[1, 255]).unwrap(), [[0; 0]; 0]);
+    // A word over itself: there is nothing to be left over.
+    let w = [1, 1, 0, 1, 0];
+    for pattern in [&[0, 255][..], &[0, 0x80], &[0, 0, 0]] {
+        assert_eq!(leftovers(&w, pattern).unwrap(), [[0; 0]; 0]);
+    }
+    let n0 = [1, 0, 0, 0, 0, 0, 0, 0, 0, 1, 0, 1];
+    assert_eq!(numbers(fill(&w, &[0, 0x80], &n0, &mut [])), (22, 4, 12));
+}
+
+#[test]
 fn refusals_are_told() {
     fn said<T: std::fmt::Debug>(answer: Result<T, Refusal>) -> String {
         answer.unwrap_err().to_string()
@@ -275,8 +296,8 @@ fn refusals_are_told() {
         "refused 18 1 4: the name stands twice in a pattern to be listed (pattern, byte 4)"
     );
     assert_eq!(
-        said(check_vocabulary(&[1, 1, 0, 1, 0])),
-        "refused 6 0 0: a kind has no complete situation (vocabulary, kind 0)"
+        said(check_vocabulary(&[1, 1, 0, 1, 0, 0])),
+        "refused 5 0 5: bytes follow the last record (vocabulary, byte 5)"
     );
     assert_eq!(
         said(match_pattern(&C, &[0, 255], &[0])),

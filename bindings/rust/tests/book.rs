@@ -55,6 +55,19 @@ fn pairs(nodes: usize) -> Vec<u8> {
 }
 
 #[test]
+fn a_kind_without_situations() {
+    // a, g(., kind 1) and h(.), where no word makes kind 1.
+    let v = [2, 3, 0, 0, 0, 3, 0, 1, 0, 1, 0];
+    let (a, g, h_a) = (&[0, 0, 0][..], &[0, 1, 1, 0, 0][..], &[0, 2, 1, 0, 0][..]);
+    assert_eq!(left(&v, &[g]), [[0, 255]]);
+    assert_eq!(left(&v, &[g, a]), [[0, 2, 0]]);
+    assert_eq!(left(&v, &[a, g, h_a]), [[0, 2, 1, 2, 0]]);
+    assert_eq!(left(&v, &[a, &[0, 2, 0]]), [[0; 0]; 0]);
+    assert_eq!(left(&v, &[&[1, 255]]), [[0; 0]; 0]);
+    assert_eq!(left(&[1, 1, 0, 1, 0], &[&[0, 0, 0]]), [[0; 0]; 0]);
+}
+
+#[test]
 fn wait_up_free_and_done_leave_two_over() {
     let two = book(&[&WAIT_UP_FREE, &DONE]);
     assert_eq!(two, [2, 0, 0, 3, 1, 0, 3, 0, 0, 5, 0]);

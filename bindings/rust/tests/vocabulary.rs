@@ -108,7 +108,6 @@ fn a_damaged_one_is_refused_at_once() {
         (&C[..7], Reason::RecordEnds, 7),
         (&[1, 1, 1, 0], Reason::RecordKind, 2),
         (&[1, 1, 0, 0, 0], Reason::RecordsContinue, 4),
-        (&[2, 1, 0, 0], Reason::EmptyKind, 1),
     ] {
         let refusal = Vocabulary::new(bytes).unwrap_err();
         assert_eq!(

@@ -5,21 +5,27 @@
 --   first-turn, first-listed     where the first turn begins, and that its answer is the book's
 --
 use mathlib.Core.Path.{_≡_, refl, sym, ap, _∙_, subst}
+use mathlib.Core.Bool.{Bool, true, false, cond}
 use mathlib.Core.List.{List, [], _∷_}
 use mathlib.Core.Option.{some}
-use Prim.Native.Nat.{ℕ, _+_, _≤_, min}
+use Prim.Native.Nat.{ℕ, _+_, _*_, _<_, _≤_, min}
 use native.Mathlib.Omega.{arith}
 use lib.ListN.{length, getD, take, drop, set, length-append, length-set}
 use Rattle.terms.specs.Lists.{All}
 use Rattle.terms.specs.Term.{Term, any}
-use Rattle.terms.proofs.All.{all-implies}
+use Rattle.terms.specs.Emptiness.{inhabited}
+use Rattle.terms.specs.Productive.{wholeOf, BookEntry}
+use Rattle.terms.proofs.LeftBehind.{whole-entries}
 use Rattle.wire.specs.Effect.{HasEffect}
-use Rattle.wire.specs.Vocabulary.{Vocabulary}
-use Rattle.wire.specs.TermBytes.{encodeTerm, levels, mostBytes}
+use Rattle.wire.specs.Vocabulary.{Vocabulary, signature}
+use Rattle.wire.specs.TermBytes.{encodeTerm, mostBytes}
 use Rattle.wire.specs.BookBytes.{patternsBytes, Listable}
 use Rattle.wire.specs.BookLeftovers.{mostListed}
-use Rattle.cuts.specs.Entries.{EntryOf, PatternOf}
+use Rattle.signature.specs.declared.Missing.{Missing}
 use Rattle.slices.proofs.Writing.{part, part-is}
+use Rattle.takes.specs.Told.{wholeCount}
+use Rattle.takes.specs.Taking.{BookEntryOf}
+use Rattle.takes.proofs.Tests.{whole-told}
 use Rattle.books.specs.Turning.{turnNumbers, turned, TurnAt, Turns, ReadAt, AreasFor}
 use Rattle.books.specs.declared.turns.Turned.{Turned}
 
@@ -34,7 +40,7 @@ stored-two [] a b h = absurd (omega arith)
 stored-two (x ∷ []) a b h = absurd (omega arith)
 stored-two (x ∷ y ∷ l) a b h = refl
 
-module _ {book siblings : List ℕ} (h : ReadAt book siblings) where
+module _ {book siblings settled : List ℕ} {words : ℕ} {missing : Missing} (h : ReadAt book siblings settled words missing) where
   abbrev W : Vocabulary
   W = h .vocabulary
 
@@ -59,57 +65,86 @@ module _ {book siblings : List ℕ} (h : ReadAt book siblings) where
   pub book-length : 2 ≤ length book
   book-length = let e = ap length (h .held .written) in let k = some-pattern (h .patterns) (h .held .some) in omega arith
 
-  pattern-of : (t : Term) → Listable W s t → PatternOf W s t
-  pattern-of t k = record { sorted = k .holds .good .sorted .sorted; low = let d = k .holds .limits .levels in omega arith; short = k .holds .limits .most }
+  -- A book's patterns say that the vocabulary has its kind.
+  kind-below : s < W .kinds
+  kind-below = go (h .patterns) (h .held .some) (h .held .patterns)
+    where
+      go : (l : List Term) → 1 ≤ length l → All (Listable W s) l → s < W .kinds
+      go [] k a = absurd (omega arith)
+      go (t ∷ l) k a = a .0 .holds .good .kind
 
-  whole-of : EntryOf W s any
-  whole-of = record { sorted = tt; nameless = refl; low = omega arith; short = omega arith }
+  -- The entry 255, or none.
+  first-entries : All (BookEntryOf W s) (wholeOf (signature W) s)
+  first-entries = go (inhabited (signature W) s) (whole-entries (signature W) s)
+    where
+      go : (b : Bool) → All (BookEntry (signature W) s) (cond b (any ∷ []) []) → All (BookEntryOf W s) (cond b (any ∷ []) [])
+      go true a = (record { entry = a .0; low = omega arith; short = omega arith }, tt)
+      go false a = tt
 
   -- No pattern is longer than the book.
-  spans-in : (span : ℕ) (l : List Term) → min (1 + length (patternsBytes W s l)) mostBytes ≤ span → All (PatternOf W s) l →
+  spans-in : (span : ℕ) (l : List Term) → min (1 + length (patternsBytes W s l)) mostBytes ≤ span → All (Listable W s) l →
       All (λ t. length (encodeTerm W s t) ≤ span) l
   spans-in span [] k g = tt
   spans-in span (t ∷ l) k g =
       let a = length-append (encodeTerm W s t) (patternsBytes W s l) in
-      let b = g .0 .short in
+      let b = g .0 .holds .limits .most in
       (omega arith, spans-in span l (omega arith) (g .1))
 
-  -- The kind and 255, the entry that is all there is at first, are stored.
-  module _ (near : List ℕ) {far copied marked : ℕ} (areas : AreasFor book (length near) far copied marked) where
+  -- The kind and 255 are stored, and counted as an entry where the kind has a situation.
+  module _ (near : List ℕ) {entries far copied marked : ℕ} (areas : AreasFor book (length near) far copied marked)
+      (counted : entries ≡ wholeCount words settled missing (getD book 1 0)) where
     abbrev begun : List ℕ
     begun = set (set near 0 (getD book 1 0)) 1 255
 
     pub begun-length : length begun ≡ length near
     begun-length = length-set (set near 0 (getD book 1 0)) 1 255 ∙ length-set near 0 (getD book 1 0)
 
-    pub first-turn : TurnAt (part 1 book) 0 begun 2 1 far copied marked siblings
+    first-many : entries ≡ length (wholeOf (signature W) s)
+    first-many =
+        counted ∙ ap (wholeCount words settled missing) book-kind
+        ∙ whole-told W (h .tables .inOrder) words settled missing (h .tables .settledOf) s kind-below
+
+    pub few-entries : entries ≤ 1
+    few-entries = go (inhabited (signature W) s) first-many
+      where
+        go : (b : Bool) → entries ≡ length {A = Term} (cond b (any ∷ []) []) → entries ≤ 1
+        go true e = omega arith
+        go false e = omega arith
+
+    first-area : take (2 * entries) begun ≡ patternsBytes W s (wholeOf (signature W) s)
+    first-area = go (inhabited (signature W) s) first-many
+      where
+        go : (b : Bool) → entries ≡ length {A = Term} (cond b (any ∷ []) []) → take (2 * entries) begun ≡ patternsBytes W s (cond b (any ∷ []) [])
+        go true e =
+            ap (λ n. take (2 * n) begun) e ∙ stored-two near (getD book 1 0) 255 (areas .some) ∙ ap (λ k. k ∷ 255 ∷ []) book-kind
+        go false e = ap (λ n. take (2 * n) begun) e
+
+    pub first-turn : TurnAt (part 1 book) 0 begun (2 * entries) entries far copied marked siblings settled words missing
     first-turn = record {
       vocabulary = W;
       kind = s;
-      es = any ∷ [];
+      es = wholeOf (signature W) s;
       ts = h .patterns;
       span = areas .span;
       tables = h .tables;
-      entriesOf = (whole-of, tt);
-      patternsOf = patterns;
+      entriesOf = first-entries;
+      patternsOf = h .held .patterns;
       few = let k = h .held .few in omega arith;
       stands = part-is 1 book ∙ rest;
-      area = stored-two near (getD book 1 0) 255 (areas .some) ∙ ap (λ k. k ∷ 255 ∷ []) book-kind;
-      inside = let k = areas .some in let l = begun-length in omega arith;
-      many = refl;
+      area = first-area;
+      inside = let k = areas .some in let l = begun-length in let f = few-entries in omega arith;
+      many = first-many;
       rooms = begun-length ∙ areas .same;
-      spans = spans-in (areas .span) (h .patterns) (let k = areas .spans in let e = ap length (h .held .written) in omega arith) patterns;
+      spans =
+          spans-in (areas .span) (h .patterns) (let k = areas .spans in let e = ap length (h .held .written) in omega arith) (h .held .patterns);
       copy = let c = areas .copy in let e = areas .same in omega arith;
       small = areas .small;
       marks = areas .marks;
     }
-      where
-        patterns : All (PatternOf W s) (h .patterns)
-        patterns = all-implies (Listable W s) (PatternOf W s) pattern-of (h .patterns) (h .held .patterns)
 
     pub first-listed : (out after : List ℕ) (r : Turned) →
-        Turns (part 1 book) 0 begun 2 1 far copied marked siblings out after r →
-        HasEffect (turned W s (length near) 0 (any ∷ []) (h .patterns) out) (turnNumbers r) after
+        Turns (part 1 book) 0 begun (2 * entries) entries far copied marked siblings settled words missing out after r →
+        HasEffect (turned W s (length near) 0 (wholeOf (signature W) s) (h .patterns) out) (turnNumbers r) after
     unfolding first-turn
     first-listed out after r turns =
-        subst (λ m. HasEffect (turned W s m 0 (any ∷ []) (h .patterns) out) (turnNumbers r) after) (sym (areas .same)) (turns first-turn)
+        subst (λ m. HasEffect (turned W s m 0 (wholeOf (signature W) s) (h .patterns) out) (turnNumbers r) after) (sym (areas .same)) (turns first-turn)

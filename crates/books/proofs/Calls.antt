@@ -19,8 +19,10 @@ use Rattle.wire.specs.BookComputed.{Book, readBook, BookJudged, listable, unlis
 use Rattle.wire.proofs.Bytes.{bytes-of}
 use Rattle.wire.proofs.VocabulariesInverse.{vocabularies-inverse}
 use Rattle.wire.proofs.Theorems.{books-inverse, book-keeps}
-use Rattle.signature.specs.Tables.{wordsBefore, resultsOf, laid}
-use Rattle.signature.proofs.Accepted.{laid-tabled}
+use Rattle.signature.specs.Tables.{acceptedIn}
+use Rattle.signature.specs.Settled.{SettledOf}
+use Rattle.signature.specs.declared.Missing.{Missing}
+use Rattle.reader.specs.Loaded.{SettledTable}
 use Rattle.reader.proofs.Refused.{Refuses}
 use Rattle.books.specs.Turning.{BookAt}
 use Rattle.books.specs.Calls.{ListsBook}
@@ -80,18 +82,20 @@ module _ (v b before : List ℕ) (vocabularyBytes : (i : ℕ) → getD v i 0 < 2
     pub some-bytes : 2 ≤ length v
     some-bytes = let e = ap length (held .written) in omega arith
 
-    module _ {words : ℕ} {results : List ℕ} (counted : words ≡ byteAt v 1) (blank : List ℕ) (table : results ≡ laid (resultsOf (wordsBefore v)) blank) where
-      pub book-at : BookAt b words results
+    module _ {words : ℕ} {settled : List ℕ} {missing : Missing} (counted : words ≡ byteAt v 1) (table : SettledTable v settled missing) where
+      pub book-at : BookAt b words settled missing
       book-at = record {
         vocabulary = W;
         kind = x .kind;
         patterns = x .patterns;
-        inOrder = held .good .inOrder;
-        tabled = laid-tabled v W held (found .read) words counted results blank table;
-        held = books-inverse W b (x .kind) (x .patterns) (held .good .inOrder) bb .0 (found .reads);
+        inOrder = held .inOrder;
+        settledOf =
+            subst (λ n. SettledOf W n settled missing) (sym counted)
+            (subst (λ U. SettledOf U (byteAt v 1) settled missing) (ap acceptedIn (found .read)) (table .of));
+        held = books-inverse W b (x .kind) (x .patterns) (held .inOrder) bb .0 (found .reads);
       }
 
-      pub book-listed : {r r′ : Reply} {after : List ℕ} → r ≡ r′ → ListsBook b words results before after r′ → BookPromise v b before after r
+      pub book-listed : {r r′ : Reply} {after : List ℕ} → r ≡ r′ → ListsBook b words settled missing before after r′ → BookPromise v b before after r
       unfolding book-at
       book-listed {r} {r′} {after} same s =
           subst (λ l. BookPromise v b before after l) (sym same)

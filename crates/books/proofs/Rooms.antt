@@ -12,20 +12,19 @@ use mathlib.Core.List.{List, [], _∷_}
 use mathlib.Core.Logic.{_⊎_, inl, inr}
 use mathlib.Core.Option.{Option, some, none, Option·some-ne-none}
 use Prim.Native.Nat.{ℕ, suc, _≤_, min}
-use native.Mathlib.Nat.{min-eq-left}
 use native.Mathlib.Omega.{arith}
 use denote.Enum.Declared.{tagOf}
 use lib.Dec.{ltb, leb, eqb}
 use lib.ListN.{length}
 use borrow.Author.Tests.{le-ltb, ltb-false}
-use Rattle.terms.specs.Term.{Term, any}
-use Rattle.terms.specs.Book.{against, behind}
+use Rattle.terms.specs.Term.{Term}
+use Rattle.terms.specs.Productive.{wholeOf, leftBehind, leftInTurn}
 use Rattle.terms.proofs.Bools.{or-parts}
 use Rattle.wire.specs.Reply.{Reply, accepted, refused}
 use Rattle.wire.specs.Effect.{Effect, HasEffect}
 use Rattle.wire.specs.Vocabulary.{Vocabulary, signature, mostWords}
 use Rattle.kinds.specs.Kinds.{SiblingTable}
-use Rattle.signature.specs.Tables.{Tabled}
+use Rattle.signature.specs.declared.Missing.{Missing}
 use Rattle.wire.specs.BookBytes.{patternsBytes}
 use Rattle.wire.specs.BookLeftovers.{mostListed}
 use Rattle.wire.specs.ListComputed.{listedInto}
@@ -54,7 +53,7 @@ none-parts false i o e = (refl, e)
 past-less : (W : Vocabulary) (s room more : ℕ) → room ≤ more → (i : ℕ) (l ts : List Term) → firstPast W s room i l ts ≡ none → firstPast W s more i l ts ≡ none
 past-less W s room more h i l [] e = refl
 past-less W s room more h i l (t ∷ ts) e =
-    let left : List Term = against (signature W) t l in
+    let left : List Term = leftBehind (signature W) s t l in
     let (none-here, later) = none-parts (passes W s room left) i (firstPast W s room (suc i) left ts) e in
     cond-false (passes W s more left) (some i) (firstPast W s more (suc i) left ts) (passes-less W s room more left h none-here)
     ∙ past-less W s room more h (suc i) left ts later
@@ -87,60 +86,53 @@ module _ (W : Vocabulary) (s : ℕ) (left : List Term) (out : List ℕ) (r : Rep
 
 -- What is turned by large areas is the listing.
 same-effect : (W : Vocabulary) (s : ℕ) (ts : List Term) (out : List ℕ) (o : Option ℕ) →
-    turnedBy W s (behind (signature W) ts (any ∷ [])) out o ≡ bookInto W out (record { kind = s; patterns = ts }) o
+    turnedBy W s (leftInTurn (signature W) s ts (wholeOf (signature W) s)) out o ≡ bookInto W out (record { kind = s; patterns = ts }) o
 same-effect W s ts out (some i) = refl
 same-effect W s ts out none = refl
 
 -- ---- the calls
 
 -- The table of siblings is made.
-pub read-at : {book results : List ℕ} {words : ℕ} → BookAt book words results → (siblings : List ℕ) → SiblingTable (min words mostWords) results siblings → ReadAt book siblings
-read-at {book} {results} {words} h siblings table = record {
+pub read-at : {book settled : List ℕ} {words : ℕ} {missing : Missing} → BookAt book words settled missing → (siblings : List ℕ) →
+    SiblingTable (min words mostWords) settled siblings → ReadAt book siblings settled words missing
+read-at h siblings table = record {
   vocabulary = h .vocabulary;
   kind = h .kind;
   patterns = h .patterns;
-  tables = record {
-    results = results;
-    inOrder = h .inOrder;
-    tabled = subst (λ n. Tabled (h .vocabulary) n results) (h .tabled .words) (h .tabled);
-    siblings = subst (λ n. SiblingTable n results siblings) (min-eq-left few ∙ h .tabled .words) table;
-  };
+  tables = record { inOrder = h .inOrder; settledOf = h .settledOf; siblingsOf = table };
   held = h .held;
 }
-  where
-    few : words ≤ mostWords
-    few = let w = h .tabled .words in let k = h .inOrder .fewWords in omega arith
 
-module _ {book results : List ℕ} {words : ℕ} (siblings : List ℕ) (made : SiblingTable (min words mostWords) results siblings)
+module _ {book settled : List ℕ} {words : ℕ} {missing : Missing} (siblings : List ℕ) (made : SiblingTable (min words mostWords) settled siblings)
     (out after : List ℕ) (t : Turned) where
-  pub large-listed : ListsIn book siblings mostListed out after t → ListsBook book words results out after (turnNumbers t)
+  pub large-listed : ListsIn book siblings settled words missing mostListed out after t → ListsBook book words settled missing out after (turnNumbers t)
   unfolding read-at
   large-listed lists h =
       subst (λ e. HasEffect e (turnNumbers t) after)
-      (same-effect (h .vocabulary) (h .kind) (h .patterns) out (firstPast (h .vocabulary) (h .kind) mostListed 0 (any ∷ []) (h .patterns)))
+      (same-effect (h .vocabulary) (h .kind) (h .patterns) out (firstPast (h .vocabulary) (h .kind) mostListed 0 (wholeOf (signature (h .vocabulary)) (h .kind)) (h .patterns)))
       (lists (read-at h siblings made))
 
-  pub small-listed : (room : ℕ) → ListsIn book siblings room out after t → room ≤ mostListed → isPast (turnNumbers t) ≡ false →
-      ListsBook book words results out after (turnNumbers t)
+  pub small-listed : (room : ℕ) → ListsIn book siblings settled words missing room out after t → room ≤ mostListed → isPast (turnNumbers t) ≡ false →
+      ListsBook book words settled missing out after (turnNumbers t)
   small-listed room lists less p = large-listed large
     where
-      large : ListsIn book siblings mostListed out after t
+      large : ListsIn book siblings settled words missing mostListed out after t
       large h =
           let W = h .vocabulary in
           let s = h .kind in
           let ts = h .patterns in
-          let left : List Term = behind (signature W) ts (any ∷ []) in
-          let e : firstPast W s room 0 (any ∷ []) ts ≡ none =
-          no-past W s left out (turnNumbers t) after (firstPast W s room 0 (any ∷ []) ts) (lists h) p in
-          subst (λ o. HasEffect (turnedBy W s left out o) (turnNumbers t) after) (e ∙ sym (past-less W s room mostListed less 0 (any ∷ []) ts e)) (lists h)
+          let left : List Term = leftInTurn (signature W) s ts (wholeOf (signature W) s) in
+          let e : firstPast W s room 0 (wholeOf (signature W) s) ts ≡ none =
+          no-past W s left out (turnNumbers t) after (firstPast W s room 0 (wholeOf (signature W) s) ts) (lists h) p in
+          subst (λ o. HasEffect (turnedBy W s left out o) (turnNumbers t) after) (e ∙ sym (past-less W s room mostListed less 0 (wholeOf (signature W) s) ts e)) (lists h)
 
-  pub past-listed : (mid : List ℕ) (t₀ : Turned) (room : ℕ) {i : ℕ} → ListsIn book siblings room out mid t₀ → t₀ ≡ Past i →
-      ListsIn book siblings mostListed mid after t → ListsBook book words results out after (turnNumbers t)
+  pub past-listed : (mid : List ℕ) (t₀ : Turned) (room : ℕ) {i : ℕ} → ListsIn book siblings settled words missing room out mid t₀ → t₀ ≡ Past i →
+      ListsIn book siblings settled words missing mostListed mid after t → ListsBook book words settled missing out after (turnNumbers t)
   unfolding read-at
   past-listed mid t₀ room small e lists h =
-      large-listed (subst (λ l. ListsIn book siblings mostListed l after t) kept lists) h
+      large-listed (subst (λ l. ListsIn book siblings settled words missing mostListed l after t) kept lists) h
     where
       kept : mid ≡ out
       kept =
-          past-kept (h .vocabulary) (h .kind) (behind (signature (h .vocabulary)) (h .patterns) (any ∷ [])) out (turnNumbers t₀) mid
-          (firstPast (h .vocabulary) (h .kind) room 0 (any ∷ []) (h .patterns)) (small (read-at h siblings made)) (ap (λ x. isPast (turnNumbers x)) e)
+          past-kept (h .vocabulary) (h .kind) (leftInTurn (signature (h .vocabulary)) (h .kind) (h .patterns) (wholeOf (signature (h .vocabulary)) (h .kind))) out (turnNumbers t₀) mid
+          (firstPast (h .vocabulary) (h .kind) room 0 (wholeOf (signature (h .vocabulary)) (h .kind)) (h .patterns)) (small (read-at h siblings made)) (ap (λ x. isPast (turnNumbers x)) e)

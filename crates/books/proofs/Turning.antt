@@ -1,6 +1,6 @@
 -- Turning: one pattern after the other.
 --
---   together-patterns, fits-passes, passes-fits    entries fit into an area exactly where they pass no limit of it
+--   fits-passes, passes-fits    entries fit into an area exactly where they pass no limit of it
 --   turn-ends                no pattern is left
 --   turn-few, turn-bytes, turn-size, turn-less, turn-short    one is left, and this is where the next one begins
 --   turn-past                the entries that are taken against it do not fit
@@ -18,38 +18,35 @@ use lib.ListN.{length, take, drop, length-append, length-drop, length-map}
 use lib.Seq.{take-at, drop-at, length-take-le}
 use borrow.Author.Tests.{le-ltb, ltb-false}
 use Rattle.terms.specs.Lists.{All}
-use Rattle.terms.specs.Term.{Term}
-use Rattle.terms.specs.Book.{against, behind}
+use Rattle.terms.specs.Term.{Term, Sorted}
+use Rattle.terms.specs.Productive.{leftBehind, leftInTurn, BookEntry}
 use Rattle.terms.proofs.Bools.{or-parts}
 use Rattle.terms.proofs.All.{all-implies, all-both, all-map, all-unmap}
-use Rattle.terms.proofs.Nameless.{Entry}
-use Rattle.terms.proofs.Book.{against-entries}
+use Rattle.terms.proofs.LeftBehind.{left-entries}
 use Rattle.wire.specs.Reply.{refused}
 use Rattle.wire.specs.Effect.{HasEffect}
 use Rattle.wire.specs.Vocabulary.{Vocabulary, signature}
 use Rattle.wire.specs.TermBytes.{encodeRoot, encodeTerm, levels, mostBytes, mostLevels}
-use Rattle.wire.specs.BookBytes.{mostPatterns, patternsBytes}
+use Rattle.wire.specs.BookBytes.{mostPatterns, patternsBytes, Listable}
 use Rattle.wire.specs.ListComputed.{listedInto}
 use Rattle.wire.specs.BookComputed.{someLong, passes, firstPast}
 use Rattle.wire.proofs.Cond.{cond-true, cond-false}
-use Rattle.wire.proofs.BookLevels.{against-levels}
+use Rattle.wire.proofs.BookLevels.{left-levels}
 use Rattle.extents.specs.Extents.{termSize}
 use Rattle.slices.proofs.Writing.{part, part-is}
 use Rattle.others.specs.Listed.{together, FitBehind}
-use Rattle.cuts.specs.Entries.{EntryOf, PatternOf}
-use Rattle.strikes.specs.Calls.{Put, LeftOf, leavesOf, AreaAt, StrikesArea}
+use Rattle.signature.specs.declared.Missing.{Missing}
+use Rattle.strikes.specs.Calls.{Put, LeftOf}
+use Rattle.takes.specs.Taking.{BookEntryOf, behindBytes, TakeAt, TakesPattern}
 use Rattle.books.specs.Turning.{turnNumbers, turnedBy, turned, TurnAt, Turns}
 use Rattle.strikes.specs.declared.Left.{Left}
 use Rattle.strikes.specs.declared.Left.the-variants.{Bytes, Full}
 use Rattle.books.specs.declared.turns.Turned.{Turned}
 use Rattle.strikes.proofs.Putting.{put-count, put-length}
 use Rattle.strikes.proofs.Area.{no-patterns, entry-whole}
+use Rattle.takes.proofs.Taking.{together-patterns}
 
 -- ---- entries that fit
-
-pub together-patterns : (W : Vocabulary) (s : ℕ) (l : List Term) → together (map (encodeTerm W s) l) ≡ patternsBytes W s l
-together-patterns W s [] = refl
-together-patterns W s (t ∷ l) = ap (λ z. encodeTerm W s t ++ z) (together-patterns W s l)
 
 all-short : (W : Vocabulary) (s : ℕ) (l : List Term) → someLong W s l ≡ false → All (λ e. length (encodeTerm W s e) ≤ mostBytes) l
 all-short W s [] e = tt
@@ -93,7 +90,8 @@ fewer all size h = omega arith
 first-inside : (all size one more : ℕ) → all ≡ one + more → 1 + size ≡ one → 1 + size ≤ all
 first-inside all size one more e f = omega arith
 
-module _ {book from siblings : List ℕ} {i n entries room copied marked : ℕ} (h : TurnAt book i from n entries room copied marked siblings) where
+module _ {book from siblings settled : List ℕ} {i n entries room copied marked words : ℕ} {missing : Missing}
+    (h : TurnAt book i from n entries room copied marked siblings settled words missing) where
   abbrev W : Vocabulary
   W = h .vocabulary
 
@@ -117,8 +115,8 @@ module _ {book from siblings : List ℕ} {i n entries room copied marked : ℕ} 
     first : Term
     others : List Term
     is : h .ts ≡ first ∷ others
-    good : PatternOf W s first
-    goods : All (PatternOf W s) others
+    good : Listable W s first
+    goods : All (Listable W s) others
     span : length (encodeTerm W s first) ≤ h .span
     spans : All (λ t. length (encodeTerm W s t) ≤ h .span) others
     begins : book ≡ encodeTerm W s first ++ patternsBytes W s others
@@ -129,7 +127,7 @@ module _ {book from siblings : List ℕ} {i n entries room copied marked : ℕ} 
       go : (l : List Term) → h .ts ≡ l → Turning
       go [] q = absurd (e (ap length (h .stands ∙ ap (patternsBytes W s) q)))
       go (t ∷ l) q =
-          let g = subst (All (PatternOf W s)) q (h .patternsOf) in
+          let g = subst (All (Listable W s)) q (h .patternsOf) in
           let p = subst (All (λ t. length (encodeTerm W s t) ≤ h .span)) q (h .spans) in
           record {
             first = t;
@@ -144,7 +142,7 @@ module _ {book from siblings : List ℕ} {i n entries room copied marked : ℕ} 
 
   module _ (x : Turning) where
     -- No entry of the area is longer than the area.
-    short-entries : (l : List Term) → length (patternsBytes W s l) ≤ room → All (EntryOf W s) l →
+    short-entries : (l : List Term) → length (patternsBytes W s l) ≤ room → All (BookEntryOf W s) l →
         All (λ e. length (encodeTerm W s e) + length (encodeTerm W s (x .first)) ≤ copied) l
     short-entries [] k g = tt
     short-entries (e ∷ l) k g =
@@ -154,57 +152,64 @@ module _ {book from siblings : List ℕ} {i n entries room copied marked : ℕ} 
         let d = x .span in
         (omega arith, short-entries l (omega arith) (g .1))
 
-    area-of : (pattern : List ℕ) → pattern ≡ encodeTerm W s (x .first) → AreaAt (take n from) pattern siblings copied
-    area-of pattern b = record {
+    taking-of : (pattern : List ℕ) → pattern ≡ encodeTerm W s (x .first) → TakeAt (take n from) entries pattern copied siblings settled words missing
+    taking-of pattern b = record {
       vocabulary = W;
       kind = s;
-      entries = h .es;
+      es = h .es;
       term = x .first;
       tables = h .tables;
       each = h .entriesOf;
-      patternOf = x .good;
+      listable = x .good;
       stands = h .area;
+      many = h .many;
       begins = b;
       copy = short-entries (h .es) (let r = h .rooms in let i = h .inside in let a = area-size in omega arith) (h .entriesOf);
       small = h .small;
     }
 
     abbrev next : List Term
-    next = against (signature W) (x .first) (h .es)
+    next = leftBehind (signature W) s (x .first) (h .es)
 
     unfolded : (out : List ℕ) → turned W s room i (h .es) (h .ts) out ≡ turned W s room i (h .es) (x .first ∷ x .others) out
     unfolded out = ap (λ ts. turned W s room i (h .es) ts out) (x .is)
 
-    past-is : (out : List ℕ) → (FitBehind (leavesOf W s (x .first) (h .es)) 0 room → ⊥) →
+    past-is : (out : List ℕ) → (FitBehind (behindBytes W s (x .first) (h .es)) 0 room → ⊥) →
         turned W s room i (h .es) (h .ts) out ≡ record { reply = refused 26 5 i; after = out }
     past-is out full =
         unfolded out
-        ∙ ap (turnedBy W s (behind (signature W) (x .others) next) out)
+        ∙ ap (turnedBy W s (leftInTurn (signature W) s (x .others) next) out)
         (cond-true (passes W s room next) (some i) (firstPast W s room (suc i) next (x .others)) (full-passes W s room next full))
 
-    goes-on : (out : List ℕ) → FitBehind (leavesOf W s (x .first) (h .es)) 0 room →
+    goes-on : (out : List ℕ) → FitBehind (behindBytes W s (x .first) (h .es)) 0 room →
         turned W s room i (h .es) (h .ts) out ≡ turned W s room (i + 1) next (x .others) out
     goes-on out fits =
         unfolded out
-        ∙ ap (turnedBy W s (behind (signature W) (x .others) next) out)
+        ∙ ap (turnedBy W s (leftInTurn (signature W) s (x .others) next) out)
         (cond-false (passes W s room next) (some i) (firstPast W s room (suc i) next (x .others)) (fits-passes W s room next fits)
         ∙ ap (λ j. firstPast W s room j next (x .others)) (let e : suc i ≡ i + 1 = omega arith in e))
 
-    next-entries : FitBehind (leavesOf W s (x .first) (h .es)) 0 room → All (EntryOf W s) next
+    sorted : Sorted (signature W) (x .first) s
+    sorted = x .good .holds .good .sorted .sorted
+
+    short : length (encodeTerm W s (x .first)) ≤ mostBytes
+    short = x .good .holds .limits .most
+
+    next-entries : FitBehind (behindBytes W s (x .first) (h .es)) 0 room → All (BookEntryOf W s) next
     next-entries fits =
-        all-implies _ (EntryOf W s) (λ e (k, (l, b)). record { sorted = k .0; nameless = k .1; low = l; short = b }) next
-        (all-both (Entry (signature W) s) _ next
-        (against-entries (signature W) s (x .first) (h .es) (x .good .sorted)
-        (all-implies (EntryOf W s) (Entry (signature W) s) (λ e k. (k .sorted, k .nameless)) (h .es) (h .entriesOf)))
+        all-implies _ (BookEntryOf W s) (λ e (k, (l, b)). record { entry = k; low = l; short = b }) next
+        (all-both (BookEntry (signature W) s) _ next
+        (left-entries (signature W) s (x .first) (h .es) sorted
+        (all-implies (BookEntryOf W s) (BookEntry (signature W) s) (λ e k. k .entry) (h .es) (h .entriesOf)))
         (all-both (λ e. levels e ≤ mostLevels) _ next
-        (against-levels (signature W) mostLevels (x .first) (h .es) (x .good .low)
-        (all-implies (EntryOf W s) _ (λ e k. k .low) (h .es) (h .entriesOf)))
+        (left-levels (signature W) mostLevels s (x .first) (h .es) (let d = x .good .holds .limits .levels in omega arith)
+        (all-implies (BookEntryOf W s) _ (λ e k. k .low) (h .es) (h .entriesOf)))
         (all-unmap (λ b. length b ≤ mostBytes) (encodeTerm W s) next (fits .each))))
 
     -- The areas change places.
-    next-turn : (to to′ : List ℕ) (n′ k′ size : ℕ) → length to ≡ room → Put (leavesOf W s (x .first) (h .es)) 0 to to′ n′ k′ →
+    next-turn : (to to′ : List ℕ) (n′ k′ size : ℕ) → length to ≡ room → Put (behindBytes W s (x .first) (h .es)) 0 to to′ n′ k′ →
         size ≡ length (encodeTerm W s (x .first)) →
-        TurnAt (drop size book) (i + 1) to′ n′ k′ (length from) copied marked siblings
+        TurnAt (drop size book) (i + 1) to′ n′ k′ (length from) copied marked siblings settled words missing
     next-turn to to′ n′ k′ size same put e = record {
       vocabulary = W;
       kind = s;
@@ -212,13 +217,13 @@ module _ {book from siblings : List ℕ} {i n entries room copied marked : ℕ} 
       ts = x .others;
       span = h .span;
       tables = h .tables;
-      entriesOf = next-entries (subst (FitBehind (leavesOf W s (x .first) (h .es)) 0) same (put .listed .fits));
+      entriesOf = next-entries (subst (FitBehind (behindBytes W s (x .first) (h .es)) 0) same (put .listed .fits));
       patternsOf = x .goods;
       few = let c = h .few in let l = ap length (x .is) in omega arith;
       stands = ap (drop size) (x .begins) ∙ drop-at (encodeTerm W s (x .first)) (patternsBytes W s (x .others)) size (sym e);
       area =
           ap (take n′) (put .listed .written .same)
-          ∙ take-at (together (leavesOf W s (x .first) (h .es))) (drop (length (together (leavesOf W s (x .first) (h .es)))) to) n′ (sym (put .listed .written .count))
+          ∙ take-at (together (behindBytes W s (x .first) (h .es))) (drop (length (together (behindBytes W s (x .first) (h .es)))) to) n′ (sym (put .listed .written .count))
           ∙ together-patterns W s next;
       inside = let c = put-count put in let l = put-length put in let f = put .listed .fits .all in omega arith;
       many = put .count ∙ length-map next (encodeTerm W s);
@@ -247,7 +252,7 @@ module _ {book from siblings : List ℕ} {i n entries room copied marked : ℕ} 
     module _ (size : ℕ) (ends : size ≡ termSize (part 1 book)) where
       whole-size : 1 + size ≡ length (encodeTerm W s (x .first))
       whole-size =
-          entry-whole W (h .tables .inOrder) s (x .first) (x .good .sorted) (x .good .short) (patternsBytes W s (x .others)) (part 1 book) behind-kind size ends
+          entry-whole W (h .tables .inOrder) s (x .first) (sorted x) (short x) (patternsBytes W s (x .others)) (part 1 book) behind-kind size ends
 
       pub turn-size : 1 + size ≤ length book
       turn-size =
@@ -260,54 +265,54 @@ module _ {book from siblings : List ℕ} {i n entries room copied marked : ℕ} 
           (subst (λ k. k < t) (sym (length-drop (1 + size) book)) (subst (λ k. length book - (1 + size) < k) e (fewer (length book) size turn-size)))
 
       pub turn-short : 1 + size ≤ mostBytes
-      turn-short = subst (λ n. n ≤ mostBytes) (sym whole-size) (x .good .short)
+      turn-short = subst (λ n. n ≤ mostBytes) (sym whole-size) (short x)
 
       pattern-is : take (1 + size) book ≡ encodeTerm W s (x .first)
       pattern-is = ap (take (1 + size)) (x .begins) ∙ take-at (encodeTerm W s (x .first)) (patternsBytes W s (x .others)) (1 + size) (sym whole-size)
 
-      turn-strikes : AreaAt (take n from) (take (1 + size) book) siblings copied
-      turn-strikes = area-of x (take (1 + size) book) pattern-is
+      turn-takes : TakeAt (take n from) entries (take (1 + size) book) copied siblings settled words missing
+      turn-takes = taking-of x (take (1 + size) book) pattern-is
 
       turn-marks : length (take (1 + size) book) ≤ marked
       turn-marks = subst (λ l. length l ≤ marked) (sym pattern-is) (le-trans (x .span) (h .marks))
 
       module _ (to to′ : List ℕ) (same : length to ≡ room) (r : Left)
-          (strikes : StrikesArea (take n from) (take (1 + size) book) marked siblings copied to to′ r) where
-        struck : LeftOf (leavesOf W s (x .first) (h .es)) 0 to to′ r
-        unfolding turn-strikes area-of
-        struck = strikes turn-strikes turn-marks
+          (takes : TakesPattern (take n from) entries (take (1 + size) book) marked copied siblings settled words missing to to′ r) where
+        taken : LeftOf (behindBytes W s (x .first) (h .es)) 0 to to′ r
+        unfolding turn-takes taking-of
+        taken = takes turn-takes turn-marks
 
         pub turn-past : r ≡ Full → (out : List ℕ) → HasEffect (turned W s room i (h .es) (h .ts) out) (refused 26 5 i) out
         turn-past e out =
             subst (λ l. HasEffect l (refused 26 5 i) out)
             (sym
             (past-is x out
-            (λ f. subst (LeftOf (leavesOf W s (x .first) (h .es)) 0 to to′) e struck (subst (FitBehind (leavesOf W s (x .first) (h .es)) 0) (sym same) f))))
+            (λ f. subst (LeftOf (behindBytes W s (x .first) (h .es)) 0 to to′) e taken (subst (FitBehind (behindBytes W s (x .first) (h .es)) 0) (sym same) f))))
             (record { reply = refl; after = refl })
 
         module _ {n′ k′ : ℕ} (e : r ≡ Bytes n′ k′) where
-          put : Put (leavesOf W s (x .first) (h .es)) 0 to to′ n′ k′
-          put = subst (LeftOf (leavesOf W s (x .first) (h .es)) 0 to to′) e struck
+          put : Put (behindBytes W s (x .first) (h .es)) 0 to to′ n′ k′
+          put = subst (LeftOf (behindBytes W s (x .first) (h .es)) 0 to to′) e taken
 
           -- The copy and the marks are as long as before.
           module _ (copied′ marked′ : ℕ) (copies : copied′ ≡ copied) (marking : marked′ ≡ marked) where
-            pub turn-next : TurnAt (part (1 + size) book) (i + 1) to′ n′ k′ (length from) copied′ marked′ siblings
+            pub turn-next : TurnAt (part (1 + size) book) (i + 1) to′ n′ k′ (length from) copied′ marked′ siblings settled words missing
             turn-next =
-                subst (λ l. TurnAt l (i + 1) to′ n′ k′ (length from) copied′ marked′ siblings) (sym (part-is (1 + size) book))
-                (subst (λ c. TurnAt (drop (1 + size) book) (i + 1) to′ n′ k′ (length from) c marked′ siblings) (sym copies)
-                (subst (λ m. TurnAt (drop (1 + size) book) (i + 1) to′ n′ k′ (length from) copied m siblings) (sym marking)
+                subst (λ l. TurnAt l (i + 1) to′ n′ k′ (length from) copied′ marked′ siblings settled words missing) (sym (part-is (1 + size) book))
+                (subst (λ c. TurnAt (drop (1 + size) book) (i + 1) to′ n′ k′ (length from) c marked′ siblings settled words missing) (sym copies)
+                (subst (λ m. TurnAt (drop (1 + size) book) (i + 1) to′ n′ k′ (length from) copied m siblings settled words missing) (sym marking)
                 (next-turn x to to′ n′ k′ (1 + size) same put whole-size)))
 
             pub turn-goes : (out after : List ℕ) (t : Turned) →
-                Turns (part (1 + size) book) (i + 1) to′ n′ k′ (length from) copied′ marked′ siblings out after t →
+                Turns (part (1 + size) book) (i + 1) to′ n′ k′ (length from) copied′ marked′ siblings settled words missing out after t →
                 HasEffect (turned W s room i (h .es) (h .ts) out) (turnNumbers t) after
             unfolding next-turn
             turn-goes out after t goes =
                 let turns =
-                subst (λ m. Turns (drop (1 + size) book) (i + 1) to′ n′ k′ (length from) copied m siblings out after t) marking
-                (subst (λ c. Turns (drop (1 + size) book) (i + 1) to′ n′ k′ (length from) c marked′ siblings out after t) copies
-                (subst (λ l. Turns l (i + 1) to′ n′ k′ (length from) copied′ marked′ siblings out after t) (part-is (1 + size) book) goes)) in
+                subst (λ m. Turns (drop (1 + size) book) (i + 1) to′ n′ k′ (length from) copied m siblings settled words missing out after t) marking
+                (subst (λ c. Turns (drop (1 + size) book) (i + 1) to′ n′ k′ (length from) c marked′ siblings settled words missing out after t) copies
+                (subst (λ l. Turns l (i + 1) to′ n′ k′ (length from) copied′ marked′ siblings settled words missing out after t) (part-is (1 + size) book) goes)) in
                 let due : turned W s room i (h .es) (h .ts) out ≡ turned W s (length from) (i + 1) (next x) (x .others) out =
-                goes-on x out (subst (FitBehind (leavesOf W s (x .first) (h .es)) 0) same (put .listed .fits))
+                goes-on x out (subst (FitBehind (behindBytes W s (x .first) (h .es)) 0) same (put .listed .fits))
                 ∙ ap (λ m. turned W s m (i + 1) (next x) (x .others) out) (sym (h .rooms)) in
                 subst (λ l. HasEffect l (turnNumbers t) after) (sym due) (turns (next-turn x to to′ n′ k′ (1 + size) same put whole-size))

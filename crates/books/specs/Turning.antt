@@ -4,8 +4,9 @@
 --   turned W s room i es ts out    the reply where the entries es are taken against the patterns ts, of which the first has the
 --                            number i, by areas of `room` bytes, and the lent slice after it
 --   TurnAt, Turns            where turn begins, and what it does
---   BookAt book words results    the book is accepted under a vocabulary in order, whose result kinds the table has
---   ReadAt book siblings     the same, and the table has the siblings of its words
+--   BookAt book words settled missing    the book is accepted under a vocabulary in order, whose settled result kinds the table
+--                            has, and `missing` is its lowest kind without complete situations
+--   ReadAt                   the same, and a table has the siblings of its words
 --   AreasFor                 the areas, the copy and the table of marks are long enough for a book
 --   ListsIn                  what list_in does
 --
@@ -15,18 +16,19 @@ use mathlib.Core.Option.{Option, some, none}
 use Prim.Native.Nat.{ℕ, _+_, _≤_, min}
 use lib.ListN.{length, take}
 use Rattle.terms.specs.Lists.{All}
-use Rattle.terms.specs.Term.{Term, any}
-use Rattle.terms.specs.Book.{behind}
+use Rattle.terms.specs.Term.{Term}
+use Rattle.terms.specs.Productive.{wholeOf, leftInTurn}
 use Rattle.wire.specs.Reply.{Reply, accepted, refused}
 use Rattle.wire.specs.Effect.{Effect, HasEffect}
 use Rattle.wire.specs.Vocabulary.{Vocabulary, InOrder, signature}
 use Rattle.wire.specs.TermBytes.{encodeTerm, mostBytes}
-use Rattle.wire.specs.BookBytes.{mostPatterns, patternsBytes, HoldsBook}
+use Rattle.wire.specs.BookBytes.{mostPatterns, patternsBytes, Listable, HoldsBook}
 use Rattle.wire.specs.ListComputed.{listedInto}
 use Rattle.wire.specs.BookComputed.{firstPast}
 use Rattle.extents.specs.Extents.{mostExtent}
-use Rattle.signature.specs.Tables.{Tabled}
-use Rattle.cuts.specs.Entries.{EntryOf, PatternOf, TablesOf}
+use Rattle.signature.specs.Settled.{SettledOf}
+use Rattle.signature.specs.declared.Missing.{Missing}
+use Rattle.takes.specs.Taking.{ListingTables, BookEntryOf}
 use Rattle.books.specs.declared.turns.Turned.{Turned}
 use Rattle.books.specs.declared.turns.Turned.the-variants.{Listed, NoRoom, Past}
 
@@ -40,18 +42,19 @@ turnedBy W s left out (some i) = record { reply = refused 26 5 i; after = out }
 turnedBy W s left out none = listedInto out (length left) (patternsBytes W s left)
 
 abbrev pub turned : Vocabulary → ℕ → ℕ → ℕ → List Term → List Term → List ℕ → Effect
-turned W s room i es ts out = turnedBy W s (behind (signature W) ts es) out (firstPast W s room i es ts)
+turned W s room i es ts out = turnedBy W s (leftInTurn (signature W) s ts es) out (firstPast W s room i es ts)
 
 -- Every pattern has at most `span` bytes, and an entry no more than an area or a pattern may have.
-pub record TurnAt (book : List ℕ) (i : ℕ) (from : List ℕ) (n entries room copied marked : ℕ) (siblings : List ℕ) : Type 0 where
+pub record TurnAt (book : List ℕ) (i : ℕ) (from : List ℕ) (n entries room copied marked : ℕ) (siblings settled : List ℕ) (words : ℕ) (missing : Missing) :
+    Type 0 where
   pub vocabulary : Vocabulary
   pub kind : ℕ
   pub es : List Term
   pub ts : List Term
   pub span : ℕ
-  pub tables : TablesOf vocabulary siblings
-  pub entriesOf : All (EntryOf vocabulary kind) es
-  pub patternsOf : All (PatternOf vocabulary kind) ts
+  pub tables : ListingTables vocabulary siblings settled words missing
+  pub entriesOf : All (BookEntryOf vocabulary kind) es
+  pub patternsOf : All (Listable vocabulary kind) ts
   pub few : i + length ts ≤ mostPatterns
   pub stands : book ≡ patternsBytes vocabulary kind ts
   pub area : take n from ≡ patternsBytes vocabulary kind es
@@ -63,24 +66,24 @@ pub record TurnAt (book : List ℕ) (i : ℕ) (from : List ℕ) (n entries room 
   pub small : copied ≤ mostExtent
   pub marks : span ≤ marked
 
-abbrev pub Turns : List ℕ → ℕ → List ℕ → ℕ → ℕ → ℕ → ℕ → ℕ → List ℕ → List ℕ → List ℕ → Turned → Type 0
-Turns book i from n entries room copied marked siblings before after r =
-    (h : TurnAt book i from n entries room copied marked siblings) →
+abbrev pub Turns : List ℕ → ℕ → List ℕ → ℕ → ℕ → ℕ → ℕ → ℕ → List ℕ → List ℕ → ℕ → Missing → List ℕ → List ℕ → Turned → Type 0
+Turns book i from n entries room copied marked siblings settled words missing before after r =
+    (h : TurnAt book i from n entries room copied marked siblings settled words missing) →
     HasEffect (turned (h .vocabulary) (h .kind) room i (h .es) (h .ts) before) (turnNumbers r) after
 
-pub record BookAt (book : List ℕ) (words : ℕ) (results : List ℕ) : Type 0 where
+pub record BookAt (book : List ℕ) (words : ℕ) (settled : List ℕ) (missing : Missing) : Type 0 where
   pub vocabulary : Vocabulary
   pub kind : ℕ
   pub patterns : List Term
   pub inOrder : InOrder vocabulary
-  pub tabled : Tabled vocabulary words results
+  pub settledOf : SettledOf vocabulary words settled missing
   pub held : HoldsBook vocabulary book kind patterns
 
-pub record ReadAt (book siblings : List ℕ) : Type 0 where
+pub record ReadAt (book siblings settled : List ℕ) (words : ℕ) (missing : Missing) : Type 0 where
   pub vocabulary : Vocabulary
   pub kind : ℕ
   pub patterns : List Term
-  pub tables : TablesOf vocabulary siblings
+  pub tables : ListingTables vocabulary siblings settled words missing
   pub held : HoldsBook vocabulary book kind patterns
 
 pub record AreasFor (book : List ℕ) (near far copied marked : ℕ) : Type 0 where
@@ -92,7 +95,7 @@ pub record AreasFor (book : List ℕ) (near far copied marked : ℕ) : Type 0 wh
   pub small : copied ≤ mostExtent
   pub marks : span ≤ marked
 
-abbrev pub ListsIn : List ℕ → List ℕ → ℕ → List ℕ → List ℕ → Turned → Type 0
-ListsIn book siblings room before after r =
-    (h : ReadAt book siblings) →
-    HasEffect (turned (h .vocabulary) (h .kind) room 0 (any ∷ []) (h .patterns) before) (turnNumbers r) after
+abbrev pub ListsIn : List ℕ → List ℕ → List ℕ → ℕ → Missing → ℕ → List ℕ → List ℕ → Turned → Type 0
+ListsIn book siblings settled words missing room before after r =
+    (h : ReadAt book siblings settled words missing) →
+    HasEffect (turned (h .vocabulary) (h .kind) room 0 (wholeOf (signature (h .vocabulary)) (h .kind)) (h .patterns) before) (turnNumbers r) after

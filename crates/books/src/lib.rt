@@ -12,9 +12,10 @@ mod turns;
 use crate::turns::Turned;
 use reader::BookAnswer;
 use reader::BookRefusal;
+use signature::Missing;
 use signature::VocabularyRefusal;
 
-// The number of entries and of bytes, or why there is no listing: document 01, lines 1 to 15, 18 and 20, and
+// The number of entries and of bytes, or why there is no listing: document 01, lines 1 to 5 and 7 to 15, 18 and 20, and
 // document 02, lines 24 to 26.
 pub enum BookListAnswer {
     Listed(usize, usize),
@@ -25,10 +26,17 @@ pub enum BookListAnswer {
 }
 
 // Lists a short book by small areas, which are sooner set up.
-fn list_small(book: &[u8], siblings: &[u8; 384], out: &mut [u8]) -> Turned
-    requires { ⌜ ReadAt (now book) (now siblings) ⌝ }
+fn list_small(
+    book: &[u8],
+    siblings: &[u8; 384],
+    settled: &[u8; 96],
+    words: usize,
+    missing: Missing,
+    out: &mut [u8],
+) -> Turned
+    requires { ⌜ ReadAt (now book) (now siblings) (now settled) words missing ⌝ }
     requires { ⌜ length (now book) ≤ 256 ⌝ }
-    ensures { λ r. ⌜ ListsIn (now (book .entry)) (now (siblings .entry)) 1024 (now (out .entry)) (now (out .exit)) r ⌝ }
+    ensures { λ r. ⌜ ListsIn (now (book .entry)) (now (siblings .entry)) (now (settled .entry)) words missing 1024 (now (out .entry)) (now (out .exit)) r ⌝ }
 {
     let mut near = [0u8; 1024];
     let mut far = [0u8; 1024];
@@ -37,6 +45,9 @@ fn list_small(book: &[u8], siblings: &[u8; 384], out: &mut [u8]) -> Turned
     turns::list_in(
         book,
         siblings,
+        settled,
+        words,
+        missing,
         &mut near,
         &mut far,
         &mut copy,
@@ -46,9 +57,16 @@ fn list_small(book: &[u8], siblings: &[u8; 384], out: &mut [u8]) -> Turned
 }
 
 // Lists a book by areas as large as the entries may be.
-fn list_large(book: &[u8], siblings: &[u8; 384], out: &mut [u8]) -> Turned
-    requires { ⌜ ReadAt (now book) (now siblings) ⌝ }
-    ensures { λ r. ⌜ ListsIn (now (book .entry)) (now (siblings .entry)) mostListed (now (out .entry)) (now (out .exit)) r ⌝ }
+fn list_large(
+    book: &[u8],
+    siblings: &[u8; 384],
+    settled: &[u8; 96],
+    words: usize,
+    missing: Missing,
+    out: &mut [u8],
+) -> Turned
+    requires { ⌜ ReadAt (now book) (now siblings) (now settled) words missing ⌝ }
+    ensures { λ r. ⌜ ListsIn (now (book .entry)) (now (siblings .entry)) (now (settled .entry)) words missing mostListed (now (out .entry)) (now (out .exit)) r ⌝ }
 {
     let mut near = [0u8; 32768];
     let mut far = [0u8; 32768];
@@ -57,6 +75,9 @@ fn list_large(book: &[u8], siblings: &[u8; 384], out: &mut [u8]) -> Turned
     turns::list_in(
         book,
         siblings,
+        settled,
+        words,
+        missing,
         &mut near,
         &mut far,
         &mut copy,
@@ -66,16 +87,22 @@ fn list_large(book: &[u8], siblings: &[u8; 384], out: &mut [u8]) -> Turned
 }
 
 // The listing of a book that is accepted. Most are short, and their entries few.
-fn list_read(book: &[u8], words: usize, results: &[u8; 96], out: &mut [u8]) -> Turned
-    requires { ⌜ BookAt (now book) words (now results) ⌝ }
-    ensures { λ r. ⌜ ListsBook (now (book .entry)) words (now (results .entry)) (now (out .entry)) (now (out .exit)) (turnNumbers r) ⌝ }
+fn list_read(
+    book: &[u8],
+    words: usize,
+    settled: &[u8; 96],
+    missing: Missing,
+    out: &mut [u8],
+) -> Turned
+    requires { ⌜ BookAt (now book) words (now settled) missing ⌝ }
+    ensures { λ r. ⌜ ListsBook (now (book .entry)) words (now (settled .entry)) missing (now (out .entry)) (now (out .exit)) (turnNumbers r) ⌝ }
 {
-    let siblings = kinds::siblings(words, results);
+    let siblings = kinds::siblings(words, settled);
     if 256 < book.len() {
-        return list_large(book, &siblings, out);
+        return list_large(book, &siblings, settled, words, missing, out);
     }
-    match list_small(book, &siblings, out) {
-        Turned::Past(_) => list_large(book, &siblings, out),
+    match list_small(book, &siblings, settled, words, missing, out) {
+        Turned::Past(_) => list_large(book, &siblings, settled, words, missing, out),
         small => small,
     }
 }
@@ -96,10 +123,12 @@ fn answer(turned: Turned) -> BookListAnswer
 pub fn list_book(vocabulary: &[u8], book: &[u8], out: &mut [u8]) -> BookListAnswer
     ensures { λ r. ⌜ BookPromise (now (vocabulary .entry)) (now (book .entry)) (now (out .entry)) (now (out .exit)) (bookListNumbers r) ⌝ }
 {
-    let mut results = [0u8; 96];
-    match reader::read_book(vocabulary, book, &mut results) {
+    let mut settled = [0u8; 96];
+    match reader::read_book(vocabulary, book, &mut settled) {
         BookAnswer::Vocabulary(why) => BookListAnswer::Vocabulary(why),
         BookAnswer::Book(why) => BookListAnswer::Book(why),
-        BookAnswer::Read => answer(list_read(book, vocabulary[1] as usize, &results, out)),
+        BookAnswer::Read(missing) => {
+            answer(list_read(book, vocabulary[1] as usize, &settled, missing, out))
+        }
     }
 }

@@ -4,6 +4,7 @@ ghost use lib.ListN.{length, take};
 ghost use Rattle.wire.specs.Effect.{HasEffect};
 ghost use Rattle.wire.specs.ListComputed.{listedInto};
 ghost use Rattle.books.specs.Turning.{turnNumbers, TurnAt, Turns, ReadAt, AreasFor, ListsIn};
+use signature::Missing;
 use strikes::Left;
 
 // The number of entries and of bytes that are written; how many bytes have no room in the lent slice; or the number of the
@@ -38,16 +39,30 @@ fn turn(
     copy: &mut [u8],
     marks: &mut [u32],
     siblings: &[u8; 384],
+    settled: &[u8; 96],
+    words: usize,
+    missing: Missing,
     out: &mut [u8],
 ) -> Turned
-    requires { ⌜ TurnAt (now book) i (now from) n entries (length (now to)) (length (now copy)) (length (now marks)) (now siblings) ⌝ }
-    ensures { λ r. ⌜ Turns (now (book .entry)) i (now (from .entry)) n entries (length (now (to .entry))) (length (now (copy .entry))) (length (now (marks .entry))) (now (siblings .entry)) (now (out .entry)) (now (out .exit)) r ⌝ }
+    requires { ⌜ TurnAt (now book) i (now from) n entries (length (now to)) (length (now copy)) (length (now marks)) (now siblings) (now settled) words missing ⌝ }
+    ensures { λ r. ⌜ Turns (now (book .entry)) i (now (from .entry)) n entries (length (now (to .entry))) (length (now (copy .entry))) (length (now (marks .entry))) (now (siblings .entry)) (now (settled .entry)) words missing (now (out .entry)) (now (out .exit)) r ⌝ }
 {
     if book.len() == 0 {
         return finish(from, n, entries, out);
     }
     let size = 1 + extents::term_size(&book[1..]);
-    match strikes::strike(&from[..n], &book[..size], marks, copy, siblings, to) {
+    match takes::take_pattern(
+        &from[..n],
+        entries,
+        &book[..size],
+        marks,
+        copy,
+        siblings,
+        settled,
+        words,
+        missing,
+        to,
+    ) {
         Left::Full => Turned::Past(i),
         Left::Bytes(bytes, more) => turn(
             &book[size..],
@@ -59,26 +74,48 @@ fn turn(
             copy,
             marks,
             siblings,
+            settled,
+            words,
+            missing,
             out,
         ),
     }
 }
 
-// Lists a book by two areas, a copy and a table of marks.
+// Lists a book by two areas, a copy and a table of marks. The entry 255 is there at first, if the kind has a situation.
 pub(crate) fn list_in(
     book: &[u8],
     siblings: &[u8; 384],
+    settled: &[u8; 96],
+    words: usize,
+    missing: Missing,
     near: &mut [u8],
     far: &mut [u8],
     copy: &mut [u8],
     marks: &mut [u32],
     out: &mut [u8],
 ) -> Turned
-    requires { ⌜ ReadAt (now book) (now siblings) ⌝ }
+    requires { ⌜ ReadAt (now book) (now siblings) (now settled) words missing ⌝ }
     requires { ⌜ AreasFor (now book) (length (now near)) (length (now far)) (length (now copy)) (length (now marks)) ⌝ }
-    ensures { λ r. ⌜ ListsIn (now (book .entry)) (now (siblings .entry)) (length (now (near .entry))) (now (out .entry)) (now (out .exit)) r ⌝ }
+    ensures { λ r. ⌜ ListsIn (now (book .entry)) (now (siblings .entry)) (now (settled .entry)) words missing (length (now (near .entry))) (now (out .entry)) (now (out .exit)) r ⌝ }
 {
-    near[0] = book[1];
+    let kind = book[1];
+    let entries = takes::whole(kind, words, settled, missing);
+    near[0] = kind;
     near[1] = 255;
-    turn(&book[1..], 0, near, 2, 1, far, copy, marks, siblings, out)
+    turn(
+        &book[1..],
+        0,
+        near,
+        2 * entries,
+        entries,
+        far,
+        copy,
+        marks,
+        siblings,
+        settled,
+        words,
+        missing,
+        out,
+    )
 }

@@ -4,7 +4,7 @@ use mathlib.Core.Bool.{cond}
 use lib.Dec.{eqb, ltb}
 use lib.ListN.{getD}
 use Rattle.wire.specs.Reply.{Reply, accepted, refused}
-use Rattle.signature.specs.declared.VocabularyRefusal.the-variants.{Head, WordCount, Ends, NoSuchKind, Continues, EmptyKind}
+use Rattle.signature.specs.declared.VocabularyRefusal.the-variants.{Head, WordCount, Ends, NoSuchKind, Continues}
 use Rattle.signature.proofs.Answers.{vocabularyRefusalOf}
 use Rattle.reader.specs.declared.refusal.TermRefusal.the-variants as T
 use Rattle.reader.proofs.Answers.{termRefusalOf}
@@ -25,7 +25,6 @@ list-back (Vocabulary WordCount) = refl
 list-back (Vocabulary (Ends q)) = refl
 list-back (Vocabulary (NoSuchKind q)) = refl
 list-back (Vocabulary (Continues q)) = refl
-list-back (Vocabulary (EmptyKind q)) = refl
 list-back (Pattern T.Size) = refl
 list-back (Pattern T.NoSuchKind) = refl
 list-back (Pattern (T.Ends q)) = refl

@@ -19,31 +19,33 @@ use Rattle.wire.specs.Vocabulary.{Vocabulary, HoldsVocabulary}
 use Rattle.wire.specs.VocabularyLines.{byteAt}
 use Rattle.wire.specs.ListComputed.{repeatedIn, linearOf, linearIn, listedInto, listedPattern, listedVocabulary, listed}
 use Rattle.wire.specs.PatternLines.{sightings}
-use Rattle.wire.specs.Leftovers.{entriesOf, listingBytes, ListPromise}
+use Rattle.wire.specs.Leftovers.{ListPromise}
 use Rattle.wire.proofs.Bytes.{bytes-of}
 use Rattle.wire.proofs.Inputs.{checked-in}
 use Rattle.wire.proofs.Leftovers.{list-keeps}
+use Rattle.wire.proofs.Settling.{settled-count}
 use Rattle.wire.proofs.VocabulariesInverse.{vocabularies-inverse}
 use Rattle.repeats.specs.FirstRepeat.{firstRepeat, repeatOf}
 use Rattle.repeats.specs.declared.Repeat.{Repeat}
 use Rattle.repeats.specs.declared.Repeat.the-variants.{At, Nothing}
 use Rattle.repeats.proofs.Passing.{pattern-repeats}
 use Rattle.signature.specs.Answers.{vocabularyRefused}
-use Rattle.signature.specs.Tables.{acceptedIn, vocabularyIn, wordsBefore, resultsOf, laid}
+use Rattle.signature.specs.Tables.{acceptedIn, vocabularyIn}
+use Rattle.signature.specs.declared.Missing.{Missing}
 use Rattle.signature.specs.declared.VocabularyRefusal.{VocabularyRefusal}
-use Rattle.signature.proofs.Accepted.{laid-tabled}
 use Rattle.reader.specs.Answers.{termRefused}
+use Rattle.reader.specs.Loaded.{withoutValues, SettledTable}
 use Rattle.reader.specs.declared.refusal.TermRefusal.{TermRefusal}
 use Rattle.reader.proofs.Refused.{Refuses, vocabulary-refuses, term-refuses}
-use Rattle.complement.specs.Calls.{Patterned, ListsPattern}
+use Rattle.complement.specs.Sifting.{SettledPattern, leftOf, leftBytes, ListsPattern}
 
 -- ---- a name that stands twice
 
-module _ {p : List ℕ} {words : ℕ} {results : List ℕ} (h : Patterned p words results) (before : List ℕ) where
+module _ {p : List ℕ} {words : ℕ} {table : List ℕ} {k : Missing} (h : SettledPattern p words table k) (before : List ℕ) where
   repeats : (r : Repeat) → repeatOf r ≡ firstRepeat words p → repeatOf r ≡ repeatedIn [] (sightings (h .vocabulary) (h .term))
   repeats r e =
       e
-      ∙ ap₂ firstRepeat (h .tabled .words) (h .held .written)
+      ∙ ap₂ firstRepeat (h .settled .tabled .words ∙ settled-count (h .vocabulary)) (h .held .written)
       ∙ pattern-repeats (h .vocabulary) (h .inOrder) (h .kind) (h .term) (h .held .good)
 
   judged : (r : Repeat) → repeatOf r ≡ firstRepeat words p →
@@ -58,9 +60,7 @@ module _ {p : List ℕ} {words : ℕ} {results : List ℕ} (h : Patterned p word
       record { reply = sym (ap (λ (l : Effect). l .reply) g); after = sym (ap (λ (l : Effect). l .after) g) }
 
   pub pattern-linear : (r : Repeat) → repeatOf r ≡ firstRepeat words p → r ≡ Nothing → {reply : Reply} {after : List ℕ} →
-      HasEffect
-      (listedInto before (length (entriesOf (h .vocabulary) (h .kind) (h .term)))
-      (listingBytes (h .vocabulary) (h .kind) (h .term))) reply after →
+      HasEffect (listedInto before (length (leftOf h)) (leftBytes h)) reply after →
       HasEffect (listedPattern (h .vocabulary) before (linearIn (h .vocabulary) (accept (kinded (h .kind) (h .term))))) reply after
   pattern-linear r e f {reply} {after} s =
       let g = judged r e ∙ ap (λ r. listedPattern (h .vocabulary) before (linearOf (kinded (h .kind) (h .term)) (repeatOf r))) f in
@@ -69,14 +69,15 @@ module _ {p : List ℕ} {words : ℕ} {results : List ℕ} (h : Patterned p word
 -- ---- refusals of the vocabulary and of the pattern
 
 -- Where the check of the term refuses, so does list, in the same way.
-refused-listed : (v p before : List ℕ) (r : Reply) → Refuses r → r ≡ termReply v p → HasEffect (listed v p before) r before
+refused-listed : (v p before : List ℕ) (r : Reply) → Refuses r → r ≡ withoutValues (termReply v p) → HasEffect (listed v p before) r before
 refused-listed v p before r k e = vocabulary (readVocabulary v) e
   where
-    pattern : (W : Vocabulary) (x : Reading Kinded) → r ≡ replyOf 1 (termValues W (length p)) x → HasEffect (listedPattern W before (linearIn W x)) r before
+    pattern : (W : Vocabulary) (x : Reading Kinded) → r ≡ withoutValues (replyOf 1 (termValues W (length p)) x) →
+        HasEffect (listedPattern W before (linearIn W x)) r before
     pattern W (refuse n q) e = record { reply = e; after = refl }
     pattern W (accept x) e = absurd (subst Refuses e k)
 
-    vocabulary : (x : Reading Vocabulary) → r ≡ termReplyUnder p x → HasEffect (listedVocabulary p before x) r before
+    vocabulary : (x : Reading Vocabulary) → r ≡ withoutValues (termReplyUnder p x) → HasEffect (listedVocabulary p before x) r before
     vocabulary (refuse n q) e = record { reply = e; after = refl }
     vocabulary (accept W) e = pattern W (checkedTerm W p) e
 
@@ -100,14 +101,14 @@ module _ (v p before : List ℕ) (vocabularyBytes : (i : ℕ) → getD v i 0 < 2
     s,
   )
 
-  pub list-vocabulary : (why : VocabularyRefusal) → vocabularyRefused why ≡ termReply v p → Ensured (vocabularyRefused why) before
+  pub list-vocabulary : (why : VocabularyRefusal) → vocabularyRefused why ≡ withoutValues (termReply v p) → Ensured (vocabularyRefused why) before
   list-vocabulary why e = promised (refused-listed v p before (vocabularyRefused why) (vocabulary-refuses why) e)
 
-  pub list-term : (why : TermRefusal) → termRefused 1 why ≡ termReply v p → Ensured (termRefused 1 why) before
+  pub list-term : (why : TermRefusal) → termRefused 1 why ≡ withoutValues (termReply v p) → Ensured (termRefused 1 why) before
   list-term why e = promised (refused-listed v p before (termRefused 1 why) (term-refuses 1 0 why) e)
 
   -- Both are accepted.
-  module _ (l : List ℕ) (e : accepted l ≡ termReply v p) where
+  module _ (e : accepted [] ≡ withoutValues (termReply v p)) where
     abbrev W : Vocabulary
     W = vocabularyIn v
 
@@ -115,20 +116,20 @@ module _ (v p before : List ℕ) (vocabularyBytes : (i : ℕ) → getD v i 0 < 2
     Found r = (x : Kinded) × (r ≡ accept x)
 
     -- A reply that refuses is none that accepts.
-    never : (n i q : ℕ) → accepted l ≡ refused n i q → ⊥
+    never : (n i q : ℕ) → accepted [] ≡ refused n i q → ⊥
     never n i q e = subst Refuses (sym e) tt
 
     read : readVocabulary v ≡ accept W
     read = go (readVocabulary v) e
       where
-        go : (r : Reading Vocabulary) → accepted l ≡ termReplyUnder p r → r ≡ accept (acceptedIn r)
+        go : (r : Reading Vocabulary) → accepted [] ≡ withoutValues (termReplyUnder p r) → r ≡ accept (acceptedIn r)
         go (accept W) e = refl
         go (refuse n q) e = absurd (never n 0 q e)
 
     found : Found (checkedTerm W p)
-    found = go (checkedTerm W p) (e ∙ ap (termReplyUnder p) read)
+    found = go (checkedTerm W p) (e ∙ ap (λ r. withoutValues (termReplyUnder p r)) read)
       where
-        go : (r : Reading Kinded) → accepted l ≡ replyOf 1 (termValues W (length p)) r → Found r
+        go : (r : Reading Kinded) → accepted [] ≡ withoutValues (replyOf 1 (termValues W (length p)) r) → Found r
         go (accept x) e = (x, refl)
         go (refuse n q) e = absurd (never n 1 q e)
 
@@ -138,21 +139,21 @@ module _ (v p before : List ℕ) (vocabularyBytes : (i : ℕ) → getD v i 0 < 2
     pub some-bytes : 2 ≤ length v
     some-bytes = let e = ap length (held .written) in omega arith
 
-    module _ {words : ℕ} {results : List ℕ} (counted : words ≡ byteAt v 1) (blank : List ℕ) (table : results ≡ laid (resultsOf (wordsBefore v)) blank) where
-      pub patterned : Patterned p words results
+    module _ {words : ℕ} {table : List ℕ} {k : Missing} (counted : words ≡ byteAt v 1) (settles : SettledTable v table k) where
+      pub patterned : SettledPattern p words table k
       patterned =
-          let inOrder = held .good .inOrder in
+          let inOrder = held .inOrder in
           let x : Kinded = found .0 in
           record {
             vocabulary = W;
             kind = x .kind;
             term = x .term;
             inOrder = inOrder;
-            tabled = laid-tabled v W held read words counted results blank table;
+            settled = rw counted (settles .of);
             held = checked-in W p x inOrder bp (found .1);
           }
 
-      pub list-pattern : {r : Reply} {after : List ℕ} → ListsPattern p words results before after r → Ensured r after
+      pub list-pattern : {r : Reply} {after : List ℕ} → ListsPattern p words table k before after r → Ensured r after
       unfolding patterned
       list-pattern {r} {after} s =
           promised

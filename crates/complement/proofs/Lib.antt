@@ -8,6 +8,7 @@ pub mod Following
 -- The walk over the pattern, at the bits of a word and at a term.
 pub mod Places
 pub mod Terms
--- The pattern that is measured first, and the whole call.
+-- The pattern that is measured first, what no complete situation fits, and the whole call.
 pub mod Linear
+pub mod Sifting
 pub mod Calls

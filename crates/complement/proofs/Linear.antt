@@ -14,8 +14,8 @@ use Rattle.wire.specs.Map.{isOpen}
 use Rattle.wire.specs.Vocabulary.{Vocabulary, mostWords}
 use Rattle.wire.specs.TermBytes.{encodeAt, encodeRoot, levels, mostBytes}
 use Rattle.wire.specs.Effect.{Effect, HasEffect}
-use Rattle.wire.specs.ListComputed.{listedInto}
-use Rattle.wire.specs.Leftovers.{entriesBytes, entriesOf}
+use Rattle.wire.specs.ListComputed.{entriesOf, listedInto}
+use Rattle.wire.specs.Leftovers.{entriesBytes}
 use Rattle.wire.proofs.Cond.{cond-true, cond-false}
 use Rattle.wire.proofs.EntryBytes.{entries-bytes}
 use Rattle.kinds.specs.Kinds.{Chained}

@@ -5,20 +5,17 @@
 --   HasRoom                  where list_in begins: there are entries, and room for them
 --   WritesEntries            what list_in does: the entries are written
 --   ListsLinear              what list_linear does: the entries are written, or there is no room
---   ListsPattern             what list_pattern does: the same, or a name stands twice
 --
 use mathlib.Core.Path.{_≡_}
 use mathlib.Core.List.{List, _++_}
 use Prim.Native.Nat.{ℕ, _<_, _≤_}
 use lib.ListN.{length, drop}
 use Rattle.terms.specs.Term.{Term}
-use Rattle.wire.specs.Reply.{Reply, kinded}
+use Rattle.wire.specs.Reply.{Reply}
 use Rattle.wire.specs.Effect.{HasEffect}
-use Rattle.wire.specs.Parser.{accept}
 use Rattle.wire.specs.Vocabulary.{Vocabulary, InOrder}
 use Rattle.wire.specs.TermBytes.{HoldsTerm}
-use Rattle.wire.specs.ListComputed.{linearIn, listedInto, listedPattern}
-use Rattle.wire.specs.Leftovers.{entriesOf, listingBytes}
+use Rattle.wire.specs.ListComputed.{entriesOf, listingBytes, listedInto}
 use Rattle.signature.specs.Tables.{Tabled}
 
 pub record Patterned (p : List ℕ) (words : ℕ) (results : List ℕ) : Type 0 where
@@ -42,8 +39,3 @@ abbrev pub ListsLinear : List ℕ → ℕ → List ℕ → List ℕ → List ℕ
 ListsLinear p words results before after r =
     (h : Patterned p words results) →
     HasEffect (listedInto before (length (entriesOf (h .vocabulary) (h .kind) (h .term))) (bytesOf h)) r after
-
-abbrev pub ListsPattern : List ℕ → ℕ → List ℕ → List ℕ → List ℕ → Reply → Type 0
-ListsPattern p words results before after r =
-    (h : Patterned p words results) →
-    HasEffect (listedPattern (h .vocabulary) before (linearIn (h .vocabulary) (accept (kinded (h .kind) (h .term))))) r after

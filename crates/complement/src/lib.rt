@@ -9,14 +9,16 @@ ghost use Rattle.wire.specs.Effect.{HasEffect};
 ghost use Rattle.wire.specs.ListComputed.{listed};
 ghost use Rattle.kinds.specs.Kinds.{kindIn};
 ghost use Rattle.complement.specs.Answers.{listNumbers};
-ghost use Rattle.complement.specs.Calls.{Patterned, HasRoom, WritesEntries, ListsLinear, ListsPattern};
+ghost use Rattle.complement.specs.Calls.{Patterned, HasRoom, WritesEntries, ListsLinear};
+ghost use Rattle.complement.specs.Sifting.{SettledPattern, MissingKind, ListsWhole, ListsSettled, ListsPattern};
 ghost use Rattle.complement.specs.Entering.{Byte, OthersAt, ListsOthers, TermAt, ListsTerm, PlacesAt, ListsPlaces};
-use reader::TermAnswer;
+use reader::PatternAnswer;
 use reader::TermRefusal;
 use repeats::Repeat;
+use signature::Missing;
 use signature::VocabularyRefusal;
 
-// The number of entries and of bytes, or why there is no listing: document 01, lines 1 to 15, 18 and 20.
+// The number of entries and of bytes, or why there is no listing: document 01, lines 1 to 5 and 7 to 15, 18 and 20.
 pub enum ListAnswer {
     Listed(usize, usize),
     Vocabulary(VocabularyRefusal),
@@ -203,14 +205,58 @@ fn list_linear(pattern: &[u8], words: usize, results: &[u8; 96], out: &mut [u8])
     ListAnswer::Listed(entries, bytes)
 }
 
-// The listing of a pattern that is accepted.
-fn list_pattern(pattern: &[u8], words: usize, results: &[u8; 96], out: &mut [u8]) -> ListAnswer
-    requires { ⌜ Patterned (now pattern) words (now results) ⌝ }
-    ensures { λ r. ⌜ ListsPattern (now (pattern .entry)) words (now (results .entry)) (now (out .entry)) (now (out .exit)) (listNumbers r) ⌝ }
+// The listing of a pattern that no complete situation fits: 255 of its kind, or no entry where the kind has no situation.
+fn list_whole(kind: u8, some: bool, out: &mut [u8]) -> ListAnswer
+    ensures { λ r. ⌜ ListsWhole kind some (now (out .entry)) (now (out .exit)) (listNumbers r) ⌝ }
+{
+    if !some {
+        return ListAnswer::Listed(0, 0);
+    }
+    if out.len() < 2 {
+        return ListAnswer::NoRoom(2);
+    }
+    out[0] = kind;
+    out[1] = 255;
+    ListAnswer::Listed(1, 2)
+}
+
+// The listing of a pattern that is accepted and in which no name stands twice, where `empty` is the lowest kind without
+// complete situations.
+fn list_settled(
+    pattern: &[u8],
+    words: usize,
+    settled: &[u8; 96],
+    empty: usize,
+    out: &mut [u8],
+) -> ListAnswer
+    requires { ⌜ MissingKind (now pattern) words (now settled) empty ⌝ }
+    ensures { λ r. ⌜ ListsSettled (now (pattern .entry)) words (now (settled .entry)) empty (now (out .entry)) (now (out .exit)) (listNumbers r) ⌝ }
+{
+    if productive::fruitful(pattern, words, settled, empty) {
+        return list_linear(pattern, words, settled, out);
+    }
+    let kind = pattern[0];
+    let some = productive::inhabited(wide(kind), words, settled, empty);
+    list_whole(kind, some, out)
+}
+
+// The listing of a pattern that is accepted. Where every kind has complete situations its words need no look.
+fn list_pattern(
+    pattern: &[u8],
+    words: usize,
+    settled: &[u8; 96],
+    missing: Missing,
+    out: &mut [u8],
+) -> ListAnswer
+    requires { ⌜ SettledPattern (now pattern) words (now settled) missing ⌝ }
+    ensures { λ r. ⌜ ListsPattern (now (pattern .entry)) words (now (settled .entry)) missing (now (out .entry)) (now (out .exit)) (listNumbers r) ⌝ }
 {
     match repeats::first_repeat(pattern, words) {
         Repeat::At(q) => ListAnswer::Repeated(q),
-        Repeat::Nothing => list_linear(pattern, words, results, out),
+        Repeat::Nothing => match missing {
+            Missing::Nothing => list_linear(pattern, words, settled, out),
+            Missing::Kind(empty) => list_settled(pattern, words, settled, empty, out),
+        },
     }
 }
 
@@ -220,14 +266,15 @@ pub fn list(vocabulary: &[u8], pattern: &[u8], out: &mut [u8]) -> ListAnswer
     ensures { λ r. ⌜ ListPromise (now (vocabulary .entry)) (now (pattern .entry)) (now (out .entry)) (now (out .exit)) (listNumbers r) ⌝ }
     ensures { λ r. ⌜ HasEffect (listed (now (vocabulary .entry)) (now (pattern .entry)) (now (out .entry))) (listNumbers r) (now (out .exit)) ⌝ }
 {
-    let mut results = [0u8; 96];
-    match reader::load_term(vocabulary, pattern, &mut results) {
-        TermAnswer::Vocabulary(why) => ListAnswer::Vocabulary(why),
-        TermAnswer::Term(why) => ListAnswer::Pattern(why),
-        TermAnswer::Accepted(_, _, _, _) => list_pattern(
+    let mut settled = [0u8; 96];
+    match reader::load_pattern(vocabulary, pattern, &mut settled) {
+        PatternAnswer::Vocabulary(why) => ListAnswer::Vocabulary(why),
+        PatternAnswer::Pattern(why) => ListAnswer::Pattern(why),
+        PatternAnswer::Loaded(missing) => list_pattern(
             pattern,
             wide(vocabulary[1]),
-            &results,
+            &settled,
+            missing,
             out,
         ),
     }

@@ -12,7 +12,7 @@ mod slice_line;
 use libc::STDIN_FILENO;
 
 fn main() {
-    let mut input = [0u8; 131072];
+    let mut input = [0u8; 262144];
     let n = io::read_full(STDIN_FILENO, &mut input);
     cases::lines(notation::between(&input, 0, n));
 }

@@ -5,7 +5,7 @@ use Prim.Native.Nat.{ℕ}
 use lib.Dec.{eqb, ltb}
 use lib.ListN.{getD}
 use Rattle.wire.specs.Reply.{Reply, accepted, refused}
-use Rattle.signature.specs.declared.VocabularyRefusal.the-variants.{Head, WordCount, Ends, NoSuchKind, Continues, EmptyKind}
+use Rattle.signature.specs.declared.VocabularyRefusal.the-variants.{Head, WordCount, Ends, NoSuchKind, Continues}
 use Rattle.signature.proofs.Answers.{vocabularyRefusalOf}
 use Rattle.reader.specs.declared.refusal.TermRefusal.the-variants as T
 use Rattle.reader.specs.declared.filling.FillingRefusal.{FillingRefusal}
@@ -31,7 +31,6 @@ fill-back (Inputs (Vocabulary WordCount)) = refl
 fill-back (Inputs (Vocabulary (Ends q))) = refl
 fill-back (Inputs (Vocabulary (NoSuchKind q))) = refl
 fill-back (Inputs (Vocabulary (Continues q))) = refl
-fill-back (Inputs (Vocabulary (EmptyKind q))) = refl
 fill-back (Inputs (Pattern T.Size)) = refl
 fill-back (Inputs (Pattern T.NoSuchKind)) = refl
 fill-back (Inputs (Pattern (T.Ends q))) = refl

@@ -37,7 +37,7 @@ resultBytes p b starts = getD p 0 0 ∷ bytesFrom p b starts 1
 pub bytes-all : {p b starts depths : List ℕ} (a : Ready p b starts depths) → resultBytes p b starts ≡ filledBytes (a .inputs)
 bytes-all {p} {b} {starts} a =
     let x = a .inputs in
-    let nodes = nodes-pattern (x .vocabulary) (a .held .vocabulary .good .inOrder) (x .kind) (x .pattern) (a .held .pattern .good) in
+    let nodes = nodes-pattern (x .vocabulary) (a .held .vocabulary .inOrder) (x .kind) (x .pattern) (a .held .pattern .good) in
     ap (λ l. resultBytes l b starts) (a .held .pattern .written)
     ∙ ap {B = List ℕ} (λ l. x .kind ∷ l)
     (ap (writeRow (nodeBytes (cutValue b starts))) nodes

@@ -80,7 +80,7 @@ module _ {p starts depths : List ℕ} {reach : ℕ} (a : Measurable p starts dep
 
   reached : (h : ℕ → ℕ) → max 1 (levelsIn h (0 ∷ []) (nodesIn 0 (drop 1 p))) ≡ max 1 (levelsBy h (x .pattern))
   reached h =
-      let inOrder = a .ready .held .vocabulary .good .inOrder in
+      let inOrder = a .ready .held .vocabulary .inOrder in
       let good = a .ready .held .pattern .good in
       ap (λ l. max 1 (levelsIn h (0 ∷ []) (nodesIn 0 (drop 1 l)))) (a .ready .held .pattern .written)
       ∙ ap (λ ns. max 1 (levelsIn h (0 ∷ []) ns)) (nodes-pattern (x .vocabulary) inOrder (x .kind) (x .pattern) good)

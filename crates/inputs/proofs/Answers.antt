@@ -4,7 +4,7 @@ use mathlib.Core.Bool.{cond}
 use Prim.Native.Nat.{ℕ}
 use lib.Dec.{eqb, ltb}
 use Rattle.wire.specs.Reply.{Reply, accepted, refused}
-use Rattle.signature.specs.declared.VocabularyRefusal.the-variants.{Head, WordCount, Ends, NoSuchKind, Continues, EmptyKind}
+use Rattle.signature.specs.declared.VocabularyRefusal.the-variants.{Head, WordCount, Ends, NoSuchKind, Continues}
 use Rattle.signature.proofs.Answers.{vocabularyRefusalOf}
 use Rattle.reader.specs.declared.refusal.TermRefusal.the-variants as T
 use Rattle.reader.proofs.Answers.{termRefusalOf}
@@ -31,7 +31,6 @@ inputs-back (Refused (Vocabulary WordCount)) = refl
 inputs-back (Refused (Vocabulary (Ends q))) = refl
 inputs-back (Refused (Vocabulary (NoSuchKind q))) = refl
 inputs-back (Refused (Vocabulary (Continues q))) = refl
-inputs-back (Refused (Vocabulary (EmptyKind q))) = refl
 inputs-back (Refused (Pattern T.Size)) = refl
 inputs-back (Refused (Pattern T.NoSuchKind)) = refl
 inputs-back (Refused (Pattern (T.Ends q))) = refl

@@ -85,7 +85,7 @@ module _ (v p s : List ℕ) (lentV : (i : ℕ) → getD v i 0 < 256) (lentP : (i
       (o : Option ℕ) → firstGap W (j .term) ≡ o → accepted [] ≡ cond (noGap o) (accepted []) (refused 16 2 (gapOr (length s) o)) → Taken v p s
   taken-whole W ev k j ep es (some q) h e = absurd (not-accepted 16 2 q [] (sym e))
   taken-whole W ev k j ep es none h e =
-      let inOrder : InOrder W = vocabularies-inverse v W (bytes-of v lentV) .0 ev .good .inOrder in
+      let inOrder : InOrder W = vocabularies-inverse v W (bytes-of v lentV) .0 ev .inOrder in
       record {
         vocabulary = W;
         pattern = k;

@@ -14,7 +14,7 @@ use Rattle.inputs.specs.declared.InputsRefusal.the-variants.{Vocabulary,
 use Rattle.inputs.specs.declared.InputsAnswer.{InputsAnswer}
 use Rattle.inputs.specs.declared.InputsAnswer.the-variants.{Clear, Refused}
 
--- Lines 1 to 17. The vocabulary is input 0, the pattern 1, the situation 2.
+-- Lines 1 to 5 and 7 to 17. The vocabulary is input 0, the pattern 1, the situation 2.
 abbrev pub inputsRefused : InputsRefusal → Reply
 inputsRefused (Vocabulary why) = vocabularyRefused why
 inputsRefused (Pattern why) = termRefused 1 why

@@ -6,7 +6,7 @@ use reader::PairAnswer;
 use reader::TermRefusal;
 use signature::VocabularyRefusal;
 
-// Why the inputs of match are refused: document 01, lines 1 to 17.
+// Why the inputs of match are refused: document 01, lines 1 to 5 and 7 to 17.
 pub enum InputsRefusal {
     Vocabulary(VocabularyRefusal),
     Pattern(TermRefusal),

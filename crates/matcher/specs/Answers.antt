@@ -10,7 +10,7 @@ use Rattle.inputs.specs.Answers.{inputsRefused}
 use Rattle.matcher.specs.declared.MatchAnswer.{MatchAnswer}
 use Rattle.matcher.specs.declared.MatchAnswer.the-variants.{Yes, No, Inputs, TableLength}
 
--- Lines 1 to 17, and 19: the table is input 3.
+-- Lines 1 to 5 and 7 to 17, and 19: the table is input 3.
 abbrev pub matchNumbers : MatchAnswer → Reply
 matchNumbers Yes = yes
 matchNumbers No = no

@@ -52,7 +52,6 @@ module _ (k : ℕ) where
   vocabulary-refused-said (W.Ends q) = refl
   vocabulary-refused-said (W.NoSuchKind q) = refl
   vocabulary-refused-said (W.Continues q) = refl
-  vocabulary-refused-said (W.EmptyKind q) = refl
 
   term-refused-said : (i at : ℕ) (why : TermRefusal) → replyIn k (replyNumbers (termRefusedAt i at why)) ≡ termRefusedAt i at why
   term-refused-said i at T.Size = refl

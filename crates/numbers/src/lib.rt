@@ -48,7 +48,7 @@ fn refused(number: u64, input: u64, place: u64) -> Numbers
     [number, input, place, 0, 0]
 }
 
-// Lines 1 to 6.
+// Lines 1 to 5.
 fn vocabulary_refused(why: VocabularyRefusal) -> Numbers
     ensures { λ r. ⌜ r ≡ replyNumbers (vocabularyRefused why) ⌝ }
 {
@@ -58,7 +58,6 @@ fn vocabulary_refused(why: VocabularyRefusal) -> Numbers
         VocabularyRefusal::Ends(q) => refused(3, 0, q as u64),
         VocabularyRefusal::NoSuchKind(q) => refused(4, 0, q as u64),
         VocabularyRefusal::Continues(q) => refused(5, 0, q as u64),
-        VocabularyRefusal::EmptyKind(k) => refused(6, 0, k as u64),
     }
 }
 
@@ -79,7 +78,7 @@ fn term_refused(input: u64, at: u64, why: TermRefusal) -> Numbers
     }
 }
 
-// Lines 1 to 17.
+// Lines 1 to 5 and 7 to 17.
 fn inputs_refused(why: InputsRefusal) -> Numbers
     ensures { λ r. ⌜ r ≡ replyNumbers (inputsRefused why) ⌝ }
 {
@@ -92,7 +91,7 @@ fn inputs_refused(why: InputsRefusal) -> Numbers
     }
 }
 
-// Lines 1 to 15, 21 and 22.
+// Lines 1 to 5 and 7 to 15, 21 and 22.
 fn filling_refused(why: FillingRefusal) -> Numbers
     ensures { λ r. ⌜ r ≡ replyNumbers (fillingRefused why) ⌝ }
 {

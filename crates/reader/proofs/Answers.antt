@@ -5,7 +5,7 @@ use Prim.Native.Nat.{ℕ}
 use lib.Dec.{eqb, ltb}
 use lib.ListN.{getD}
 use Rattle.wire.specs.Reply.{Reply, accepted, refused}
-use Rattle.signature.specs.declared.VocabularyRefusal.the-variants.{Head, WordCount, Ends, NoSuchKind, Continues, EmptyKind}
+use Rattle.signature.specs.declared.VocabularyRefusal.the-variants.{Head, WordCount, Ends, NoSuchKind, Continues}
 use Rattle.signature.proofs.Answers.{vocabularyRefusalOf}
 use Rattle.reader.specs.Answers.{termNumbers, TermAnswersDiffer}
 use Rattle.reader.specs.declared.refusal.TermRefusal.{TermRefusal}
@@ -32,7 +32,6 @@ term-back (A.Vocabulary WordCount) = refl
 term-back (A.Vocabulary (Ends q)) = refl
 term-back (A.Vocabulary (NoSuchKind q)) = refl
 term-back (A.Vocabulary (Continues q)) = refl
-term-back (A.Vocabulary (EmptyKind q)) = refl
 term-back (A.Term T.Size) = refl
 term-back (A.Term T.NoSuchKind) = refl
 term-back (A.Term (T.Ends q)) = refl

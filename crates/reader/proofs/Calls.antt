@@ -15,7 +15,7 @@ use Rattle.wire.specs.Vocabulary.{Vocabulary}
 use Rattle.wire.proofs.Matching.{not-accepted}
 use Rattle.signature.specs.Answers.{vocabularyRefused}
 use Rattle.signature.specs.declared.VocabularyRefusal.{VocabularyRefusal}
-use Rattle.signature.specs.declared.VocabularyRefusal.the-variants.{Head, WordCount, Ends, NoSuchKind, Continues, EmptyKind}
+use Rattle.signature.specs.declared.VocabularyRefusal.the-variants.{Head, WordCount, Ends, NoSuchKind, Continues}
 use Rattle.reader.specs.Whole.{told}
 use Rattle.reader.specs.Pairs.{bothTold, pairUnder, pairReply}
 
@@ -25,7 +25,6 @@ refused-never WordCount = not-accepted 2 0 1
 refused-never (Ends q) = not-accepted 3 0 q
 refused-never (NoSuchKind q) = not-accepted 4 0 q
 refused-never (Continues q) = not-accepted 5 0 q
-refused-never (EmptyKind k) = not-accepted 6 0 k
 
 -- ---- a term
 

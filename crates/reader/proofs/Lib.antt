@@ -23,8 +23,11 @@ pub mod NameTables
 pub mod Pairs
 pub mod Calls
 pub mod Files
+-- The replies that refuse.
+pub mod Refused
+-- A pattern to be listed.
+pub mod Loaded
 -- A book.
 pub mod Fronts
 pub mod Books
--- The replies that refuse.
-pub mod Refused
+pub mod BookTables

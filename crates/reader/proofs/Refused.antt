@@ -7,7 +7,7 @@ use Prim.Native.Nat.{ℕ}
 use Rattle.wire.specs.Reply.{Reply, accepted, refused}
 use Rattle.signature.specs.Answers.{vocabularyRefused}
 use Rattle.signature.specs.declared.VocabularyRefusal.{VocabularyRefusal}
-use Rattle.signature.specs.declared.VocabularyRefusal.the-variants.{Head, WordCount, Ends, NoSuchKind, Continues, EmptyKind}
+use Rattle.signature.specs.declared.VocabularyRefusal.the-variants.{Head, WordCount, Ends, NoSuchKind, Continues}
 use Rattle.reader.specs.Answers.{termRefusedAt, bookRefused}
 use Rattle.reader.specs.declared.refusal.TermRefusal.{TermRefusal}
 use Rattle.reader.specs.declared.refusal.TermRefusal.the-variants as T
@@ -24,7 +24,6 @@ vocabulary-refuses WordCount = tt
 vocabulary-refuses (Ends q) = tt
 vocabulary-refuses (NoSuchKind q) = tt
 vocabulary-refuses (Continues q) = tt
-vocabulary-refuses (EmptyKind k) = tt
 
 pub term-refuses : (input at : ℕ) (why : TermRefusal) → Refuses (termRefusedAt input at why)
 term-refuses input at T.Size = tt

@@ -1,6 +1,6 @@
 -- Tables: the laws of the tables of an accepted vocabulary, of its bytes, and of the frames of its words.
 --
---   tables-as, tables-of      the same tables, named otherwise
+--   tables-of                 the same tables, named otherwise
 --   in-order, few-words, kind-count, some-bytes    of the vocabulary and its bytes
 --   WordFramed, word-framed   the frame of a word at a written map
 --   full-slots                a word whose written map is its place map has every place written
@@ -60,10 +60,6 @@ slots-front (true ∷ ps) ws (k ∷ ks) r h =
 
 -- ---- the tables
 
--- The same number of words, named otherwise.
-pub tables-as : {v : List ℕ} {n k : ℕ} {offsets results maps : List ℕ} → k ≡ n → Tables v n offsets results maps → Tables v k offsets results maps
-tables-as e t = rw e t
-
 -- z is the frame of the word f of W at the written map m.
 pub record WordFramed (v : List ℕ) (W : Vocabulary) (f m z : ℕ) : Type 0 where
   pub fits : FrameIn v z
@@ -85,7 +81,7 @@ module _ {v : List ℕ} {n : ℕ} {offsets results maps : List ℕ} (t : Tables 
     held = vocabularies-inverse v W (bytes-of v bytes) .0 (t .accepted)
 
     pub in-order : InOrder W
-    in-order = held .good .inOrder
+    in-order = held .inOrder
 
     pub few-words : n ≤ 96
     few-words = omega (arith, t .tabled .words, in-order .fewWords)

@@ -4,6 +4,7 @@
 --   termRefused input why    the same of a term that is the whole input
 --   termNumbers a            the reply of checking a term
 --   TermAnswersDiffer        different answers have different numbers or values
+--   patternNumbers a         the reply of reading a vocabulary and a pattern to be listed
 --   fillingRefused why       the reply that refuses the inputs of fill
 --   fillingNumbers a         the reply of reading the inputs of fill, with the pattern's deepest level
 --   bookRefused why          the reply that refuses a book
@@ -19,6 +20,8 @@ use Rattle.reader.specs.declared.refusal.TermRefusal.{TermRefusal}
 use Rattle.reader.specs.declared.refusal.TermRefusal.the-variants as T
 use Rattle.reader.specs.declared.TermAnswer.{TermAnswer}
 use Rattle.reader.specs.declared.TermAnswer.the-variants as A
+use Rattle.reader.specs.declared.PatternAnswer.{PatternAnswer}
+use Rattle.reader.specs.declared.PatternAnswer.the-variants as P
 use Rattle.reader.specs.declared.filling.FillingRefusal.{FillingRefusal}
 use Rattle.reader.specs.declared.filling.FillingRefusal.the-variants as F
 use Rattle.reader.specs.declared.filling.FillingAnswer.{FillingAnswer}
@@ -52,7 +55,12 @@ termNumbers (A.Term why) = termRefused 1 why
 abbrev pub TermAnswersDiffer : Type 0
 TermAnswersDiffer = (a b : TermAnswer) → termNumbers a ≡ termNumbers b → a ≡ b
 
--- Lines 1 to 15, and document 02's 21 and 22.
+abbrev pub patternNumbers : PatternAnswer → Reply
+patternNumbers (P.Loaded k) = accepted []
+patternNumbers (P.Vocabulary why) = vocabularyRefused why
+patternNumbers (P.Pattern why) = termRefused 1 why
+
+-- Lines 1 to 5 and 7 to 15, and document 02's 21 and 22.
 abbrev pub fillingRefused : FillingRefusal → Reply
 fillingRefused (F.Vocabulary why) = vocabularyRefused why
 fillingRefused (F.Pattern why) = termRefused 1 why
@@ -72,6 +80,6 @@ bookRefused (B.OtherKind q) = refused 25 5 q
 bookRefused (B.Continues q) = refused 15 5 q
 
 abbrev pub bookNumbers : BookAnswer → Reply
-bookNumbers C.Read = accepted []
+bookNumbers (C.Read k) = accepted []
 bookNumbers (C.Vocabulary why) = vocabularyRefused why
 bookNumbers (C.Book why) = bookRefused why

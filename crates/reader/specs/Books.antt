@@ -1,8 +1,9 @@
 -- Books: what reading a vocabulary and a book gives; the contract of `read_book` cites BookRead, the rest is what private
 -- functions promise each other.
 --
---   BookRead v b          the reply of reading the vocabulary v and the book b under it, and the table of result kinds before
+--   BookRead v b          the reply of reading the vocabulary v and the book b under it, and the table by which listings go before
 --                         and after, each for every v and b
+--   patternsNumbers r     the reply of reading the patterns of a book
 --   bookReply W b         the reply of reading the book b under an accepted vocabulary
 --   countOf b             how many patterns the book b has, 0 where that is missing or more than 64
 --   inWindow n why        why a pattern is refused of which 4,096 bytes are looked at, where n are left: one that is due behind
@@ -21,24 +22,35 @@ use Prim.Native.Nat.{ℕ, _+_, _-_, _≤_}
 use lib.Dec.{ltb}
 use lib.ListN.{length, getD, take, drop}
 use Rattle.terms.specs.Term.{Term}
-use Rattle.wire.specs.Reply.{Reply, refused, Kinded, kinded}
+use Rattle.wire.specs.Reply.{Reply, accepted, refused, Kinded, kinded}
 use Rattle.wire.specs.Vocabulary.{Vocabulary, InOrder}
 use Rattle.wire.specs.TermBytes.{encodeTerm, GoodTerm, leastBytes, mostBytes}
 use Rattle.wire.specs.BookBytes.{mostPatterns}
 use Rattle.wire.specs.Parser.{got, stop}
 use Rattle.wire.specs.BookComputed.{readFront, readPattern, readBook, judgedBook, bookJudged, bookClear}
-use Rattle.signature.specs.Tables.{wordsBefore, resultsOf, laid}
+use Rattle.signature.specs.declared.VocabularyRefusal.{VocabularyRefusal}
+use Rattle.signature.specs.declared.Missing.{Missing}
+use Rattle.reader.specs.Loaded.{SettledTable}
 use Rattle.reader.specs.Answers.{bookRefused, bookNumbers}
 use Rattle.reader.specs.declared.refusal.TermRefusal.{TermRefusal}
 use Rattle.reader.specs.declared.refusal.TermRefusal.the-variants as T
 use Rattle.reader.specs.declared.book.BookRefusal.{BookRefusal}
 use Rattle.reader.specs.declared.book.BookAnswer.{BookAnswer}
+use Rattle.reader.specs.declared.book.BookAnswer.the-variants as A
+use Rattle.reader.specs.declared.book.Patterns.{Patterns}
+use Rattle.reader.specs.declared.book.Patterns.the-variants as R
 use Rattle.reader.specs.declared.book.Pattern.{Pattern}
 use Rattle.reader.specs.declared.book.Pattern.the-variants as P
 
 pub record BookRead (v b before after : List ℕ) (a : BookAnswer) : Type 0 where
   pub answer : bookNumbers a ≡ bookClear (bookJudged v b)
-  pub results : after ≡ laid (resultsOf (wordsBefore v)) before
+  pub settles : (k : Missing) → a ≡ A.Read k → SettledTable v after k
+  pub refused : (why : BookRefusal) → a ≡ A.Book why → (k : Missing) × SettledTable v after k
+  pub kept : (why : VocabularyRefusal) → a ≡ A.Vocabulary why → after ≡ before
+
+abbrev pub patternsNumbers : Patterns → Reply
+patternsNumbers R.Read = accepted []
+patternsNumbers (R.Refused why) = bookRefused why
 
 abbrev pub bookReply : Vocabulary → List ℕ → Reply
 bookReply W b = bookClear (judgedBook W (readBook W b))

@@ -1,7 +1,7 @@
 -- What the contracts of checking a term and of reading several inputs cite.
 --
 --   Answers    document 01's number and values for each case of the answer
---   Checked    what checking a term gives beside its answer
+--   Loaded     what reading a vocabulary and a pattern to be listed gives
 --   Nodes      what the private functions promise each other of what stands where a term is due; no public contract cites it
 --   Whole      what reading a term tells; no public contract cites it
 --   Pairs      what reading a pattern and a situation gives
@@ -13,7 +13,7 @@
 --   Terms      the same, of reading a term
 --   Fillings   the same, of reading a filling file
 pub mod Answers
-pub mod Checked
+pub mod Loaded
 pub mod Nodes
 pub mod Whole
 pub mod Pairs

@@ -3,13 +3,13 @@ ghost use mathlib.Core.Path.{_≡_};
 ghost use Prim.Native.Nat.{_+_, _<_, _≤_, min};
 ghost use lib.ListN.{length};
 ghost use Rattle.signature.specs.Tables.{Tables, vocabularyIn};
-ghost use Rattle.reader.specs.Answers.{bookNumbers};
 ghost use Rattle.reader.specs.Nodes.{placeOf};
-ghost use Rattle.reader.specs.Books.{countOf, inWindow, placedAt, PatternJudged, PatternRead, bookReply};
+ghost use Rattle.reader.specs.Books.{patternsNumbers, countOf, inWindow, placedAt, PatternJudged, PatternRead, bookReply};
 use crate::refusal::TermRefusal;
 use crate::term::Reading;
 use crate::whole;
 use repeats::Repeat;
+use signature::Missing;
 use signature::VocabularyRefusal;
 
 // Why a book is refused: document 02's 24; where a pattern begins and why it is refused, by document 01's lines 7 to 14; 18, 25
@@ -22,11 +22,17 @@ pub enum BookRefusal {
     Continues(usize),
 }
 
-// A book is in order, or it or the vocabulary is refused.
+// A vocabulary and a book are in order, with the lowest kind without complete situations, or one of them is refused.
 pub enum BookAnswer {
-    Read,
+    Read(Missing),
     Vocabulary(VocabularyRefusal),
     Book(BookRefusal),
+}
+
+// The patterns of a book are in order, or it is refused.
+pub(crate) enum Patterns {
+    Read,
+    Refused(BookRefusal),
 }
 
 // Where a pattern of a book ends, or why it is refused.
@@ -136,19 +142,19 @@ pub(crate) fn read<'a>(
     offsets: &'a [u16; 96],
     results: &'a [u8; 96],
     maps: &'a [u8; 96],
-) -> BookAnswer
+) -> Patterns
     requires { ⌜ Tables (now v) words (now offsets) (now results) (now maps) ⌝ }
-    ensures { λ r. ⌜ bookNumbers r ≡ bookReply (vocabularyIn (now (v .entry))) (now (b .entry)) ⌝ }
+    ensures { λ r. ⌜ patternsNumbers r ≡ bookReply (vocabularyIn (now (v .entry))) (now (b .entry)) ⌝ }
 {
     let mut left = count(b);
     if left == 0 {
-        return BookAnswer::Book(BookRefusal::Count);
+        return Patterns::Refused(BookRefusal::Count);
     }
     let mut at = 1usize;
     while 0 < left {
         match read_pattern(v, b, at, words, offsets, results, maps) {
             Pattern::Refused(why) => {
-                return BookAnswer::Book(why);
+                return Patterns::Refused(why);
             }
             Pattern::Read(end) => {
                 at = end;
@@ -157,7 +163,7 @@ pub(crate) fn read<'a>(
         }
     }
     if at < b.len() {
-        return BookAnswer::Book(BookRefusal::Continues(at));
+        return Patterns::Refused(BookRefusal::Continues(at));
     }
-    BookAnswer::Read
+    Patterns::Read
 }

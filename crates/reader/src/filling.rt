@@ -10,7 +10,7 @@ use crate::refusal::TermRefusal;
 use crate::term;
 use signature::VocabularyRefusal;
 
-// Why the inputs of fill are refused: document 01's lines 1 to 15, and 21 and 22.
+// Why the inputs of fill are refused: document 01's lines 1 to 5 and 7 to 15, and 21 and 22.
 pub enum FillingRefusal {
     Vocabulary(VocabularyRefusal),
     Pattern(TermRefusal),

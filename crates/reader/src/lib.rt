@@ -5,9 +5,12 @@ ghost use Rattle.wire.specs.CheckComputed.{termReply};
 ghost use Rattle.signature.specs.Tables.{Tables};
 ghost use Rattle.reader.specs.Answers.{termNumbers};
 ghost use Rattle.reader.specs.Books.{BookRead};
-ghost use Rattle.reader.specs.Checked.{CheckedFrom};
+ghost use Rattle.reader.specs.Loaded.{PatternLoaded};
 ghost use Rattle.reader.specs.Values.{PatternFilling, FillingJudged, FillingRead};
 ghost use Rattle.reader.specs.Pairs.{PairRead};
+use book::Patterns;
+use signature::Missing;
+use signature::SettledAnswer;
 use signature::VocabularyAnswer;
 use signature::VocabularyRefusal;
 use whole::Whole;
@@ -36,28 +39,47 @@ pub enum TermAnswer {
     Term(TermRefusal),
 }
 
+// A vocabulary and a pattern to be listed are in order, with the lowest kind without complete situations, or one of them is refused.
+pub enum PatternAnswer {
+    Loaded(Missing),
+    Vocabulary(VocabularyRefusal),
+    Pattern(TermRefusal),
+}
+
 // Checks a term under a vocabulary.
 pub fn check_term(vocabulary: &[u8], term: &[u8]) -> TermAnswer
     ensures { λ r. ⌜ TermPromise (now (vocabulary .entry)) (now (term .entry)) (termNumbers r) ⌝ }
     ensures { λ r. ⌜ termNumbers r ≡ termReply (now (vocabulary .entry)) (now (term .entry)) ⌝ }
 {
-    let mut results = [0u8; 96];
-    load_term(vocabulary, term, &mut results)
-}
-
-// Checks a term under a vocabulary, and leaves the words' result kinds, which are loaded for it, in the lent table.
-pub fn load_term(vocabulary: &[u8], term: &[u8], results: &mut [u8; 96]) -> TermAnswer
-    ensures { λ r. ⌜ CheckedFrom (now (vocabulary .entry)) (now (term .entry)) (now (results .entry)) (now (results .exit)) r ⌝ }
-{
     let mut offsets = [0u16; 96];
+    let mut results = [0u8; 96];
     let mut maps = [0u8; 96];
-    match signature::load(vocabulary, &mut offsets, results, &mut maps) {
+    match signature::load(vocabulary, &mut offsets, &mut results, &mut maps) {
         VocabularyAnswer::Refused(why) => TermAnswer::Vocabulary(why),
         VocabularyAnswer::Accepted => {
             let words = node::wide(vocabulary[1]);
-            match whole::read(vocabulary, term, words, &offsets, results, &maps) {
+            match whole::read(vocabulary, term, words, &offsets, &results, &maps) {
                 Whole::Refused(why) => TermAnswer::Term(why),
                 Whole::Read(x) => TermAnswer::Accepted(x.words, x.deepest, x.complete, x.gap),
+            }
+        }
+    }
+}
+
+// Reads a vocabulary and a pattern to be listed, and leaves the table of result kinds by which listings go in the lent one.
+pub fn load_pattern(vocabulary: &[u8], pattern: &[u8], settled: &mut [u8; 96]) -> PatternAnswer
+    ensures { λ r. ⌜ PatternLoaded (now (vocabulary .entry)) (now (pattern .entry)) (now (settled .entry)) (now (settled .exit)) r ⌝ }
+{
+    let mut offsets = [0u16; 96];
+    let mut results = [0u8; 96];
+    let mut maps = [0u8; 96];
+    match signature::load_settled(vocabulary, &mut offsets, &mut results, &mut maps, settled) {
+        SettledAnswer::Refused(why) => PatternAnswer::Vocabulary(why),
+        SettledAnswer::Loaded(missing) => {
+            let words = node::wide(vocabulary[1]);
+            match whole::read(vocabulary, pattern, words, &offsets, &results, &maps) {
+                Whole::Refused(why) => PatternAnswer::Pattern(why),
+                Whole::Read(_) => PatternAnswer::Loaded(missing),
             }
         }
     }
@@ -183,18 +205,21 @@ pub fn read_filling(
     }
 }
 
-// Reads a vocabulary and a book under it, and leaves the words' result kinds in the lent table.
-pub fn read_book(vocabulary: &[u8], book: &[u8], results: &mut [u8; 96]) -> BookAnswer
-    ensures { λ r. ⌜ BookRead (now (vocabulary .entry)) (now (book .entry)) (now (results .entry)) (now (results .exit)) r ⌝ }
+// Reads a vocabulary and a book under it, and leaves the table of result kinds by which listings go in the lent one.
+pub fn read_book(vocabulary: &[u8], book: &[u8], settled: &mut [u8; 96]) -> BookAnswer
+    ensures { λ r. ⌜ BookRead (now (vocabulary .entry)) (now (book .entry)) (now (settled .entry)) (now (settled .exit)) r ⌝ }
 {
     let mut offsets = [0u16; 96];
+    let mut results = [0u8; 96];
     let mut maps = [0u8; 96];
-    let loaded = signature::load(vocabulary, &mut offsets, results, &mut maps);
-    match loaded {
-        VocabularyAnswer::Refused(why) => BookAnswer::Vocabulary(why),
-        VocabularyAnswer::Accepted => {
+    match signature::load_settled(vocabulary, &mut offsets, &mut results, &mut maps, settled) {
+        SettledAnswer::Refused(why) => BookAnswer::Vocabulary(why),
+        SettledAnswer::Loaded(missing) => {
             let words = node::wide(vocabulary[1]);
-            book::read(vocabulary, book, words, &offsets, results, &maps)
+            match book::read(vocabulary, book, words, &offsets, &results, &maps) {
+                Patterns::Refused(why) => BookAnswer::Book(why),
+                Patterns::Read => BookAnswer::Read(missing),
+            }
         }
     }
 }

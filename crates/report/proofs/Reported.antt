@@ -18,15 +18,15 @@ use lib.Seq.{take-at, drop-at}
 use borrow.Author.Tests.{leb-true}
 use Rattle.terms.specs.Lists.{All}
 use Rattle.terms.specs.Term.{Term}
-use Rattle.terms.specs.Listing.{listing}
+use Rattle.terms.specs.Productive.{listingOf}
 use Rattle.terms.proofs.All.{all-implies, all-map, all-take, all-drop}
 use Rattle.wire.specs.Reply.{Reply, accepted, refused, IsBytes, Kinded, kinded}
 use Rattle.wire.specs.Effect.{Effect, HasEffect}
 use Rattle.wire.specs.Parser.{Reading, accept, refuse, readVocabulary}
 use Rattle.wire.specs.Vocabulary.{Vocabulary, InOrder, signature}
 use Rattle.wire.specs.TermBytes.{encodeTerm, GoodTerm}
-use Rattle.wire.specs.ListComputed.{checkedLinear, listedInto, listedPattern, listedVocabulary, listed}
-use Rattle.wire.specs.Leftovers.{entriesBytes, entriesOf}
+use Rattle.wire.specs.ListComputed.{leftoversOf, checkedLinear, listedInto, listedPattern, listedVocabulary, listed}
+use Rattle.wire.specs.Leftovers.{entriesBytes}
 use Rattle.wire.specs.Text.{ascii, newline, decimal, hexadecimal}
 use Rattle.wire.specs.Printing.{mostInput, listingSpace, vocabularyLength, vocabularyPart, patternPart, entryLine, entryLines, listingText, PrintPromise}
 use Rattle.wire.specs.PrintComputed.{entriesUnder, entriesWith, reported, printedFrom, printed}
@@ -34,6 +34,8 @@ use Rattle.wire.proofs.Bytes.{bytes-of}
 use Rattle.wire.proofs.Text.{decimal-short, hexadecimal-length}
 use Rattle.wire.proofs.Levels.{deepest-bytes}
 use Rattle.wire.proofs.Entries.{entries-are-good}
+use Rattle.wire.proofs.Words.{in-order-well-formed}
+use Rattle.terms.proofs.Theorems.{listing-is-one}
 use Rattle.wire.proofs.EntriesRead.{GoodKinded}
 use Rattle.wire.proofs.EntryCut.{cut-entries}
 use Rattle.wire.proofs.Leftovers.{linear-in}
@@ -126,17 +128,19 @@ module _ (before : List ℕ) (long : length before ≡ 65536) where
     pattern-shown W inOrder (accept k) e =
         let h = linear-in W p k inOrder bp e in
         let s : ℕ = k .kind in
-        let entries : List Term = listing (signature W) (k .term) in
-        listing-shown W inOrder (entriesOf W s (k .term))
+        let entries : List Term = listingOf (signature W) s (k .term) in
+        let one = listing-is-one (signature W) (k .term) s (in-order-well-formed W inOrder) (h .term .good .sorted .sorted) (h .linear) in
+        listing-shown W inOrder (leftoversOf W s (k .term))
         (all-map (GoodKinded W) (kinded s) entries
-        (all-implies _ (λ e. GoodTerm W s e) (λ e g. g .0) entries (entries-are-good W s (k .term) (h .term .good) (h .linear))))
+        (all-implies _ (λ e. GoodTerm W s e) (λ e g. g .0) entries
+        (entries-are-good W s (k .term) (h .term .good) (h .linear) entries (one entries .1 refl))))
 
     vocabulary-shown : (v : List ℕ) → IsBytes v → (r : Reading Vocabulary) → readVocabulary v ≡ r →
         Shown (listedVocabulary p before r .reply) (listedVocabulary p before r .after)
         (reported (listedVocabulary p before r .reply) (entriesWith p r))
     vocabulary-shown v bv (refuse n q) e = record { same = refl; room = tt }
     vocabulary-shown v bv (accept W) e =
-        pattern-shown W (vocabularies-inverse v W bv .0 e .good .inOrder) (checkedLinear W p) refl
+        pattern-shown W (vocabularies-inverse v W bv .0 e .inOrder) (checkedLinear W p) refl
 
 module _ (v p : List ℕ) (vocabularyBytes : (i : ℕ) → getD v i 0 < 256) (patternBytes : (i : ℕ) → getD p i 0 < 256)
     {after : List ℕ} {r : Reply} (by : HasEffect (listed v p (replicate listingSpace 0)) r after) where

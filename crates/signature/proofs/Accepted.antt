@@ -6,14 +6,12 @@
 use mathlib.Core.Path.{_≡_, refl, ap, _∙_, subst}
 use mathlib.Core.Bool.{Bool, true, false, cond}
 use mathlib.Core.List.{List, [], _∷_}
-use mathlib.Core.Option.{Option, some, none}
 use Prim.Native.Nat.{ℕ, _<_}
 use native.Mathlib.Omega.{arith}
 use lib.ListN.{length, getD, drop, length-map, List·getD-append, List·getD-map}
-use Rattle.terms.specs.Emptiness.{firstEmpty}
-use Rattle.wire.specs.Parser.{Reading, accept, refuse, Got, got, stop, readWords, line6, lines5and6, readVocabulary}
+use Rattle.wire.specs.Parser.{Reading, accept, refuse, Got, got, stop, readWords, line5, readVocabulary}
 use Rattle.wire.specs.Reply.{outside}
-use Rattle.wire.specs.Vocabulary.{Word, Vocabulary, signature, word, noWord, mostKinds, mostWords, HoldsVocabulary}
+use Rattle.wire.specs.Vocabulary.{Word, Vocabulary, word, noWord, mostKinds, mostWords, HoldsVocabulary}
 use Rattle.wire.specs.VocabularyLines.{byteAt}
 use Rattle.signature.specs.Tables.{wordsUpTo, wordsBefore, resultsOf, laid, Tabled, AcceptedWords}
 use Rattle.signature.proofs.WordsUpTo.{UpTo, words-up-to}
@@ -22,16 +20,10 @@ abbrev SameIn : List Word → Reading Vocabulary → Type 0
 SameIn us (accept W) = us ≡ W .words
 SameIn us (refuse n q) = Unit {0}
 
-same-line6 : (W : Vocabulary) (o : Option ℕ) → SameIn (W .words) (line6 W o)
-same-line6 W none = refl
-same-line6 W (some k) = tt
-
-same-lines : (b : List ℕ) (k n : ℕ) (l : List ℕ) (g : Got (List Word)) → UpTo k n l g → SameIn (wordsUpTo k n l) (lines5and6 b k g)
+same-lines : (b : List ℕ) (k n : ℕ) (l : List ℕ) (g : Got (List Word)) → UpTo k n l g → SameIn (wordsUpTo k n l) (line5 b k g)
 same-lines b k n l (stop m r) e = tt
 same-lines b k n l (got ws (x ∷ r)) e = tt
-same-lines b k n l (got ws []) e =
-    let W : Vocabulary = record { kinds = k; words = ws } in
-    rw (e .0) (same-line6 W (firstEmpty (signature W)))
+same-lines b k n l (got ws []) e = e .0
 
 same-if : (t : Bool) (n q : ℕ) (us : List Word) (r : Reading Vocabulary) → SameIn us r → SameIn (cond t [] us) (cond t (refuse n q) r)
 same-if true n q us r h = tt

@@ -6,7 +6,7 @@ use lib.Dec.{eqb}
 use Rattle.wire.specs.Reply.{Reply, accepted, refused}
 use Rattle.signature.specs.Answers.{vocabularyNumbers, VocabularyAnswersDiffer}
 use Rattle.signature.specs.declared.VocabularyRefusal.{VocabularyRefusal}
-use Rattle.signature.specs.declared.VocabularyRefusal.the-variants.{Head, WordCount, Ends, NoSuchKind, Continues, EmptyKind}
+use Rattle.signature.specs.declared.VocabularyRefusal.the-variants.{Head, WordCount, Ends, NoSuchKind, Continues}
 use Rattle.signature.specs.declared.VocabularyAnswer.{VocabularyAnswer}
 use Rattle.signature.specs.declared.VocabularyAnswer.the-variants.{Accepted, Refused}
 
@@ -14,7 +14,7 @@ use Rattle.signature.specs.declared.VocabularyAnswer.the-variants.{Accep
 abbrev pub vocabularyRefusalOf : ℕ → ℕ → VocabularyRefusal
 vocabularyRefusalOf n q =
     cond (eqb n 1) Head (cond (eqb n 2) WordCount (cond (eqb n 3) (Ends q)
-    (cond (eqb n 4) (NoSuchKind q) (cond (eqb n 5) (Continues q) (EmptyKind q)))))
+    (cond (eqb n 4) (NoSuchKind q) (Continues q))))
 
 abbrev vocabularyAnswerOf : Reply → VocabularyAnswer
 vocabularyAnswerOf (accepted l) = Accepted
@@ -27,7 +27,6 @@ vocabulary-back (Refused WordCount) = refl
 vocabulary-back (Refused (Ends q)) = refl
 vocabulary-back (Refused (NoSuchKind q)) = refl
 vocabulary-back (Refused (Continues q)) = refl
-vocabulary-back (Refused (EmptyKind q)) = refl
 
 pub vocabulary-answers-differ : VocabularyAnswersDiffer
 vocabulary-answers-differ a b e = sym (vocabulary-back a) ∙ ap vocabularyAnswerOf e ∙ vocabulary-back b

@@ -8,6 +8,8 @@ pub mod WordsUpTo
 pub mod RecordsRead
 pub mod Marking
 pub mod Rounds
+pub mod Moving
 pub mod VocabularyLoaded
 -- What the tables of an accepted vocabulary hold.
 pub mod Accepted
+pub mod Settling

@@ -3,11 +3,11 @@
 --   Marked v n w before after     from the marks `before` to the marks `after`, the first w of n records had their turn
 --   Reached v n kinds round m     the kinds that so many rounds reach are marked in m
 --
-use mathlib.Core.Path.{_≡_, refl, sym, _∙_, ap}
+use mathlib.Core.Path.{_≡_, refl, sym, _∙_, ap, subst}
 use mathlib.Core.Bool.{Bool, true, false, not}
 use mathlib.Core.List.{List, [], _∷_, _++_}
 use mathlib.Core.Option.{none}
-use Prim.Native.Nat.{ℕ, _+_, _<_, _≤_}
+use Prim.Native.Nat.{ℕ, zero, suc, _+_, _-_, _<_, _≤_}
 use native.Mathlib.Numerals.{add-one}
 use native.Mathlib.Omega.{arith}
 use lib.Count
@@ -16,17 +16,18 @@ use lib.Seq.{take-suc, take-all, getD-take, getD-drop}
 use borrow.Author.Tests.{not-false}
 use Rattle.terms.specs.Lists.{occurs}
 use Rattle.terms.specs.Signature.{Symbol, Signature, noSymbol}
-use Rattle.terms.specs.Emptiness.{covered, joined, grow, reached, firstEmpty}
+use Rattle.terms.specs.Emptiness.{covered, joined, grow, reached}
 use Rattle.terms.proofs.All.{all-at}
-use Rattle.terms.proofs.First.{firstOf, first-nowhere, nowhere-first}
+use Rattle.terms.proofs.First.{firstOf, first-least, first-nowhere, nowhere-first}
 use Rattle.terms.proofs.Inhabited.{reached-mono}
 use Rattle.terms.proofs.Occurs.{missing}
 use Rattle.wire.specs.Vocabulary.{Word, noWord, symbolOf, signature}
 use Rattle.wire.specs.VocabularyLines.{byteAt}
 use Rattle.wire.proofs.Map.{ones-count}
 use Rattle.signature.specs.declared.Missing.{Missing}
-use Rattle.signature.specs.declared.Missing.the-variants.{Nothing}
-use Rattle.signature.specs.Loading.{recordsIn, vocabularyOf, Entry, Filled, Marks, Markable, PlacesInside, PlacesCovered, symbolsIn, Grows, foundKind, FirstMissing}
+use Rattle.signature.specs.declared.Missing.the-variants.{Kind, Nothing}
+use Rattle.signature.specs.Loading.{recordsIn, vocabularyOf, Entry, Filled, Marks, Markable, PlacesInside, PlacesCovered, symbolsIn, Grows, FirstMissing, signatureIn, Searched}
+use Rattle.signature.specs.Settled.{foundKind}
 use Rattle.signature.proofs.Marking.{marks-none, marks-joined, marks-stay, marks-had}
 
 -- An entry of the tables, as the marking reads it.
@@ -49,7 +50,7 @@ module _ (v : List ℕ) (o r m : ℕ) (w : Word) (entry : Entry v o r m w) where
   result-markable : byteAt v 0 ≤ 16 → r < 16
   result-markable few = omega (arith, entry .result, entry .sound .result)
 
-  entry-covers : (marked l : List ℕ) (t : Bool) → PlacesCovered v o m marked t → Marks marked l → t ≡ covered (w .kinds) l
+  pub entry-covers : (marked l : List ℕ) (t : Bool) → PlacesCovered v o m marked t → Marks marked l → t ≡ covered (w .kinds) l
   entry-covers marked l t h marks = h l marks ∙ rw (places-counted, entry .kinds)
 
 grow-append : (ks ls : List Symbol) (l : List ℕ) → grow (ks ++ ls) l ≡ grow ls (grow ks l)
@@ -142,10 +143,13 @@ pub reached-more : (v : List ℕ) (n kinds round : ℕ) (before after : List ℕ
 reached-more v n kinds round before after reach b grows = record { passed = omega arith; marks = rw add-one (grows _ (reach .marks)) }
 
 pub reached-all : (v : List ℕ) (n kinds round : ℕ) (marked : List ℕ) (r : Missing) → Reached v n kinds round marked → kinds ≤ round →
-    kinds ≡ byteAt v 0 → FirstMissing kinds marked r → foundKind r ≡ firstEmpty (signature (vocabularyOf v n))
+    kinds ≡ byteAt v 0 → FirstMissing kinds marked r → Searched v n marked r
 reached-all v n kinds round marked r reach h k first =
     let e : round ≡ byteAt v 0 = omega (arith, reach .passed) in
-    rw (k, e) at (first (reached (signature (vocabularyOf v n)) round) (reach .marks))
+    record {
+      found = rw (k, e) at (first (reached (signatureIn v n) round) (reach .marks));
+      marks = λ _ _. rw e at (reach .marks);
+    }
 
 -- Where no kind is missing, none is after further rounds.
 
@@ -155,7 +159,34 @@ still-none S n m kinds h e =
     ap not (reached-mono S n m h j (not-false (occurs j (reached S n)) (first-nowhere (missing (reached S n)) 0 kinds e j lo hi)))
 
 pub reached-early : (v : List ℕ) (n kinds round : ℕ) (marked : List ℕ) (r : Missing) → Reached v n kinds round marked →
-    kinds ≡ byteAt v 0 → FirstMissing kinds marked r → r ≡ Nothing → foundKind Nothing ≡ firstEmpty (signature (vocabularyOf v n))
+    kinds ≡ byteAt v 0 → FirstMissing kinds marked r → r ≡ Nothing → Searched v n marked Nothing
 reached-early v n kinds round marked r reach k first e =
-    let S : Signature = signature (vocabularyOf v n) in
-    sym (rw k at (still-none S round kinds kinds (reach .passed) (sym (first (reached S round) (reach .marks)) ∙ ap foundKind e)))
+    let S : Signature = signatureIn v n in
+    record {
+      found = sym (rw k at (still-none S round kinds kinds (reach .passed) (sym (first (reached S round) (reach .marks)) ∙ ap foundKind e)));
+      marks = λ j d. absurd (let z : _≡_ {A = ℕ} 0 1 = cc in omega arith);
+    }
+
+-- A round that marks nothing changes nothing, and so do all behind it.
+still-marks : (v : List ℕ) (n : ℕ) (marked : List ℕ) → Grows v n marked marked → (round i : ℕ) → Marks marked (reached (signatureIn v n) round) →
+    Marks marked (reached (signatureIn v n) (round + i))
+still-marks v n marked grows round zero h = rw (let e : round + 0 ≡ round = omega arith in e) h
+still-marks v n marked grows round (suc i) h =
+    rw (let e : round + suc i ≡ suc (round + i) = omega arith in e) (grows _ (still-marks v n marked grows round i h))
+
+pub reached-still : (v : List ℕ) (n kinds round : ℕ) (before after : List ℕ) (r : Missing) → Reached v n kinds round before → Grows v n before after →
+    after ≡ before → kinds ≡ byteAt v 0 → FirstMissing kinds after r → Searched v n after r
+reached-still v n kinds round before after r reach grows same k first =
+    let i : ℕ = kinds - round in
+    let e : round + i ≡ byteAt v 0 = let p = reach .passed in omega arith in
+    let marks : Marks before (reached (signatureIn v n) (byteAt v 0)) =
+    subst (λ j. Marks before (reached (signatureIn v n) j)) e (still-marks v n before (subst (Grows v n before) same grows) round i (reach .marks)) in
+    let now : Marks after (reached (signatureIn v n) (byteAt v 0)) = subst (λ m. Marks m (reached (signatureIn v n) (byteAt v 0))) (sym same) marks in
+    record { found = rw k at (first (reached (signatureIn v n) (byteAt v 0)) now); marks = λ _ _. now }
+
+-- The kind that is found is one of the vocabulary's.
+pub searched-below : (v : List ℕ) (n : ℕ) (marked : List ℕ) (r : Missing) → Searched v n marked r → (k : ℕ) → r ≡ Kind k → k < byteAt v 0
+searched-below v n marked r searched k e =
+    let l : List ℕ = reached (signatureIn v n) (byteAt v 0) in
+    let found = first-least (missing l) 0 (byteAt v 0) k (sym (searched .found) ∙ ap foundKind e) in
+    omega (arith, found .high)

@@ -6,40 +6,17 @@ use Prim.Native.Nat.{ℕ, _<_, _≤_}
 use native.Mathlib.Omega.{arith}
 use lib.ListN.{length}
 use borrow.Author.Tests.{lt-ltb, le-ltb}
-use Rattle.terms.specs.Emptiness.{firstEmpty}
 use Rattle.wire.specs.Reply.{refused, outside}
-use Rattle.wire.specs.Parser.{accept, refuse, lines5and6, line6, readVocabulary}
+use Rattle.wire.specs.Parser.{accept, refuse, line5, readVocabulary}
 use Rattle.wire.specs.CheckComputed.{replyOf}
-use Rattle.wire.specs.Vocabulary.{signature}
 use Rattle.wire.specs.VocabularyLines.{byteAt}
 use Rattle.signature.specs.Answers.{vocabularyRefused}
 use Rattle.signature.specs.Tables.{wordsBefore, Laid, LoadedFrom}
 use Rattle.signature.specs.declared.VocabularyRefusal.{VocabularyRefusal}
-use Rattle.signature.specs.declared.VocabularyRefusal.the-variants.{Head, WordCount, EmptyKind}
+use Rattle.signature.specs.declared.VocabularyRefusal.the-variants.{Head, WordCount}
 use Rattle.signature.specs.declared.VocabularyAnswer.{VocabularyAnswer}
 use Rattle.signature.specs.declared.VocabularyAnswer.the-variants.{Accepted, Refused}
-use Rattle.signature.specs.declared.Missing.{Missing}
-use Rattle.signature.specs.declared.Missing.the-variants.{Kind, Nothing}
-use Rattle.signature.specs.Loading.{recordsIn, vocabularyOf, checksIn, checksReply, Filled, WordsLoaded, foundKind, KindsChecked}
-
--- A refusal that is the one of lines 3 to 6.
-pub checked-refused : (v : List ℕ) (n : ℕ) (why : VocabularyRefusal) → vocabularyRefused why ≡ checksReply v n → KindsChecked v n (Refused why)
-checked-refused v n why h = record { answer = h; accepted = λ d. absurd (let z : _≡_ {A = ℕ} 0 1 = cc in omega arith) }
-
--- Line 6, once the records are read.
-module _ (v : List ℕ) (n : ℕ) (o r m : List ℕ) (filled : Filled v n o r m) (f : Missing)
-    (found : foundKind f ≡ firstEmpty (signature (vocabularyOf v n))) where
-  checks-found : checksIn v n ≡ line6 (vocabularyOf v n) (foundKind f)
-  checks-found = ap (lines5and6 v (byteAt v 0)) (filled .read) ∙ ap (line6 (vocabularyOf v n)) (sym found)
-
-  pub checked-empty : (k : ℕ) → f ≡ Kind k → KindsChecked v n (Refused (EmptyKind k))
-  checked-empty k e =
-      checked-refused v n (EmptyKind k) (sym (ap (replyOf 0 (λ W. [])) (checks-found ∙ ap (λ f. line6 (vocabularyOf v n) (foundKind f)) e)))
-
-  pub checked-accepted : f ≡ Nothing → KindsChecked v n Accepted
-  checked-accepted e =
-      let whole : checksIn v n ≡ accept (vocabularyOf v n) = checks-found ∙ ap (λ f. line6 (vocabularyOf v n) (foundKind f)) e in
-      record { answer = sym (ap (replyOf 0 (λ W. [])) whole); accepted = λ d. whole }
+use Rattle.signature.specs.Loading.{recordsIn, vocabularyOf, checksIn, WordsLoaded}
 
 -- Lines 1 and 2.
 
@@ -96,35 +73,34 @@ module _ (v o r m : List ℕ) where
       pub refused-words : outside 1 96 n ≡ true → LoadedFrom v o r m o r m (Refused WordCount)
       refused-words h = refused-head 2 1 WordCount (head-words v long (in-range 1 16 (byteAt v 0) some few) (rw number at h)) refl
 
-      -- What is left to lines 3 to 6.
+      -- What is left to lines 3 to 5.
       module _ (low : 1 ≤ n) (high : n ≤ 96) where
         left : (readVocabulary v ≡ checksIn v n) × (wordsBefore v ≡ recordsIn v n)
         left =
             rw number
             (head-rest v long (in-range 1 16 (byteAt v 0) some few) (in-range 1 96 (byteAt v 1) (omega arith) (omega arith)))
 
-        pub loaded-rest : (o′ r′ m′ : List ℕ) (a : VocabularyAnswer) → Laid v (recordsIn v n) o r m o′ r′ m′ → KindsChecked v n a →
-            (a ≡ Accepted → Filled v n o′ r′ m′) → LoadedFrom v o r m o′ r′ m′ a
-        loaded-rest o′ r′ m′ a holds checked fills = record {
-          answer = rw (left .0) (checked .answer);
-          holds = rw (left .1) holds;
-          tables = λ d.
-              let filled = fills d in
-              let whole : readVocabulary v ≡ accept (vocabularyOf v n) = left .0 ∙ checked .accepted d in
-              record {
-                accepted = rw whole;
-                tabled = record {
-                  words = rw whole (sym number ∙ sym (filled .count));
-                  result = λ f b. rw whole (filled .entries f (omega arith) .result);
-                };
-                placeMap = λ f b. rw whole (filled .entries f (omega arith) .placeMap);
-                inside = λ f b. rw whole (filled .entries f (omega arith) .inside);
-                kinds = λ f b. rw whole (filled .entries f (omega arith) .kinds);
-              };
+        pub loaded-rest : (o′ r′ m′ : List ℕ) (a : VocabularyAnswer) → WordsLoaded v n o r m o′ r′ m′ a → LoadedFrom v o r m o′ r′ m′ a
+        loaded-rest o′ r′ m′ (Refused why) loaded = record {
+          answer = rw (left .0) (loaded .refused why refl);
+          holds = rw (left .1) (loaded .holds);
+          tables = λ d. absurd (let z : _≡_ {A = ℕ} 0 1 = cc in omega arith);
         }
-
-        pub loaded-refused : (o′ r′ m′ : List ℕ) (why : VocabularyRefusal) (a : VocabularyAnswer) → WordsLoaded v n o r m o′ r′ m′ a → a ≡ Refused why →
-            LoadedFrom v o r m o′ r′ m′ (Refused why)
-        loaded-refused o′ r′ m′ why a loaded e =
-            loaded-rest o′ r′ m′ (Refused why) (loaded .holds) (checked-refused v n why (loaded .refused why e))
-            (λ d. absurd (let z : _≡_ {A = ℕ} 0 1 = cc in omega arith))
+        loaded-rest o′ r′ m′ Accepted loaded =
+            let filled = loaded .filled refl in
+            let whole : readVocabulary v ≡ accept (vocabularyOf v n) = left .0 ∙ ap (line5 v (byteAt v 0)) (filled .read) in
+            record {
+              answer = sym (ap (replyOf 0 (λ W. [])) whole);
+              holds = rw (left .1) (loaded .holds);
+              tables = λ d.
+                  record {
+                    accepted = rw whole;
+                    tabled = record {
+                      words = rw whole (sym number ∙ sym (filled .count));
+                      result = λ f b. rw whole (filled .entries f (omega arith) .result);
+                    };
+                    placeMap = λ f b. rw whole (filled .entries f (omega arith) .placeMap);
+                    inside = λ f b. rw whole (filled .entries f (omega arith) .inside);
+                    kinds = λ f b. rw whole (filled .entries f (omega arith) .kinds);
+                  };
+            }

@@ -8,18 +8,17 @@ use mathlib.Core.Path.{_≡_}
 use mathlib.Core.List.{[]}
 use Rattle.wire.specs.Reply.{Reply, accepted, refused}
 use Rattle.signature.specs.declared.VocabularyRefusal.{VocabularyRefusal}
-use Rattle.signature.specs.declared.VocabularyRefusal.the-variants.{Head, WordCount, Ends, NoSuchKind, Continues, EmptyKind}
+use Rattle.signature.specs.declared.VocabularyRefusal.the-variants.{Head, WordCount, Ends, NoSuchKind, Continues}
 use Rattle.signature.specs.declared.VocabularyAnswer.{VocabularyAnswer}
 use Rattle.signature.specs.declared.VocabularyAnswer.the-variants.{Accepted, Refused}
 
--- Lines 1 to 6. The vocabulary is input 0.
+-- Lines 1 to 5. The vocabulary is input 0.
 abbrev pub vocabularyRefused : VocabularyRefusal → Reply
 vocabularyRefused Head = refused 1 0 0
 vocabularyRefused WordCount = refused 2 0 1
 vocabularyRefused (Ends q) = refused 3 0 q
 vocabularyRefused (NoSuchKind q) = refused 4 0 q
 vocabularyRefused (Continues q) = refused 5 0 q
-vocabularyRefused (EmptyKind k) = refused 6 0 k
 
 abbrev pub vocabularyNumbers : VocabularyAnswer → Reply
 vocabularyNumbers Accepted = accepted []

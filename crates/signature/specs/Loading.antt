@@ -9,7 +9,7 @@
 --   RecordRead             it is what readWord gives, lies within v and is sound
 --   recordsIn v n          the words of the first n records of v, up to the first that is not in order
 --   vocabularyOf v n       v's kind count and these words
---   checksIn v n           lines 3 to 6 of v, which has n records
+--   checksIn v n           lines 3 to 5 of v, which has n records
 --   checksReply v n        the reply of these lines
 --   Entry v o r m w        the word w stands in v at the offset o, with result kind r and place map m
 --   Filled v n o r m       the n records of v are in order, end v and stand in the tables o, r and m
@@ -22,37 +22,39 @@
 --   PlacesInside v o m     the places of the record at an offset, whose map is m, lie within v and have a mark
 --   PlacesCovered          what places_covered answers of them
 --   symbolsIn v n          the symbols of the first n records
---   Grows, FirstMissing    what mark_round and first_missing answer, for any such l
---   foundKind r            the kind that is found, where there is one
---   KindsChecked v n r     what inhabited answers: the reply of lines 3 to 6
+--   Grows, Round           what mark_round does, for any such l, and what it answers
+--   FirstMissing           what first_missing answers, for any such l
+--   signatureIn v n        the signature that v writes
+--   Searched               what empty_kind answers, and where it finds a kind it marks those that are reached
+--   MovesWords                  what move_words does
 --
 use mathlib.Core.Path.{_≡_}
-use mathlib.Core.Bool.{Bool, not}
+use mathlib.Core.Bool.{Bool, false, not, cond}
 use mathlib.Core.List.{List, [], map}
-use mathlib.Core.Option.{Option, some, none}
 use Prim.Native.Nat.{ℕ, _+_, _<_, _≤_}
 use lib.Count
 use lib.Dec.{eqb}
 use lib.ListN.{length, getD, take, drop}
 use Rattle.terms.specs.Lists.{occurs, range, keep}
-use Rattle.terms.specs.Signature.{Symbol}
-use Rattle.terms.specs.Emptiness.{covered, grow, first}
+use Rattle.terms.specs.Signature.{Symbol, Signature}
+use Rattle.terms.specs.Emptiness.{covered, grow, reached, first, firstEmpty}
 use Rattle.wire.specs.Map.{mapBytes}
 use Rattle.wire.specs.Reply.{Reply}
-use Rattle.wire.specs.Parser.{Reading, accept, Got, got, stop, readKinds, readWord, readWords, lines5and6}
+use Rattle.wire.specs.Parser.{Reading, Got, got, stop, readKinds, readWord, readWords, line5}
 use Rattle.wire.specs.CheckComputed.{replyOf}
-use Rattle.wire.specs.Vocabulary.{Word, Vocabulary, noWord, symbolOf, mostWords, WordInOrder}
+use Rattle.wire.specs.Vocabulary.{Word, Vocabulary, signature, noWord, symbolOf, mostWords, WordInOrder}
 use Rattle.wire.specs.VocabularyLines.{byteAt}
 use Rattle.maps.specs.Reading.{mapAt}
-use Rattle.signature.specs.Answers.{vocabularyRefused, vocabularyNumbers}
+use Rattle.signature.specs.Answers.{vocabularyRefused}
 use Rattle.signature.specs.Tables.{wordsUpTo, Laid}
+use Rattle.signature.specs.Settled.{foundKind}
 use Rattle.signature.specs.declared.VocabularyRefusal.{VocabularyRefusal}
 use Rattle.signature.specs.declared.VocabularyAnswer.{VocabularyAnswer}
 use Rattle.signature.specs.declared.VocabularyAnswer.the-variants.{Accepted, Refused}
 use Rattle.signature.specs.declared.WordRead.{WordRead}
 use Rattle.signature.specs.declared.WordRead.the-variants.{Whole, Ends, NoSuchKind}
 use Rattle.signature.specs.declared.Missing.{Missing}
-use Rattle.signature.specs.declared.Missing.the-variants.{Kind, Nothing}
+use Rattle.signature.specs.declared.Missing.the-variants.{Kind}
 
 -- read_kinds
 
@@ -100,7 +102,7 @@ abbrev pub vocabularyOf : List ℕ → ℕ → Vocabulary
 vocabularyOf v n = record { kinds = byteAt v 0; words = recordsIn v n }
 
 abbrev pub checksIn : List ℕ → ℕ → Reading Vocabulary
-checksIn v n = lines5and6 v (byteAt v 0) (readWords (byteAt v 0) n (drop 2 v))
+checksIn v n = line5 v (byteAt v 0) (readWords (byteAt v 0) n (drop 2 v))
 
 abbrev pub checksReply : List ℕ → ℕ → Reply
 checksReply v n = replyOf 0 (λ W. []) (checksIn v n)
@@ -156,16 +158,26 @@ symbolsIn v n = map symbolOf (recordsIn v n)
 abbrev pub Grows : List ℕ → ℕ → List ℕ → List ℕ → Type 0
 Grows v n before after = (l : List ℕ) → Marks before l → Marks after (grow (symbolsIn v n) l)
 
-abbrev pub foundKind : Missing → Option ℕ
-foundKind (Kind k) = some k
-foundKind Nothing = none
+pub record Round (v : List ℕ) (n : ℕ) (before after : List ℕ) (changed : Bool) : Type 0 where
+  pub grows : Grows v n before after
+  pub unchanged : changed ≡ false → after ≡ before
 
 abbrev pub FirstMissing : ℕ → List ℕ → Missing → Type 0
 FirstMissing kinds marked r = (l : List ℕ) → Marks marked l → foundKind r ≡ first (keep (λ k. not (occurs k l)) (range 0 kinds))
 
--- inhabited
+-- empty_kind, move_words
 
--- The records of v are in order, and r says so of the kinds too, or which of them is empty.
-pub record KindsChecked (v : List ℕ) (n : ℕ) (r : VocabularyAnswer) : Type 0 where
-  pub answer : vocabularyNumbers r ≡ checksReply v n
-  pub accepted : r ≡ Accepted → checksIn v n ≡ accept (vocabularyOf v n)
+abbrev pub signatureIn : List ℕ → ℕ → Signature
+signatureIn v n = signature (vocabularyOf v n)
+
+pub record Searched (v : List ℕ) (n : ℕ) (marked : List ℕ) (r : Missing) : Type 0 where
+  pub found : foundKind r ≡ firstEmpty (signatureIn v n)
+  pub marks : (k : ℕ) → r ≡ Kind k → Marks marked (reached (signatureIn v n) (byteAt v 0))
+
+-- The table before and after.
+abbrev pub MovesWords : List ℕ → ℕ → ℕ → List ℕ → List ℕ → List ℕ → Type 0
+MovesWords v n e marked before after =
+    (length after ≡ length before) ×
+    ((f : ℕ) → n ≤ f → getD after f 0 ≡ getD before f 0) ×
+    ((l : List ℕ) → Marks marked l → (f : ℕ) → f < n →
+    getD after f 0 ≡ cond (covered (getD (recordsIn v n) f noWord .kinds) l) (getD before f 0) e)

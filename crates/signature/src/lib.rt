@@ -1,24 +1,23 @@
-// Document 01's check of a vocabulary, and its records in tables: offsets, result kinds and place maps.
+// Document 01's check of a vocabulary, its records in tables: offsets, result kinds and place maps, and which kinds have complete
+// situations.
 ghost use mathlib.Core.Path.{_≡_};
 ghost use Prim.Native.Nat.{_+_, _<_, _≤_};
 ghost use lib.ListN.{length, getD};
-ghost use Rattle.terms.specs.Emptiness.{firstEmpty};
 ghost use Rattle.wire.specs.Checking.{VocabularyPromise};
 ghost use Rattle.wire.specs.CheckComputed.{vocabularyReply};
-ghost use Rattle.wire.specs.Vocabulary.{signature};
 ghost use Rattle.wire.specs.VocabularyLines.{byteAt};
 ghost use Rattle.signature.specs.Answers.{vocabularyNumbers};
-ghost use Rattle.signature.specs.Tables.{LoadedFrom};
-ghost use Rattle.signature.specs.Loading.{KindsRead, RecordRead, Sized, Filled, WordsLoaded, Markable, Covers, PlacesInside, PlacesCovered, Grows, FirstMissing, KindsChecked, foundKind, vocabularyOf};
+ghost use Rattle.signature.specs.Tables.{Tables, LoadedFrom};
+ghost use Rattle.signature.specs.Settled.{Settles, SettledFrom};
+ghost use Rattle.signature.specs.Loading.{KindsRead, RecordRead, Sized, Filled, WordsLoaded, Markable, Covers, PlacesInside, PlacesCovered, Round, FirstMissing, Searched, MovesWords};
 
-// Why a vocabulary is refused, with the place where it is not fixed: document 01, lines 1 to 6.
+// Why a vocabulary is refused, with the place where it is not fixed: document 01, lines 1 to 5.
 pub enum VocabularyRefusal {
     Head,
     WordCount,
     Ends(usize),
     NoSuchKind(usize),
     Continues(usize),
-    EmptyKind(usize),
 }
 
 pub enum VocabularyAnswer {
@@ -34,9 +33,15 @@ enum WordRead {
 }
 
 // The lowest kind without complete situations, where there is one.
-enum Missing {
+pub enum Missing {
     Kind(usize),
     Nothing,
+}
+
+// A vocabulary is loaded, with such a kind or without, or is refused.
+pub enum SettledAnswer {
+    Loaded(Missing),
+    Refused(VocabularyRefusal),
 }
 
 fn wide(b: u8) -> usize
@@ -163,7 +168,8 @@ fn places_covered<'a>(
     covered(v, at + maps::NODE, n as usize, marked)
 }
 
-// One round: marks the result kind of every word whose places' kinds are marked. A word of a marked kind adds nothing.
+// One round: marks the result kind of every word whose places' kinds are marked, and says whether one was marked. A word of a
+// marked kind adds nothing.
 fn mark_round<'a>(
     v: &[u8],
     words: usize,
@@ -171,22 +177,25 @@ fn mark_round<'a>(
     results: &'a [u8; 96],
     maps: &'a [u8; 96],
     marked: &mut [u8; 16],
-)
+) -> bool
     requires { ⌜ words ≤ 96 ⌝ }
     requires { ⌜ byteAt (now v) 0 ≤ 16 ⌝ }
     requires { ⌜ Filled (now v) words (now offsets) (now results) (now maps) ⌝ }
-    ensures { λ _. ⌜ Grows (now (v .entry)) words (now (marked .entry)) (now (marked .exit)) ⌝ }
+    ensures { λ r. ⌜ Round (now (v .entry)) words (now (marked .entry)) (now (marked .exit)) r ⌝ }
 {
+    let mut changed = false;
     let mut w = 0;
     while w < words {
         let kind = wide(results[w]);
         if marked[kind] == 0 {
             if places_covered(v, w, offsets, maps, marked) {
                 marked[kind] = 1;
+                changed = true;
             }
         }
         w += 1;
     }
+    changed
 }
 
 // The lowest kind that is not marked.
@@ -204,8 +213,8 @@ fn first_missing(kinds: usize, marked: &[u8; 16]) -> Missing
     Missing::Nothing
 }
 
-// The lowest kind without complete situations: as many rounds as there are kinds reach all others. A round takes no
-// mark away, so the rounds end where every kind is marked.
+// The lowest kind without complete situations: as many rounds as there are kinds mark all others. A round takes no
+// mark away, so the rounds end where every kind is marked, or one marks nothing.
 fn empty_kind<'a>(
     v: &[u8],
     kinds: usize,
@@ -213,46 +222,83 @@ fn empty_kind<'a>(
     offsets: &'a [u16; 96],
     results: &'a [u8; 96],
     maps: &'a [u8; 96],
+    marked: &mut [u8; 16],
 ) -> Missing
     requires { ⌜ words ≤ 96 ⌝ }
     requires { ⌜ kinds ≤ 16 ⌝ }
     requires { ⌜ kinds ≡ byteAt (now v) 0 ⌝ }
     requires { ⌜ Filled (now v) words (now offsets) (now results) (now maps) ⌝ }
-    ensures { λ r. ⌜ foundKind r ≡ firstEmpty (signature (vocabularyOf (now (v .entry)) words)) ⌝ }
+    ensures { λ r. ⌜ Searched (now (v .entry)) words (now (marked .exit)) r ⌝ }
 {
-    let mut marked = [0u8; 16];
+    *marked = [0u8; 16];
     let mut round = 0;
     while round < kinds {
-        mark_round(v, words, offsets, results, maps, &mut marked);
-        match first_missing(kinds, &marked) {
+        let changed = mark_round(v, words, offsets, results, maps, marked);
+        match first_missing(kinds, marked) {
             Missing::Nothing => {
                 return Missing::Nothing;
             }
-            Missing::Kind(_) => {}
+            Missing::Kind(k) => {
+                if !changed {
+                    return Missing::Kind(k);
+                }
+            }
         }
         round += 1;
     }
-    first_missing(kinds, &marked)
+    first_missing(kinds, marked)
 }
 
-// Sees that each kind has a complete situation.
-fn inhabited<'a>(
+// Gives every word one of whose places' kinds is not marked the kind e.
+fn move_words<'a>(
+    v: &[u8],
+    words: usize,
+    e: u8,
+    offsets: &'a [u16; 96],
+    maps: &'a [u8; 96],
+    marked: &[u8; 16],
+    settled: &mut [u8],
+)
+    requires { ⌜ length (now settled) ≡ 96 ⌝ }
+    requires { ⌜ words ≤ 96 ⌝ }
+    requires { ⌜ byteAt (now v) 0 ≤ 16 ⌝ }
+    requires { ⌜ Filled (now v) words (now offsets) (now settled) (now maps) ⌝ }
+    ensures { λ _. ⌜ MovesWords (now (v .entry)) words e (now (marked .entry)) (now (settled .entry)) (now (settled .exit)) ⌝ }
+{
+    let mut w = 0;
+    while w < words {
+        if !places_covered(v, w, offsets, maps, marked) {
+            settled[w] = e;
+        }
+        w += 1;
+    }
+}
+
+// Works out which kinds have complete situations, and fills a table of result kinds for listings: every word that no
+// complete situation has is given the lowest kind without any.
+fn settle<'a>(
     v: &[u8],
     kinds: usize,
     words: usize,
     offsets: &'a [u16; 96],
     results: &'a [u8; 96],
     maps: &'a [u8; 96],
-) -> VocabularyAnswer
+    settled: &mut [u8; 96],
+) -> Missing
     requires { ⌜ words ≤ 96 ⌝ }
     requires { ⌜ kinds ≤ 16 ⌝ }
     requires { ⌜ kinds ≡ byteAt (now v) 0 ⌝ }
-    requires { ⌜ Filled (now v) words (now offsets) (now results) (now maps) ⌝ }
-    ensures { λ r. ⌜ KindsChecked (now (v .entry)) words r ⌝ }
+    requires { ⌜ Tables (now v) words (now offsets) (now results) (now maps) ⌝ }
+    ensures { λ r. ⌜ Settles (now (v .entry)) words (now (results .entry)) (now (settled .exit)) r ⌝ }
 {
-    match empty_kind(v, kinds, words, offsets, results, maps) {
-        Missing::Kind(k) => VocabularyAnswer::Refused(VocabularyRefusal::EmptyKind(k)),
-        Missing::Nothing => VocabularyAnswer::Accepted,
+    let mut marked = [0u8; 16];
+    *settled = *results;
+    match empty_kind(v, kinds, words, offsets, results, maps, &mut marked) {
+        Missing::Nothing => Missing::Nothing,
+        Missing::Kind(e) => {
+            move_words(v, words, e as u8, offsets, maps, &marked, settled);
+            Missing::Kind(e)
+        }
     }
 }
 
@@ -283,9 +329,32 @@ pub fn load(
     if 96 < words {
         return VocabularyAnswer::Refused(VocabularyRefusal::WordCount);
     }
-    match read_words(v, words, kinds, offsets, results, maps) {
-        VocabularyAnswer::Accepted => inhabited(v, wide(kinds), words, offsets, results, maps),
-        VocabularyAnswer::Refused(why) => VocabularyAnswer::Refused(why),
+    read_words(v, words, kinds, offsets, results, maps)
+}
+
+// Reads a vocabulary into the lent tables, works out which of its kinds have complete situations, and fills the table by which
+// listings go: the words' result kinds, but that every word which no complete situation has is given the lowest kind without
+// any. A refusal leaves that table as it was.
+pub fn load_settled(
+    v: &[u8],
+    offsets: &mut [u16; 96],
+    results: &mut [u8; 96],
+    maps: &mut [u8; 96],
+    settled: &mut [u8; 96],
+) -> SettledAnswer
+    ensures { λ r. ⌜ SettledFrom (now (v .entry)) (now (offsets .entry)) (now (results .entry)) (now (maps .entry)) (now (settled .entry)) (now (offsets .exit)) (now (results .exit)) (now (maps .exit)) (now (settled .exit)) r ⌝ }
+{
+    match load(v, offsets, results, maps) {
+        VocabularyAnswer::Refused(why) => SettledAnswer::Refused(why),
+        VocabularyAnswer::Accepted => SettledAnswer::Loaded(settle(
+            v,
+            wide(v[0]),
+            wide(v[1]),
+            offsets,
+            results,
+            maps,
+            settled,
+        )),
     }
 }
 

@@ -19,7 +19,7 @@ use Rattle.terms.specs.Term.{Term}
 use Rattle.wire.specs.Map.{mapBytes}
 use Rattle.wire.specs.Vocabulary.{Vocabulary, InOrder, word, mostWords}
 use Rattle.wire.specs.TermBytes.{encodeTerm, GoodTerm, mostBytes}
-use Rattle.wire.specs.Leftovers.{entriesOf, listingBytes}
+use Rattle.wire.specs.ListComputed.{entriesOf, listingBytes}
 use Rattle.kinds.specs.Kinds.{othersIn}
 
 abbrev pub summedBy : ℕ → (ℕ → ℕ → ℕ) → ℕ → List ℕ → ℕ → ℕ

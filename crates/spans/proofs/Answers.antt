@@ -30,7 +30,7 @@ abbrev pub lineOf : Reply → ℕ
 lineOf (accepted l) = 0
 lineOf (refused n i q) = n
 
--- Lines 1 to 17.
+-- Lines 1 to 5 and 7 to 17.
 pub record Lined (r : Reply) : Type 0 where
   pub some : 1 ≤ lineOf r
   pub few : lineOf r ≤ 17
@@ -41,7 +41,6 @@ vocabulary-line Voc.WordCount = record { some = omega arith; few = omega arith }
 vocabulary-line (Voc.Ends q) = record { some = omega arith; few = omega arith }
 vocabulary-line (Voc.NoSuchKind q) = record { some = omega arith; few = omega arith }
 vocabulary-line (Voc.Continues q) = record { some = omega arith; few = omega arith }
-vocabulary-line (Voc.EmptyKind q) = record { some = omega arith; few = omega arith }
 
 term-line : (i : ℕ) (why : TermRefusal) → Lined (termRefused i why)
 term-line i T.Size = record { some = omega arith; few = omega arith }

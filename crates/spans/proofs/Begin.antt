@@ -72,7 +72,7 @@ module _ {p s : List ℕ} (a : InputsRead p s) where
       go : (t : Term) → getD (encodeRoot W t) 0 0 ≡ 255 → All (λ n. n < nameCount) (names t) → Sorted (signature W) t (x .kind) → t ≡ any
       go any b h k = refl
       go (var n) b h k = absurd (let low = h .0 in omega arith)
-      go (app f ts) b h k = absurd (let low = k .0 in omega (arith, length-symbols W, a .held .vocabulary .good .inOrder .fewWords))
+      go (app f ts) b h k = absurd (let low = k .0 in omega (arith, length-symbols W, a .held .vocabulary .inOrder .fewWords))
 
   root-written : (getD p 1 0 ≡ 255 → ⊥) → isOpen (x .pattern) ≡ false
   root-written d = go (x .pattern) (λ e. d (root-byte ∙ e))

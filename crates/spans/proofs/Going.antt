@@ -29,7 +29,7 @@ use Rattle.spans.proofs.Names.{AtName, at-name, name-inside, name-known
 use Rattle.spans.proofs.Begin.{walked-none}
 
 abbrev pub inOrder : {p s : List ℕ} (a : InputsRead p s) → InOrder (a .inputs .vocabulary)
-inOrder a = a .held .vocabulary .good .inOrder
+inOrder a = a .held .vocabulary .inOrder
 
 module _ {p s spans : List ℕ} {i j : ℕ} (c : Going p s spans i j) (some : i < length p) where
   pub going-faces : (a : InputsRead p s) → Facing (a .inputs) p s spans (record { written = true; level = 0 }) [] i j

@@ -47,7 +47,7 @@ module _ (p s spans : List ℕ) (blank : spans ≡ replicate 128 0) (high : 128 
       go any c e = absurd (true≢false e)
       go (var n) c e = record { name = n; side = c }
       go (app f ts) c e =
-          absurd (omega (arith, one-byte p 1 _ _ (c .pattern) .first, due c .1 .1 .term .0 .0, length-symbols (x .vocabulary), a .held .vocabulary .good .inOrder .fewWords))
+          absurd (omega (arith, one-byte p 1 _ _ (c .pattern) .first, due c .1 .1 .term .0 .0, length-symbols (x .vocabulary), a .held .vocabulary .inOrder .fewWords))
 
   abbrev at-root : AtName x p s spans [] 1 1
   at-root = record {

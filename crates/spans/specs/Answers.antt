@@ -10,7 +10,7 @@ use Rattle.inputs.specs.Answers.{inputsRefused}
 use Rattle.spans.specs.declared.SpansAnswer.{SpansAnswer}
 use Rattle.spans.specs.declared.SpansAnswer.the-variants.{Fits, Differs, Refused}
 
--- Lines 1 to 17.
+-- Lines 1 to 5 and 7 to 17.
 abbrev pub spansNumbers : SpansAnswer → Reply
 spansNumbers Fits = yes
 spansNumbers Differs = no

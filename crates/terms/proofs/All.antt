@@ -1,5 +1,5 @@
 -- All: what holds of each element of a list, carried through the list's operations.
-use mathlib.Core.Path.{_≡_, refl, ap₂}
+use mathlib.Core.Path.{_≡_, refl, ap, ap₂, fun-ext}
 use mathlib.Core.Bool.{Bool, true, false, cond}
 use mathlib.Core.List.{List, [], _∷_, _++_, map}
 use Prim.Native.Nat.{ℕ, zero, suc, _+_, _<_}
@@ -79,7 +79,10 @@ all-range from zero = tt
 all-range from (suc n) =
     (omega arith, all-implies (λ k. k < suc from + n) (λ k. k < from + suc n) (λ k h. omega arith) (range (suc from) n) (all-range (suc from) n))
 
--- Two functions that agree on each element.
+-- Two functions that agree, everywhere or on each element.
+pub map-same : {A B : Type 0} (f g : A → B) (l : List A) → ((x : A) → f x ≡ g x) → map f l ≡ map g l
+map-same f g l e = ap (λ h. map h l) (fun-ext e)
+
 pub map-agree : {A B : Type 0} (f g : A → B) (l : List A) → All (λ x. f x ≡ g x) l → map f l ≡ map g l
 map-agree f g [] a = refl
 map-agree {B = B} f g (x ∷ l) a = ap₂ {C = List B} _∷_ (a .0) (map-agree f g l (a .1))

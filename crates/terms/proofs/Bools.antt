@@ -1,5 +1,5 @@
 -- Bools: laws of tests: what a conjunction and a disjunction say of their parts, and equality of numbers.
-use mathlib.Core.Path.{_≡_, refl, sym, ap}
+use mathlib.Core.Path.{_≡_, refl, sym, _∙_, ap}
 use mathlib.Core.Bool.{Bool, true, false, not, _&&_, _||_, and-false, true≢false, false≢true}
 use Prim.Native.Nat.{ℕ}
 use lib.Dec.{eqb}
@@ -27,6 +27,10 @@ and-both false b e h = e
 pub and-always : (a b : Bool) → b ≡ true → (a && b) ≡ a
 and-always true b e = e
 and-always false b e = refl
+
+-- Two conjunctions with a part that fails are the same.
+pub and-fails : (a b c d : Bool) → c ≡ false → d ≡ false → (a && c) ≡ (b && d)
+and-fails a b c d e h = ap (λ x. a && x) e ∙ and-false a ∙ sym (ap (λ x. b && x) h ∙ and-false b)
 
 -- Two tests that agree where c holds are the same beside c.
 pub and-where : (a b c : Bool) → (c ≡ true → a ≡ b) → (a && c) ≡ (b && c)

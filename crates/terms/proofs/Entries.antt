@@ -11,7 +11,7 @@ use Rattle.terms.specs.Lists.{All, NoneTwice, range}
 use Rattle.terms.specs.Signature.{Signature, result, arguments}
 use Rattle.terms.specs.Term.{Term, any, var, app, Terms, nil, cons, Sorted, SortedAll, names, namesAll, Linear}
 use Rattle.terms.specs.Listing.{others, allOpen, bare, openEvery, listing, listingAll}
-use Rattle.terms.specs.Laws.{EntriesAreLinearPatterns}
+use Rattle.terms.specs.Laws.{PatternsOfSort}
 use Rattle.terms.proofs.Bools.{and-parts}
 use Rattle.terms.proofs.All.{all-always, all-implies, all-both, all-append, all-left, all-right, all-keep, all-maps, all-range}
 use Rattle.terms.proofs.Occurs.{none-twice-front}
@@ -110,6 +110,6 @@ mutual
       (all-implies (λ es. NoneTwice ((l ++ names t) ++ namesAll es)) (λ es. NoneTwice (l ++ (names t ++ namesAll es)))
       (λ es a. rw append-assoc at a) (listingAll S ts) (entries-linear-all S ts (l ++ names t) v))
 
-pub entries-are-linear-patterns : EntriesAreLinearPatterns
-entries-are-linear-patterns S p s h u =
+pub listing-linear : (S : Signature) (p : Term) (s : ℕ) → Sorted S p s → Linear p → PatternsOfSort S s (listing S p)
+listing-linear S p s h u =
     all-both (λ e. Sorted S e s) Linear (listing S p) (entries-sorted S p s h) (entries-linear S p [] u)

@@ -3,10 +3,11 @@
 --   A                      document 01's vocabulary A as a signature: step 0, button 1, queue 2
 --   p                      the pattern wait(up, free)
 --   incident               the situation wait(up, full)
---   listed                 the leftovers are done, wait(down, _) and wait(up, full)
+--   entries                done, wait(down, _) and wait(up, full)
+--   inhabited              each of A's sorts has a ground term
+--   listed                 the leftovers are these entries
 --   incident-third         the situation fits the third leftover
 --   incident-only-third    .. and neither the pattern nor another leftover
---   inhabited              each of A's sorts has a ground term
 --   each-has-its-own       each leftover has a ground term that fits it and nothing else
 --
 use mathlib.Core.Path.{_≡_, refl, sym, _∙_}
@@ -19,9 +20,8 @@ use Rattle.terms.specs.Term.{Term, any, app, nil, cons, Ground, gapp, gn
 use Rattle.terms.specs.Filling.{Fits}
 use Rattle.terms.specs.Matcher.{noFilling}
 use Rattle.terms.specs.Inhabited.{Inhabited}
-use Rattle.terms.specs.Listing.{listing, Needed}
-use Rattle.terms.specs.Laws.{withEntries}
-use Rattle.terms.proofs.Theorems.{matcher-is-exact, entries-are-linear-patterns, partition, strike-out, first-empty-is-exact}
+use Rattle.terms.specs.Listing.{IsListing, Needed}
+use Rattle.terms.proofs.Theorems.{matcher-is-exact, entries-are-linear-patterns, earlier-listings, partition, strike-out, emptiness-is-exact}
 
 abbrev word : ℕ → List ℕ → Symbol
 word s ks = record { result = s; arguments = ks }
@@ -39,10 +39,8 @@ p = app 0 (cons (app 1 nil) (cons (app 3 nil) nil))
 abbrev incident : Ground
 incident = gapp 0 (gcons (gapp 1 gnil) (gcons (gapp 4 gnil) gnil))
 
-listed :
-    listing A p ≡
-    app 5 nil ∷ app 0 (cons (app 2 nil) (cons any nil)) ∷ app 0 (cons (app 1 nil) (cons (app 4 nil) nil)) ∷ []
-listed = refl
+abbrev entries : List Term
+entries = app 5 nil ∷ app 0 (cons (app 2 nil) (cons any nil)) ∷ app 0 (cons (app 1 nil) (cons (app 4 nil) nil)) ∷ []
 
 well-formed : WellFormed A
 well-formed = omega arith
@@ -56,18 +54,21 @@ p-linear = tt
 incident-sorted : SortedG A incident 0
 incident-sorted = omega arith
 
-incident-third : Fits A (getD (withEntries A p) 3 any) 0 incident
-incident-third =
-    let entry = entries-are-linear-patterns A p 0 p-sorted p-linear .1 .1 .0 in
-    (noFilling, matcher-is-exact A (getD (withEntries A p) 3 any) 0 incident noFilling (entry .0) incident-sorted .0 refl)
+inhabited : Inhabited A
+inhabited = emptiness-is-exact A well-formed .missed .0 refl
 
-incident-only-third : (j : ℕ) → j < 4 → Fits A (getD (withEntries A p) j any) 0 incident → j ≡ 3
+listed : IsListing A 0 p entries
+listed = earlier-listings A p 0 well-formed inhabited (omega arith) p-sorted p-linear entries .1 refl
+
+incident-third : Fits A (getD (p ∷ entries) 3 any) 0 incident
+incident-third =
+    let entry = entries-are-linear-patterns A p 0 entries p-sorted p-linear listed .1 .1 .0 in
+    (noFilling, matcher-is-exact A (getD (p ∷ entries) 3 any) 0 incident noFilling (entry .0) incident-sorted .0 refl)
+
+incident-only-third : (j : ℕ) → j < 4 → Fits A (getD (p ∷ entries) j any) 0 incident → j ≡ 3
 incident-only-third j b h =
-    let one = partition A p 0 p-sorted p-linear incident incident-sorted in
+    let one = partition A p 0 entries well-formed p-sorted p-linear listed incident incident-sorted in
     one .only j b h ∙ sym (one .only 3 (omega arith) incident-third)
 
-inhabited : Inhabited A
-inhabited = first-empty-is-exact A well-formed .missed .0 refl
-
-each-has-its-own : (i : ℕ) → i < 3 → Needed A p (listing A p) 0 i
-each-has-its-own = strike-out A p 0 well-formed inhabited p-sorted p-linear
+each-has-its-own : (i : ℕ) → i < 3 → Needed A p entries 0 i
+each-has-its-own = strike-out A p 0 entries well-formed p-sorted p-linear listed

@@ -1,7 +1,6 @@
 -- Inhabited: the rounds of grow reach exactly the sorts with a ground term, so the first sort that is not
--- reached is the lowest empty one.
+-- reached has none.
 --
---   HasGround S k      the sort k has a ground term
 --   Within l m         whatever is in l is in m
 --   Sound S l          every sort in l has a ground term
 --   Closed ks l        each of the symbols ks whose argument sorts are in l has its result sort in l
@@ -9,6 +8,12 @@
 --   size S l           how many sorts of S are in l
 --   adds s l           the symbol s has its argument sorts in l, and not yet its result sort
 --   Gain ks l m        the result sort of one of the symbols ks is in m and not in l
+--   emptiness-is-exact what the search finds is exact
+--   inhabited-ground   an inhabited sort has a ground term, in any signature
+--   productive-result  the result sort of a productive symbol is inhabited
+--   ground-inhabited   the sort of a ground term is inhabited
+--   ground-productive  the symbol of a ground term is productive
+--   all-productive     over inhabited sorts every symbol is productive
 --
 use mathlib.Core.Path.{_≡_, refl, sym, _∙_, ap, subst}
 use mathlib.Core.Bool.{Bool, true, false, not, _&&_, _||_, true≢false, false≢true}
@@ -25,17 +30,15 @@ use borrow.Author.Tests.{eqb-true, not-true, not-false}
 use Rattle.terms.specs.Lists.{All, occurs, range}
 use Rattle.terms.specs.Signature.{Symbol, Signature, noSymbol, symbol, result, arguments, WellFormed}
 use Rattle.terms.specs.Term.{Ground, gapp, Grounds, gnil, gcons, SortedG, SortedGs}
-use Rattle.terms.specs.Inhabited.{Inhabited, Empty, LeastEmpty}
-use Rattle.terms.specs.Emptiness.{covered, joined, grow, reached, FirstEmptyIsExact}
+use Rattle.terms.specs.Inhabited.{HasGround, Inhabited, Empty}
+use Rattle.terms.specs.Emptiness.{covered, joined, grow, reached, inhabited, EmptinessIsExact}
+use Rattle.terms.specs.Productive.{productive}
 use Rattle.terms.proofs.Signature.{symbol-sorts}
 use Rattle.terms.proofs.Bools.{and-parts, and-both, false-of-not}
 use Rattle.terms.proofs.All.{all-implies, all-at, at-all}
 use Rattle.terms.proofs.Occurs.{missing, occurs-head, occurs-tail, occurs-cases, occurs-range}
 use Rattle.terms.proofs.Count.{count, count-raise, count-full, length-range}
-use Rattle.terms.proofs.First.{firstOf, first-least, least-first, first-nowhere, nowhere-first}
-
-abbrev pub HasGround : Signature → ℕ → Type 0
-HasGround S k = (g : Ground) × SortedG S g k
+use Rattle.terms.proofs.First.{firstOf, first-least, first-nowhere, nowhere-first}
 
 abbrev pub Within : List ℕ → List ℕ → Type 0
 Within l m = (k : ℕ) → occurs k l ≡ true → occurs k m ≡ true
@@ -213,36 +216,23 @@ reached-closed S w = go (reached-raises S w (S .sorts))
     go (inl c) = c
     go (inr h) = full-closed S (reached S (S .sorts)) w h
 
--- A list that is sound and closed holds exactly the sorts with a ground term, and shows the lowest empty one.
+-- A list that is sound and closed holds exactly the sorts with a ground term, and shows an empty one.
 
 module _ (S : Signature) (l : List ℕ) (sound : Sound S l) (closed : Closed (S .symbols) l) where
   pub occurs-exact : (k : ℕ) → (occurs k l ≡ true) ↔ HasGround S k
   occurs-exact k = (sound k, λ g. closed-complete S l closed (g .0) k (g .1))
 
-  pub missing-empty : (k : ℕ) → (missing l k ≡ true) ↔ Empty S k
-  missing-empty k = (
-    λ e g h. true≢false (sym (closed-complete S l closed g k h) ∙ not-true (occurs k l) e),
-    λ e. ap not (false-of-not (occurs k l) (λ o. e (sound k o .0) (sound k o .1))),
-  )
+  pub missing-empty : (k : ℕ) → missing l k ≡ true → Empty S k
+  missing-empty k e g h = true≢false (sym (closed-complete S l closed g k h) ∙ not-true (occurs k l) e)
 
   pub present-ground : (k : ℕ) → (missing l k ≡ false) ↔ HasGround S k
   present-ground k = (λ e. sound k (not-false (occurs k l) e), λ g. ap not (occurs-exact k .1 g))
 
-  pub missing-least : (k : ℕ) → (firstOf (missing l) 0 (S .sorts) ≡ some k) ↔ LeastEmpty S k
-  missing-least k = (to, from)
-    where
-      to : firstOf (missing l) 0 (S .sorts) ≡ some k → LeastEmpty S k
-      to e =
-          let r = first-least (missing l) 0 (S .sorts) k e in
-          record { below = omega arith; empty = missing-empty k .0 (r .passes); least = λ j h. present-ground j .0 (r .lower j zero-le h) }
-
-      from : LeastEmpty S k → firstOf (missing l) 0 (S .sorts) ≡ some k
-      from r = least-first (missing l) 0 (S .sorts) k (record {
-        low = zero-le;
-        high = omega arith;
-        passes = missing-empty k .1 (r .empty);
-        lower = λ j lo h. present-ground j .1 (r .least j h);
-      })
+  pub missing-found : (k : ℕ) → firstOf (missing l) 0 (S .sorts) ≡ some k →
+      (k < S .sorts) × Empty S k × ((j : ℕ) → j < k → HasGround S j)
+  missing-found k e =
+      let r = first-least (missing l) 0 (S .sorts) k e in
+      (omega arith, missing-empty k (r .passes), λ j h. sound j (not-false (occurs j l) (r .lower j zero-le h)))
 
   pub missing-none : (firstOf (missing l) 0 (S .sorts) ≡ none) ↔ Inhabited S
   missing-none = (
@@ -250,11 +240,34 @@ module _ (S : Signature) (l : List ℕ) (sound : Sound S l) (closed : Closed (S 
     λ i. nowhere-first (missing l) 0 (S .sorts) (λ j lo hi. present-ground j .1 (i j (omega arith))),
   )
 
-pub first-empty-is-exact : FirstEmptyIsExact
-first-empty-is-exact S w = record {
-  found = missing-least S (reached S (S .sorts)) (reached-sound S (S .sorts)) (reached-closed S w);
+pub emptiness-is-exact : EmptinessIsExact
+emptiness-is-exact S w = record {
+  ground = occurs-exact S (reached S (S .sorts)) (reached-sound S (S .sorts)) (reached-closed S w);
+  found = missing-found S (reached S (S .sorts)) (reached-sound S (S .sorts)) (reached-closed S w);
   missed = missing-none S (reached S (S .sorts)) (reached-sound S (S .sorts)) (reached-closed S w);
 }
+
+-- What it says of the sort and the symbol of a ground term.
+
+pub inhabited-ground : (S : Signature) (k : ℕ) → inhabited S k ≡ true → HasGround S k
+inhabited-ground S = reached-sound S (S .sorts)
+
+module _ (S : Signature) (w : WellFormed S) where
+  pub productive-result : (f : ℕ) → f < length (S .symbols) → productive S f ≡ true → inhabited S (result S f) ≡ true
+  productive-result f b = all-at (ClosedAt (reached S (S .sorts))) noSymbol (S .symbols) (reached-closed S w) f b
+
+  pub ground-inhabited : (g : Ground) (k : ℕ) → SortedG S g k → inhabited S k ≡ true
+  ground-inhabited = closed-complete S (reached S (S .sorts)) (reached-closed S w)
+
+  pub ground-productive : (f : ℕ) (gs : Grounds) → SortedGs S gs (arguments S f) → productive S f ≡ true
+  ground-productive f gs = closed-covered S (reached S (S .sorts)) (reached-closed S w) gs (arguments S f)
+
+  pub all-productive : Inhabited S → (f : ℕ) → f < length (S .symbols) → productive S f ≡ true
+  all-productive full f b = go (arguments S f) (symbol-sorts S w f b .1)
+    where
+      go : (ks : List ℕ) → All (λ k. k < S .sorts) ks → covered ks (reached S (S .sorts)) ≡ true
+      go [] a = refl
+      go (k ∷ ks) a = and-both _ _ (emptiness-is-exact S w .ground k .1 (full k (a .0))) (go ks (a .1))
 
 -- More rounds lose nothing.
 

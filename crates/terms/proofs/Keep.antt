@@ -1,7 +1,7 @@
 -- Keep: laws of the elements that pass a test, and of ranges in two parts.
 use mathlib.Core.Path.{_≡_, refl, sym, _∙_, ap, ap₂, fun-ext}
 use mathlib.Core.Bool.{Bool, true, false, cond, _&&_, _||_, and-false}
-use mathlib.Core.List.{List, [], _∷_, _++_}
+use mathlib.Core.List.{List, [], _∷_, _++_, map}
 use Prim.Native.Nat.{ℕ, zero, suc, _+_}
 use native.Mathlib.Omega.{arith}
 use lib.Dec.{eqb}
@@ -38,6 +38,22 @@ module _ {A : Type 0} where
           cond b (x ∷ keep p (l ++ m)) (keep p (l ++ m)) ≡ cond b (x ∷ keep p l) (keep p l) ++ keep p m
       go true e = ap (λ k. x ∷ k) e
       go false e = e
+
+pub keep-map : {A B : Type 0} (p : B → Bool) (f : A → B) (l : List A) → keep p (map f l) ≡ map f (keep (λ x. p (f x)) l)
+keep-map p f [] = refl
+keep-map {A = A} {B = B} p f (x ∷ l) = go (p (f x)) (keep-map p f l)
+  where
+    go : (b : Bool) → keep p (map f l) ≡ map f (keep (λ x. p (f x)) l) →
+        cond b (f x ∷ keep p (map f l)) (keep p (map f l)) ≡ map {A = A} {B = B} f (cond b (x ∷ keep (λ x. p (f x)) l) (keep (λ x. p (f x)) l))
+    go true e = ap (λ k. f x ∷ k) e
+    go false e = e
+
+-- Of two mapped lists, the elements are kept whose origins pass the test.
+pub keep-maps : {A B C : Type 0} (p : C → Bool) (f : A → C) (h : B → C) (q : A → Bool) (r : B → Bool) (l : List A) (m : List B) →
+    ((x : A) → p (f x) ≡ q x) → ((y : B) → p (h y) ≡ r y) → keep p (map f l ++ map h m) ≡ map f (keep q l) ++ map h (keep r m)
+keep-maps p f h q r l m a b =
+    keep-append p (map f l) (map h m)
+    ∙ ap₂ _++_ (keep-map p f l ∙ ap (map f) (keep-same _ q l a)) (keep-map p h m ∙ ap (map h) (keep-same _ r m b))
 
 pub range-append : (from n m : ℕ) → range from (n + m) ≡ range from n ++ range (from + n) m
 range-append from zero m = ap₂ range (let e : from ≡ from + 0 = omega arith in e) (let e : 0 + m ≡ m = omega arith in e)

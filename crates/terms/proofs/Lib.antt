@@ -4,6 +4,7 @@ pub mod Bools
 pub mod All
 pub mod Occurs
 pub mod Keep
+pub mod Kept
 pub mod Distinct
 pub mod Count
 pub mod First
@@ -21,23 +22,31 @@ pub mod Variables
 pub mod Sorts
 pub mod Substitution
 pub mod Replacing
+-- On empty sorts.
+pub mod Inhabited
 -- On listings.
 pub mod Entries
 pub mod Fit
+pub mod Fitted
+pub mod Listing
 pub mod Partition
 pub mod StrikeOut
 pub mod Represents
+pub mod Settled
 -- On books.
 pub mod Nameless
 pub mod Fresh
 pub mod Sharing
 pub mod CutEach
 pub mod Cut
+pub mod LeftBehind
+pub mod BookListing
 pub mod Book
 pub mod BookRepresents
--- On empty sorts.
-pub mod Inhabited
+pub mod EarlierBooks
+pub mod BookTurns
 -- All of it.
 pub mod Theorems
 pub mod Incident
 pub mod BookExample
+pub mod EmptyExample

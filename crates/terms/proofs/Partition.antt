@@ -1,10 +1,12 @@
 -- Partition: every ground term of the sort is counted once among the pattern and its entries.
 --
---   counted-once         the count, which needs no pattern to be linear
---   counted-fits-one     of linear terms, a ground term that is counted once fits exactly one, by one filling
+--   counted-once             the count, which needs no pattern to be linear, over all entries
+--   counted-once-listed   .. and over those that some ground term fits
+--   counted-fits-one         of linear terms, a ground term that is counted once fits exactly one, by one filling
+--   partition                every ground term fits exactly one of a linear pattern and its entries, by one filling
 --
 use mathlib.Core.Path.{_≡_, refl, sym, _∙_, ap, subst}
-use mathlib.Core.Bool.{Bool, true, false, not, _&&_, and-true}
+use mathlib.Core.Bool.{Bool, true, false, not, _&&_, and-true, true≢false}
 use mathlib.Core.List.{List, [], _∷_}
 use Prim.Native.Nat.{ℕ, _+_, _<_}
 use native.Mathlib.Omega.{arith}
@@ -12,15 +14,19 @@ use lib.Dec.{eqb}
 use lib.ListN.{length, getD}
 use borrow.Author.Tests.{eq-eqb, eqb-true}
 use Rattle.terms.specs.Lists.{range}
-use Rattle.terms.specs.Signature.{Signature, result, arguments}
+use Rattle.terms.specs.Signature.{Signature, result, arguments, WellFormed}
 use Rattle.terms.specs.Term.{Term, any, var, app, Terms, nil, cons, Ground, gapp, Grounds, gnil, gcons, Sorted, SortedAll, SortedG, SortedGs, Linear}
 use Rattle.terms.specs.Listing.{others, bare, openEvery, listing, listingAll, FitsExactlyOne}
-use Rattle.terms.specs.Laws.{withEntries, Partition, PatternsOfSort}
-use Rattle.terms.proofs.Bools.{eqb-sym, and-always, and-where}
+use Rattle.terms.specs.Productive.{fitted, listingOf}
+use Rattle.terms.specs.Laws.{Partition, PatternsOfSort}
+use Rattle.terms.proofs.Bools.{eqb-sym, and-always, and-where, false-of-not}
 use Rattle.terms.proofs.Count.{bit, count, count-same, count-never, count-beside, count-keep, count-range, count-one, count-maps}
 use Rattle.terms.proofs.All.{all-at}
 use Rattle.terms.proofs.Fit.{fit, fitAll, open-fits, fit-once, fits-fit}
-use Rattle.terms.proofs.Entries.{open-every-all-open, entries-are-linear-patterns}
+use Rattle.terms.proofs.Inhabited.{ground-inhabited}
+use Rattle.terms.proofs.Entries.{open-every-all-open}
+use Rattle.terms.proofs.Fitted.{fit-fitted, count-fitted}
+use Rattle.terms.proofs.Listing.{listing-of-fitted, listing-of-open, is-listing-of, entries-are-linear-patterns}
 
 -- A symbol with every place open fits the terms of that symbol and no others.
 opened-fits : (S : Signature) (h k : ℕ) (gs : Grounds) → SortedGs S gs (arguments S k) → fit (bare S h) (gapp k gs) ≡ eqb h k
@@ -97,6 +103,17 @@ mutual
   counted-once-all S (cons t ts) (k ∷ ks) (gcons g gs) h a =
       count-cons S t ts ks g gs (h .1) (a .1) (counted-once S t k g (h .0) (a .0)) (counted-once-all S ts ks gs (h .1) (a .1))
 
+-- Where the pattern is not fitted, no ground term fits it, and every one fits the open place that is listed.
+pub counted-once-listed : (S : Signature) (p : Term) (s : ℕ) (g : Ground) → WellFormed S → Sorted S p s → SortedG S g s →
+    bit (fit p g) + count (λ e. fit e g) (listingOf S s p) ≡ 1
+counted-once-listed S p s g wf h k = go (fitted S s p) refl
+  where
+    go : (b : Bool) → fitted S s p ≡ b → bit (fit p g) + count (λ e. fit e g) (listingOf S s p) ≡ 1
+    go true e = rw (listing-of-fitted S s p e, count-fitted S wf g s k (listing S p)) (counted-once S p s g h k)
+    go false e =
+        let n : fit p g ≡ false = false-of-not (fit p g) (λ t. true≢false (sym (fit-fitted S wf p g s k t) ∙ e)) in
+        rw (listing-of-open S s p e (ground-inhabited S wf g s k), n) (omega arith)
+
 pub counted-fits-one : (S : Signature) (l : List Term) (s : ℕ) → PatternsOfSort S s l → (g : Ground) → SortedG S g s →
     count (λ e. fit e g) l ≡ 1 → FitsExactlyOne S l s g
 counted-fits-one S l s a g k c =
@@ -110,5 +127,6 @@ counted-fits-one S l s a g k c =
     }
 
 pub partition : Partition
-partition S p s h u g k =
-    counted-fits-one S (withEntries S p) s ((h, u), entries-are-linear-patterns S p s h u) g k (counted-once S p s g h k)
+partition S p s l wf h u is g k =
+    let once : bit (fit p g) + count (λ e. fit e g) l ≡ 1 = rw (is-listing-of S p s wf h u l is) (counted-once-listed S p s g wf h k) in
+    counted-fits-one S (p ∷ l) s ((h, u), entries-are-linear-patterns S p s l h u is) g k once

@@ -4,24 +4,24 @@
 --   some-instance            .. which is to fit some term of l
 --   variables-sorted         the terms of l with their variables have the sort
 --
-use mathlib.Core.List.{List, map, List·Memᴰ}
+use mathlib.Core.List.{List, _∷_, map, List·Memᴰ}
 use mathlib.Core.Logic.{_↔_}
 use Prim.Native.Nat.{ℕ, zero, suc, _<_}
 use native.Mathlib.Omega.{arith}
 use lib.ListN.{length, getD}
 use Rattle.terms.specs.Lists.{All}
-use Rattle.terms.specs.Signature.{Signature}
+use Rattle.terms.specs.Signature.{Signature, WellFormed}
 use Rattle.terms.specs.Term.{Term, any, Ground, Sorted, SortedG, Linear}
 use Rattle.terms.specs.Filling.{Fits}
 use Rattle.terms.specs.Substitution.{Tm, asTm, withVariables}
 use Rattle.terms.specs.Instance.{SortedT, Instance}
-use Rattle.terms.specs.Listing.{listing}
+use Rattle.terms.specs.Listing.{IsListing}
 use Rattle.terms.specs.Book.{FitsSome}
-use Rattle.terms.specs.Laws.{withEntries, ListingRepresents, PatternsOfSort}
+use Rattle.terms.specs.Laws.{ListingRepresents, PatternsOfSort}
 use Rattle.terms.proofs.All.{all-implies, all-at, all-map}
 use Rattle.terms.proofs.Members.{mem-map-at, at-of-mem}
 use Rattle.terms.proofs.Term.{linear-well-sorted}
-use Rattle.terms.proofs.Entries.{entries-are-linear-patterns}
+use Rattle.terms.proofs.Listing.{entries-are-linear-patterns}
 use Rattle.terms.proofs.Partition.{partition}
 use Rattle.terms.proofs.Substitution.{with-variables-sorted, fitting-is-instance}
 
@@ -50,28 +50,28 @@ module _ (S : Signature) (l : List Term) (s : ℕ) (linear : PatternsOfSort S s 
       all-map (λ b. SortedT S b s) (λ e. withVariables S e s) l
       (all-implies (λ e. Sorted S e s × Linear e) (λ e. SortedT S (withVariables S e s) s) (λ e h. with-variables-sorted S e s 0 (h .0)) l linear)
 
-module _ (S : Signature) (p : Term) (s : ℕ) (sorted : Sorted S p s) (linear : Linear p) where
+module _ (S : Signature) (p : Term) (s : ℕ) (l : List Term) (wf : WellFormed S) (sorted : Sorted S p s) (linear : Linear p) (is : IsListing S s p l) where
   -- What is no instance of the pattern is one of the entry that Partition finds.
-  some-entry : (g : Ground) → SortedG S g s → (Instance S (withVariables S p s) (asTm g) → ⊥) → SomeInstance S (listing S p) s g
-  some-entry g k not-instance = let r = partition S p s sorted linear g k in go (r .index) (r .below) (r .once .filling, r .once .turns)
+  some-entry : (g : Ground) → SortedG S g s → (Instance S (withVariables S p s) (asTm g) → ⊥) → SomeInstance S l s g
+  some-entry g k not-instance = let r = partition S p s l wf sorted linear is g k in go (r .index) (r .below) (r .once .filling, r .once .turns)
     where
-      go : (i : ℕ) → i < length (withEntries S p) → Fits S (getD (withEntries S p) i any) s g → SomeInstance S (listing S p) s g
+      go : (i : ℕ) → i < length (p ∷ l) → Fits S (getD (p ∷ l) i any) s g → SomeInstance S l s g
       go zero b h = absurd (not-instance (linear-iff S p s (sorted, linear) g .0 h))
-      go (suc j) b h = some-instance S (listing S p) s (entries-are-linear-patterns S p s sorted linear) g .0 (j, omega arith, h)
+      go (suc j) b h = some-instance S l s (entries-are-linear-patterns S p s l sorted linear is) g .0 (j, omega arith, h)
 
   -- An instance of an entry is none of the pattern: Partition finds one index.
-  not-pattern : (g : Ground) → SortedG S g s → SomeInstance S (listing S p) s g → Instance S (withVariables S p s) (asTm g) → ⊥
+  not-pattern : (g : Ground) → SortedG S g s → SomeInstance S l s g → Instance S (withVariables S p s) (asTm g) → ⊥
   not-pattern g k some match =
-      let r = partition S p s sorted linear g k in
-      let (j, within, h) = some-instance S (listing S p) s (entries-are-linear-patterns S p s sorted linear) g .1 some in
+      let r = partition S p s l wf sorted linear is g k in
+      let (j, within, h) = some-instance S l s (entries-are-linear-patterns S p s l sorted linear is) g .1 some in
       let entry = r .only (suc j) (omega arith) h in
       let root = r .only 0 (omega arith) (linear-iff S p s (sorted, linear) g .1 match) in
       omega arith
 
 pub listing-represents : ListingRepresents
-listing-represents S p s sorted linear =
+listing-represents S p s l wf sorted linear is =
     record {
       term = with-variables-sorted S p s 0 sorted;
-      each = variables-sorted S (listing S p) s (entries-are-linear-patterns S p s sorted linear);
-      exact = λ g k. (some-entry S p s sorted linear g k, not-pattern S p s sorted linear g k);
+      each = variables-sorted S l s (entries-are-linear-patterns S p s l sorted linear is);
+      exact = λ g k. (some-entry S p s l wf sorted linear is g k, not-pattern S p s l wf sorted linear is g k);
     }

@@ -1,6 +1,6 @@
 -- Emptiness: the search for sorts without ground terms.
 --
--- This file is an algorithm, and nothing in it has to be believed: FirstEmptyIsExact fixes what it finds.
+-- This file is an algorithm, and nothing in it has to be believed: EmptinessIsExact fixes what it finds.
 --
 --   covered ks l       all of ks are in l
 --   joined k l         l, with the symbol k's result sort where its argument sorts are all in l
@@ -8,19 +8,21 @@
 --                      symbols behind it in the same round
 --   reached S n        what n rounds of grow reach, from no sort at all
 --   first l            the first number of l, where it has one
---   firstEmpty S       the lowest sort that is not reached in as many rounds as there are sorts
---   FirstEmptyExact S  firstEmpty gives the lowest sort without a ground term, and none where there is no such sort
---   FirstEmptyIsExact  .. for every well-formed signature
+--   inhabited S k      the sort k is reached in as many rounds as there are sorts
+--   firstEmpty S       the lowest sort that is not
+--   EmptinessExact S   these are the sorts with a ground term; firstEmpty gives the lowest sort without one, and none
+--                      where there is none
+--   EmptinessIsExact   .. for every well-formed signature
 --
 use mathlib.Core.Path.{_≡_}
 use mathlib.Core.Bool.{Bool, true, not, _&&_, cond}
 use mathlib.Core.List.{List, [], _∷_}
 use mathlib.Core.Logic.{_↔_}
 use mathlib.Core.Option.{Option, some, none}
-use Prim.Native.Nat.{ℕ, zero, suc}
+use Prim.Native.Nat.{ℕ, zero, suc, _<_}
 use Rattle.terms.specs.Lists.{occurs, range, keep}
 use Rattle.terms.specs.Signature.{Symbol, Signature, WellFormed}
-use Rattle.terms.specs.Inhabited.{Inhabited, LeastEmpty}
+use Rattle.terms.specs.Inhabited.{HasGround, Empty, Inhabited}
 
 abbrev pub covered : List ℕ → List ℕ → Bool
 covered [] l = true
@@ -41,12 +43,16 @@ abbrev pub first : List ℕ → Option ℕ
 first [] = none
 first (k ∷ ks) = some k
 
-abbrev pub firstEmpty : Signature → Option ℕ
-firstEmpty S = first (keep (λ k. not (occurs k (reached S (S .sorts)))) (range 0 (S .sorts)))
+abbrev pub inhabited : Signature → ℕ → Bool
+inhabited S k = occurs k (reached S (S .sorts))
 
-pub record FirstEmptyExact (S : Signature) : Type 0 where
-  pub found : (k : ℕ) → (firstEmpty S ≡ some k) ↔ LeastEmpty S k
+abbrev pub firstEmpty : Signature → Option ℕ
+firstEmpty S = first (keep (λ k. not (inhabited S k)) (range 0 (S .sorts)))
+
+pub record EmptinessExact (S : Signature) : Type 0 where
+  pub ground : (k : ℕ) → (inhabited S k ≡ true) ↔ HasGround S k
+  pub found : (k : ℕ) → firstEmpty S ≡ some k → (k < S .sorts) × Empty S k × ((j : ℕ) → j < k → HasGround S j)
   pub missed : (firstEmpty S ≡ none) ↔ Inhabited S
 
-abbrev pub FirstEmptyIsExact : Type 0
-FirstEmptyIsExact = (S : Signature) → WellFormed S → FirstEmptyExact S
+abbrev pub EmptinessIsExact : Type 0
+EmptinessIsExact = (S : Signature) → WellFormed S → EmptinessExact S

@@ -1,20 +1,18 @@
--- Inhabited: which sorts have a ground term, of any size and depth.
+-- Inhabited: which sorts have a ground term, of any size and depth (document 02 (iv): a kind may be "without situations").
 --
---   Inhabited S        every sort of S has a ground term
+--   HasGround S k      the sort k has a ground term
 --   Empty S k          no ground term has the sort k
---   LeastEmpty S k     k is the lowest sort without a ground term
+--   Inhabited S        every sort of S has a ground term, as document 01 asked of every vocabulary before document 02 (iv)
 --
 use Prim.Native.Nat.{ℕ, _<_}
 use Rattle.terms.specs.Signature.{Signature}
 use Rattle.terms.specs.Term.{Ground, SortedG}
 
-abbrev pub Inhabited : Signature → Type 0
-Inhabited S = (k : ℕ) → k < S .sorts → (g : Ground) × SortedG S g k
+abbrev pub HasGround : Signature → ℕ → Type 0
+HasGround S k = (g : Ground) × SortedG S g k
 
 abbrev pub Empty : Signature → ℕ → Type 0
 Empty S k = (g : Ground) → SortedG S g k → ⊥
 
-pub record LeastEmpty (S : Signature) (k : ℕ) : Type 0 where
-  pub below : k < S .sorts
-  pub empty : Empty S k
-  pub least : (j : ℕ) → j < k → (g : Ground) × SortedG S g j
+abbrev pub Inhabited : Signature → Type 0
+Inhabited S = (k : ℕ) → k < S .sorts → HasGround S k

@@ -13,5 +13,6 @@ pub mod Book
 -- Ways to compute it, each with the law that fixes it:
 pub mod Matcher
 pub mod Emptiness
+pub mod Productive
 -- What is proved of it:
 pub mod Laws

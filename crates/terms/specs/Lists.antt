@@ -9,6 +9,7 @@
 --   keep test l      the elements of l that pass the test, in their order
 --   orElse o p       the first of two things that may be missing
 --   Reordered l m    l has the elements of m, each as often as m has it, in some order
+--   Kept P l m       m is l with every element left out of which P does not hold
 --
 use mathlib.Core.Path.{_≡_}
 use mathlib.Core.Bool.{Bool, false, cond, not, _||_}
@@ -52,3 +53,8 @@ orElse none o = o
 pub data Reordered {A : Type 0} : List A → List A → Type 0 where
   empty : Reordered [] []
   moved : (x : A) (k r m l : List A) → l ≡ k ++ (x ∷ r) → Reordered (k ++ r) m → Reordered l (x ∷ m)
+
+pub data Kept {A : Type 0} (P : A → Type 0) : List A → List A → Type 0 where
+  nothing : Kept P [] []
+  stays : (x : A) (l m : List A) → P x → Kept P l m → Kept P (x ∷ l) (x ∷ m)
+  goes : (x : A) (l m : List A) → (P x → ⊥) → Kept P l m → Kept P (x ∷ l) m

@@ -16,11 +16,16 @@ use lib.Dec.{ltb}
 use lib.ListN.{length, getD, take}
 use borrow.Author.Tests.{lt-ltb, ltb-true}
 use Rattle.terms.specs.Term.{Term, any}
-use Rattle.terms.specs.Book.{against, behind}
+use Rattle.terms.specs.Signature.{WellFormed}
+use Rattle.terms.specs.Book.{IsBookListing}
+use Rattle.terms.specs.Productive.{wholeOf, leftBehind, leftInTurn, bookListingOf}
+use Rattle.terms.specs.Laws.{PatternsOfSort}
+use Rattle.terms.proofs.All.{all-take}
+use Rattle.terms.proofs.Theorems.{book-listing-is-one}
 use Rattle.wire.specs.Vocabulary.{Vocabulary, signature}
 use Rattle.wire.specs.TermBytes.{encodeTerm, mostBytes}
 use Rattle.wire.specs.BookBytes.{patternsBytes}
-use Rattle.wire.specs.BookLeftovers.{mostListed, PassesLimit, FirstPast, WithinLimits}
+use Rattle.wire.specs.BookLeftovers.{mostListed, PassesLimit, PassesBehind, FirstPast, WithinLimits}
 use Rattle.wire.specs.BookComputed.{someLong, passes, firstPast}
 use Rattle.wire.proofs.Cond.{choice}
 
@@ -75,7 +80,7 @@ module _ (W : Vocabulary) (s : ℕ) where
 
   -- What is left of the entries l behind the first patterns of ts, up to the k-th.
   abbrev PassesAt : List Term → List Term → ℕ → Type 0
-  PassesAt l ts k = PassesLimit W s (behind (signature W) (take (suc k) ts) l)
+  PassesAt l ts k = PassesLimit W s (leftInTurn (signature W) s (take (suc k) ts) l)
 
   -- The search for the first such pattern of ts, counted from i, found o.
   abbrev PastOf : ℕ → List Term → List Term → Option ℕ → Type 0
@@ -84,20 +89,20 @@ module _ (W : Vocabulary) (s : ℕ) where
   PastOf i l ts none = (m : ℕ) → m < length ts → PassesAt l ts m → ⊥
 
   -- What is left of the entries l behind t passes no limit.
-  module _ (l : List Term) (t : Term) (ts : List Term) (e : passes W s mostListed (against (signature W) t l) ≡ false) where
-    earlier : (k : ℕ) → ((m : ℕ) → m < k → PassesAt (against (signature W) t l) ts m → ⊥) →
+  module _ (l : List Term) (t : Term) (ts : List Term) (e : passes W s mostListed (leftBehind (signature W) s t l) ≡ false) where
+    earlier : (k : ℕ) → ((m : ℕ) → m < k → PassesAt (leftBehind (signature W) s t l) ts m → ⊥) →
         (m : ℕ) → m < suc k → PassesAt l (t ∷ ts) m → ⊥
-    earlier k h zero below p = true≢false (sym (passes-is (against (signature W) t l) .1 p) ∙ e)
+    earlier k h zero below p = true≢false (sym (passes-is (leftBehind (signature W) s t l) .1 p) ∙ e)
     earlier k h (suc m) below p = h m (omega arith) p
 
-    later : (i : ℕ) (o : Option ℕ) → PastOf (suc i) (against (signature W) t l) ts o → PastOf i l (t ∷ ts) o
+    later : (i : ℕ) (o : Option ℕ) → PastOf (suc i) (leftBehind (signature W) s t l) ts o → PastOf i l (t ∷ ts) o
     later i (some j) (k, at, below, p, h) = (suc k, omega arith, omega arith, p, earlier k h)
     later i none h = earlier (length ts) h
 
   first-past : (i : ℕ) (l ts : List Term) → PastOf i l ts (firstPast W s mostListed i l ts)
   first-past i l [] = λ m below. absurd (omega arith)
   first-past i l (t ∷ ts) =
-      let left : List Term = against (signature W) t l in
+      let left : List Term = leftBehind (signature W) s t l in
       choice (PastOf i l (t ∷ ts)) (passes W s mostListed left) (some i) (firstPast W s mostListed (suc i) left ts)
       (λ e. (0, omega arith, omega arith, passes-is left .0 e, λ m below. absurd (omega arith)))
       (λ e. later l t ts e i (firstPast W s mostListed (suc i) left ts) (first-past (suc i) left ts))
@@ -107,24 +112,40 @@ module _ (W : Vocabulary) (s : ℕ) where
   Found ts (some i) = FirstPast W s ts i
   Found ts none = WithinLimits W s ts
 
-  pub found : (ts : List Term) → Found ts (firstPast W s mostListed 0 (any ∷ []) ts)
-  found ts = go (firstPast W s mostListed 0 (any ∷ []) ts) (first-past 0 (any ∷ []) ts)
-    where
-      go : (o : Option ℕ) → PastOf 0 (any ∷ []) ts o → Found ts o
-      go (some j) (k, at, below, p, h) = subst (FirstPast W s ts) (omega arith) (record { below = below; passes = p; first = h })
-      go none h = h
+  abbrev pub search : List Term → Option ℕ
+  search ts = firstPast W s mostListed 0 (wholeOf (signature W) s) ts
 
-  pub past-is : (ts : List Term) (i : ℕ) → FirstPast W s ts i → firstPast W s mostListed 0 (any ∷ []) ts ≡ some i
-  past-is ts i h = go (firstPast W s mostListed 0 (any ∷ []) ts) (found ts)
-    where
-      -- Neither of two first ones is before the other.
-      go : (o : Option ℕ) → Found ts o → o ≡ some i
-      go (some j) k = ap some (antisymmetric (λ less. h .first j less (k .passes)) (λ less. k .first i less (h .passes)))
-      go none limits = absurd (limits i (h .below) (h .passes))
+  module _ (wf : WellFormed (signature W)) (ts : List Term) (hs : PatternsOfSort (signature W) s ts) where
+    -- What is left behind the first patterns is computed.
+    behind-is : (k : ℕ) → PassesBehind W s (take (suc k) ts) ↔ PassesAt (wholeOf (signature W) s) ts k
+    behind-is k = (
+      (λ (l, h, p). subst (PassesLimit W s) (one l .0 h) p),
+      λ p. (bookListingOf (signature W) s (take (suc k) ts), one _ .1 refl, p),
+    )
+      where
+        one : (l : List Term) → IsBookListing (signature W) s (take (suc k) ts) l ↔ (l ≡ bookListingOf (signature W) s (take (suc k) ts))
+        one = book-listing-is-one (signature W) (take (suc k) ts) s wf (all-take _ (suc k) ts hs)
 
-  pub within-is : (ts : List Term) → WithinLimits W s ts → firstPast W s mostListed 0 (any ∷ []) ts ≡ none
-  within-is ts limits = go (firstPast W s mostListed 0 (any ∷ []) ts) (found ts)
-    where
-      go : (o : Option ℕ) → Found ts o → o ≡ none
-      go (some j) k = absurd (limits j (k .below) (k .passes))
-      go none h = refl
+    pub found : Found ts (search ts)
+    found = go (search ts) (first-past 0 (wholeOf (signature W) s) ts)
+      where
+        go : (o : Option ℕ) → PastOf 0 (wholeOf (signature W) s) ts o → Found ts o
+        go (some j) (k, at, below, p, h) =
+            subst (FirstPast W s ts) (omega arith)
+            (record { below = below; passes = behind-is k .1 p; first = λ m low q. h m low (behind-is m .0 q) })
+        go none h = λ m below q. h m below (behind-is m .0 q)
+
+    pub past-is : (i : ℕ) → FirstPast W s ts i → search ts ≡ some i
+    past-is i h = go (search ts) found
+      where
+        -- Neither of two first ones is before the other.
+        go : (o : Option ℕ) → Found ts o → o ≡ some i
+        go (some j) k = ap some (antisymmetric (λ less. h .first j less (k .passes)) (λ less. k .first i less (h .passes)))
+        go none limits = absurd (limits i (h .below) (h .passes))
+
+    pub within-is : WithinLimits W s ts → search ts ≡ none
+    within-is limits = go (search ts) found
+      where
+        go : (o : Option ℕ) → Found ts o → o ≡ none
+        go (some j) k = absurd (limits j (k .below) (k .passes))
+        go none h = refl

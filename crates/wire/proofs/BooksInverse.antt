@@ -65,7 +65,7 @@ books-inverse W b s ts inOrder bytes = (
 pub book-is-one : BookIsOne
 book-is-one v b W W′ s s′ ts ts′ bv bb vocabulary book vocabulary′ book′ =
     let same : W ≡ W′ = vocabulary-is-one v W W′ bv vocabulary vocabulary′ in
-    let inOrder = vocabulary .good .inOrder in
+    let inOrder = vocabulary .inOrder in
     let first = read-book W inOrder b s ts book in
     let second = read-book W inOrder b s′ ts′ (subst (λ U. HoldsBook U b s′ ts′) (sym same) book′) in
     let one = accept-same _ _ (sym first ∙ second) in

@@ -86,16 +86,16 @@ module _ (v b : List ℕ) (bv : IsBytes v) (bb : IsBytes b) where
   term-held = vocabulary (readVocabulary v) refl
     where
       term : (W : Vocabulary) → HoldsVocabulary v W → (r : Reading Kinded) → checkedTerm W b ≡ r → TermHeld (replyOf 1 (termValues W (length b)) r)
-      term W held (refuse n q) e = under W n 1 q held (refl, term-refusals W b (held .good .inOrder) .given n q .0 e)
+      term W held (refuse n q) e = under W n 1 q held (refl, term-refusals W b (held .inOrder) .given n q .0 e)
       term W held (accept k) e =
-          let h = checked-in W b k (held .good .inOrder) bb e in (
+          let h = checked-in W b k (held .inOrder) bb e in (
             W,
             k .kind,
             k .term,
             gapOr (length b) (firstGap W (k .term)),
             held,
             h,
-            gap-shown W b (k .kind) (k .term) (held .good .inOrder) (h .good),
+            gap-shown W b (k .kind) (k .term) (held .inOrder) (h .good),
             refl,
           )
 
@@ -111,14 +111,14 @@ module _ (v b : List ℕ) (bv : IsBytes v) (bb : IsBytes b) where
   term-refused (ofVocabulary n q d) = ap (termReplyUnder b) (vocabulary-refusals v bv .given n q .1 d)
   term-refused (under W n i q held (one, d)) =
       reply-under W held
-      ∙ ap (replyOf 1 (termValues W (length b))) (term-refusals W b (held .good .inOrder) .given n q .1 d)
+      ∙ ap (replyOf 1 (termValues W (length b))) (term-refusals W b (held .inOrder) .given n q .1 d)
       ∙ ap (λ i. refused n i q) (sym one)
 
   term-accepted : (values : List ℕ) → Accepted values → termReply v b ≡ accepted values
   term-accepted values (W, s, t, q, held, h, shown, e) =
       reply-under W held
-      ∙ ap (replyOf 1 (termValues W (length b))) (in-checked W b (kinded s t) (held .good .inOrder) bb h)
-      ∙ ap (λ q. accepted (wordCount t ∷ deepest t ∷ bit (complete t) ∷ q ∷ [])) (shown-gap W b s t (held .good .inOrder) (h .good) shown)
+      ∙ ap (replyOf 1 (termValues W (length b))) (in-checked W b (kinded s t) (held .inOrder) bb h)
+      ∙ ap (λ q. accepted (wordCount t ∷ deepest t ∷ bit (complete t) ∷ q ∷ [])) (shown-gap W b s t (held .inOrder) (h .good) shown)
       ∙ ap accepted (sym e)
 
 pub term-keeps : TermKeeps

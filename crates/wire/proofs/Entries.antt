@@ -1,4 +1,9 @@
 -- Entries: each entry of a good linear pattern is one, and is no longer than the pattern.
+--
+--   listing-good       .. of document 01's listing
+--   whole-good         255 is a good pattern of every kind
+--   entries-are-good   .. of the listing that document 02 (iv) leaves
+--
 use mathlib.Core.Path.{_≡_, refl, ap}
 use mathlib.Core.List.{List, [], _∷_, map}
 use Prim.Native.Nat.{ℕ, _<_, _≤_}
@@ -7,13 +12,15 @@ use lib.ListN.{length, length-append}
 use Rattle.terms.specs.Lists.{All}
 use Rattle.terms.specs.Signature.{Signature, arguments}
 use Rattle.terms.specs.Term.{Term, any, var, app, Terms, nil, cons, Sorted, names, Linear}
-use Rattle.terms.specs.Listing.{others, allOpen, bare, openEvery, listing, listingAll}
+use Rattle.terms.specs.Listing.{others, allOpen, bare, openEvery, listing, listingAll, Fitted, IsListing, fitsSomething, fitsNothing, noneToFit}
 use Rattle.terms.proofs.All.{all-always, all-implies, all-both, all-append, all-map}
 use Rattle.terms.proofs.Term.{linear-well-sorted}
-use Rattle.terms.proofs.Entries.{entries-names, entries-are-linear-patterns}
+use Rattle.terms.proofs.Kept.{kept-all}
+use Rattle.terms.proofs.Entries.{entries-names, listing-linear}
 use Rattle.wire.specs.Vocabulary.{Vocabulary, signature}
 use Rattle.wire.specs.TermBytes.{encodeAt, encodeAll, encodeRoot, encodeTerm, GoodTerm, nameCount}
 use Rattle.wire.specs.Laws.{EntriesAreGood}
+use Rattle.wire.proofs.Levels.{deepest-bytes}
 
 module _ (W : Vocabulary) where
   -- Open places take no byte.
@@ -68,10 +75,11 @@ module _ (W : Vocabulary) where
       (all-map (λ e. length (encodeRoot W e) ≤ length (encodeRoot W (app f ts))) (app f) (listingAll S ts)
       (all-implies (λ es. length (encodeAll W es) ≤ length (encodeAll W ts)) _ (λ es h. omega arith) (listingAll S ts) (entries-short-all S ts)))
 
-pub entries-are-good : EntriesAreGood
-entries-are-good W s p good linear =
+pub listing-good : (W : Vocabulary) (s : ℕ) (p : Term) → GoodTerm W s p → Linear p →
+    All (λ e. GoodTerm W s e × Linear e × (length (encodeTerm W s e) ≤ length (encodeTerm W s p))) (listing (signature W) p)
+listing-good W s p good linear =
     all-implies Known (λ e. GoodTerm W s e × Linear e × (length (encodeTerm W s e) ≤ length (encodeTerm W s p))) entry (listing S p)
-    (all-both _ _ (listing S p) (entries-are-linear-patterns S p s (good .sorted .sorted) linear)
+    (all-both _ _ (listing S p) (listing-linear S p s (good .sorted .sorted) linear)
     (all-both _ _ (listing S p) (entries-names S (λ n. n < nameCount) p (good .named)) (entries-short-root W S p)))
   where
     S : Signature
@@ -87,3 +95,18 @@ entries-are-good W s p good linear =
       alone,
       omega arith,
     )
+
+pub whole-good : (W : Vocabulary) (s : ℕ) → s < W .kinds → GoodTerm W s any
+whole-good W s below = record { kind = below; sorted = record { sorted = tt; consistent = tt }; named = tt }
+
+module _ (W : Vocabulary) (s : ℕ) (p : Term) (good : GoodTerm W s p) (linear : Linear p) where
+  abbrev GoodEntry : Term → Type 0
+  GoodEntry e = GoodTerm W s e × Linear e × (length (encodeTerm W s e) ≤ length (encodeTerm W s p))
+
+  each-good : {l : List Term} → IsListing (signature W) s p l → All GoodEntry l
+  each-good (fitsSomething l fitted kept) = kept-all (Fitted (signature W) s) GoodEntry (listing (signature W) p) l (listing-good W s p good linear) kept
+  each-good (fitsNothing none ground) = ((whole-good W s (good .kind), tt, omega (arith, deepest-bytes W p)), tt)
+  each-good (noneToFit empty) = tt
+
+pub entries-are-good : EntriesAreGood
+entries-are-good W s p good linear l h = each-good W s p good linear h

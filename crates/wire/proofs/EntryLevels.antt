@@ -6,7 +6,8 @@ use native.Mathlib.Omega.{arith}
 use Rattle.terms.specs.Lists.{All}
 use Rattle.terms.specs.Signature.{Signature, arguments}
 use Rattle.terms.specs.Term.{Term, any, var, app, Terms, nil, cons}
-use Rattle.terms.specs.Listing.{others, allOpen, bare, openEvery, listing, listingAll}
+use Rattle.terms.specs.Listing.{others, allOpen, bare, openEvery, listing, listingAll, Fitted, IsListing, fitsSomething, fitsNothing, noneToFit}
+use Rattle.terms.proofs.Kept.{kept-all}
 use Rattle.terms.proofs.All.{all-always, all-implies, all-append, all-map}
 use Rattle.wire.specs.TermBytes.{levels, levelsAll, deepest}
 
@@ -41,3 +42,8 @@ mutual
 
 pub entries-deepest : (S : Signature) (p : Term) → All (λ e. deepest e ≤ deepest p) (listing S p)
 entries-deepest S p = all-implies (λ e. levels e ≤ levels p) _ (λ e h. omega arith) (listing S p) (entries-levels S p)
+
+pub listing-deepest : (S : Signature) (s : ℕ) (p : Term) {l : List Term} → IsListing S s p l → All (λ e. deepest e ≤ deepest p) l
+listing-deepest S s p (fitsSomething l fitted kept) = kept-all (Fitted S s) (λ e. deepest e ≤ deepest p) (listing S p) l (entries-deepest S p) kept
+listing-deepest S s p (fitsNothing none ground) = (omega arith, tt)
+listing-deepest S s p (noneToFit empty) = tt

@@ -20,7 +20,8 @@ use Rattle.wire.specs.Vocabulary.{Vocabulary, InOrder, signature}
 use Rattle.wire.specs.TermBytes.{firstNameByte, nameByte, wholeByte, writtenMap, encodeAt, encodeAll, encodeTerm}
 use Rattle.wire.specs.Parser.{isWord}
 use Rattle.wire.specs.Reply.{kinded}
-use Rattle.wire.specs.Leftovers.{entriesBytes, entriesOf}
+use Rattle.wire.specs.Leftovers.{entriesBytes}
+use Rattle.wire.specs.ListComputed.{entriesOf}
 use Rattle.wire.specs.EntryBytes.{above, upTo, spots, spotsAll, othersBytes, spotsBytes}
 use Rattle.wire.specs.EntrySizes.{summed, summedAll, countAt, sizeAt, counted, measured, summedIn, PatternCount, PatternLength}
 use Rattle.wire.proofs.Cond.{cond-true, cond-false}

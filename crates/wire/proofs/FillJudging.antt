@@ -42,14 +42,14 @@ module _ (v p b out : List ℕ) (bv : IsBytes v) (bp : IsBytes p) (bb : IsBytes 
           (r : Reading (List Binding)) → readFilling W (k .kind) (k .term) b ≡ r → Comes v p b out (judgedFilling W k r)
       filling W held k h (refuse n q) e =
           under W n 4 q held
-          (ofFilling (k .kind) (k .term) n q h (filling-refusals W (k .kind) (k .term) b (held .good .inOrder) .given n q .0 e))
+          (ofFilling (k .kind) (k .term) n q h (filling-refusals W (k .kind) (k .term) b (held .inOrder) .given n q .0 e))
       filling W held k h (accept bs) e =
-          record { vocabulary = held; pattern = h; filling = fillings-inverse W (k .kind) (k .term) b bs (held .good .inOrder) (h .good) bb .0 e }
+          record { vocabulary = held; pattern = h; filling = fillings-inverse W (k .kind) (k .term) b bs (held .inOrder) (h .good) bb .0 e }
 
       pattern : (W : Vocabulary) → HoldsVocabulary v W → (r : Reading Kinded) → checkedTerm W p ≡ r → Comes v p b out (fillPattern W b r)
-      pattern W held (refuse n q) e = under W n 1 q held (ofPattern n q (term-refusals W p (held .good .inOrder) .given n q .0 e))
+      pattern W held (refuse n q) e = under W n 1 q held (ofPattern n q (term-refusals W p (held .inOrder) .given n q .0 e))
       pattern W held (accept k) e =
-          filling W held k (checked-in W p k (held .good .inOrder) bp e) (readFilling W (k .kind) (k .term) b) refl
+          filling W held k (checked-in W p k (held .inOrder) bp e) (readFilling W (k .kind) (k .term) b) refl
 
       vocabulary : (r : Reading Vocabulary) → readVocabulary v ≡ r → Comes v p b out (fillVocabulary p b r)
       vocabulary (refuse n q) e = ofVocabulary n q (vocabulary-refusals v bv .given n q .0 e)
@@ -60,15 +60,15 @@ module _ (v p b out : List ℕ) (bv : IsBytes v) (bp : IsBytes p) (bb : IsBytes 
     under-vocabulary = ap (fillVocabulary p b) (vocabularies-inverse v W bv .1 held)
 
     pub refused-pattern : {n q : ℕ} → Decides (TermLine W p) n q → fillJudged v p b ≡ refusal n 1 q
-    refused-pattern {n} {q} d = under-vocabulary ∙ ap (fillPattern W b) (term-refusals W p (held .good .inOrder) .given n q .1 d)
+    refused-pattern {n} {q} d = under-vocabulary ∙ ap (fillPattern W b) (term-refusals W p (held .inOrder) .given n q .1 d)
 
     module _ (s : ℕ) (t : Term) (h : HoldsTerm W p s t) where
       under-pattern : fillJudged v p b ≡ judgedFilling W (kinded s t) (readFilling W s t b)
-      under-pattern = under-vocabulary ∙ ap (fillPattern W b) (in-checked W p (kinded s t) (held .good .inOrder) bp h)
+      under-pattern = under-vocabulary ∙ ap (fillPattern W b) (in-checked W p (kinded s t) (held .inOrder) bp h)
 
       pub refused-filling : {n q : ℕ} → Decides (FillingLine W s t b) n q → fillJudged v p b ≡ refusal n 4 q
       refused-filling {n} {q} d =
-          under-pattern ∙ ap (judgedFilling W (kinded s t)) (filling-refusals W s t b (held .good .inOrder) .given n q .1 d)
+          under-pattern ∙ ap (judgedFilling W (kinded s t)) (filling-refusals W s t b (held .inOrder) .given n q .1 d)
 
   pub refused-vocabulary : {n q : ℕ} → Decides (VocabularyLine v) n q → fillJudged v p b ≡ refusal n 0 q
   refused-vocabulary {n} {q} d = ap (fillVocabulary p b) (vocabulary-refusals v bv .given n q .1 d)
@@ -76,7 +76,7 @@ module _ (v p b out : List ℕ) (bv : IsBytes v) (bp : IsBytes p) (bb : IsBytes 
   pub held-fillable : (x : FillInputs) → HoldsFillInputs v p b x → fillJudged v p b ≡ fillable x
   held-fillable x h =
       let W : Vocabulary = x .vocabulary in
-      let inOrder = h .vocabulary .good .inOrder in
+      let inOrder = h .vocabulary .inOrder in
       under-pattern W (h .vocabulary) (x .kind) (x .pattern) (h .pattern)
       ∙ ap (judgedFilling W (kinded (x .kind) (x .pattern)))
       (fillings-inverse W (x .kind) (x .pattern) b (x .values) inOrder (h .pattern .good) bb .1 (h .filling))

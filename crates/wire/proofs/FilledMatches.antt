@@ -123,5 +123,5 @@ pub filled-matches : FilledMatches
 filled-matches v p b x bv bp bb h limits full table l =
     matches-back v p b x bv bp bb h limits full table (matched v p (filledBytes x) table .after) (matched v p (filledBytes x) table .reply) l
     (match-keeps v p (filledBytes x) table bv bp
-    (term-bytes (x .vocabulary) (h .vocabulary .good .inOrder) (x .kind) (filledTerm x)
+    (term-bytes (x .vocabulary) (h .vocabulary .inOrder) (x .kind) (filledTerm x)
     (filled-is-good (x .vocabulary) (x .kind) (x .pattern) (x .values) (h .pattern .good) (h .filling .good))))

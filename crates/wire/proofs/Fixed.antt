@@ -1,6 +1,6 @@
 -- Fixed: a promise fixes the reply and what stands in the lent slices, with no word of how they are computed.
 use mathlib.Core.Path.{_≡_, refl, sym, ap, _∙_, subst}
-use mathlib.Core.List.{List, [], _++_, map, cons-ne-nil}
+use mathlib.Core.List.{List, [], _++_, cons-ne-nil}
 use mathlib.Core.Logic.{_⊎_, inl, inr}
 use Prim.Native.Nat.{ℕ, zero, suc, _+_, _*_, _<_}
 use native.Mathlib.Omega.{arith}
@@ -8,16 +8,16 @@ use lib.ListN.{length, take, drop, take-append-drop, getD}
 use lib.Seq.{ext-getD}
 use Rattle.terms.specs.Term.{Ground, gapp, asTerm}
 use Rattle.terms.specs.Filling.{valueOf}
-use Rattle.terms.specs.Listing.{listing}
-use Rattle.wire.specs.Reply.{Reply, accepted, refused, kinded}
-use Rattle.wire.specs.Vocabulary.{Vocabulary, signature}
+use Rattle.wire.specs.Reply.{Reply, accepted, refused}
+use Rattle.wire.specs.Vocabulary.{Vocabulary}
 use Rattle.wire.specs.TermBytes.{nameCount, encodeAt}
 use Rattle.wire.specs.Matching.{tableLength, Span, noSpan, spanIn, cutOut, yes, MatchPromise, PartPromise}
-use Rattle.wire.specs.Leftovers.{entriesBytes, listingBytes, ListPromise}
+use Rattle.wire.specs.Leftovers.{listedBytes, ListPromise}
 use Rattle.wire.specs.Filled.{filledBytes, FillPromise}
 use Rattle.wire.specs.BookLeftovers.{BookPromise}
 use Rattle.wire.specs.Laws.{VocabularyFixed, TermFixed, MatchFixed, PartFixed, ListFixed, FillFixed, BookFixed, PrintFixed}
 use Rattle.wire.proofs.Matching.{not-accepted, no-not-yes}
+use Rattle.wire.proofs.Leftovers.{the-listing}
 
 -- ---- the checks
 
@@ -116,13 +116,13 @@ module _ (v p before after after′ : List ℕ) where
   list-slice : (r : Reply) → ListPromise v p before after r → ListPromise v p before after′ r → after ≡ after′
   list-slice (refused n i q) m m′ = m .kept n i q refl ∙ sym (m′ .kept n i q refl)
   list-slice (accepted values) m m′ =
-      let (W, s, t, h, room, e) = m .answered values .0 refl in
-      let n : ℕ = length (listing (signature W) t) in
-      let k : ℕ = length (listingBytes W s t) in
+      let (W, s, t, l, h, isListing, room, e) = m .answered values .0 refl in
+      let n : ℕ = length l in
+      let k : ℕ = length (listedBytes W s l) in
       let u = m .entries n k (ap accepted e) W s t h in
       let u′ = m′ .entries n k (ap accepted e) W s t h in
       let front : take k after ≡ take k after′ =
-      u .written ∙ ap (λ x. entriesBytes W (map (kinded s) x)) (u .order ∙ sym (u′ .order)) ∙ sym (u′ .written) in
+      u .written ∙ ap (listedBytes W s) (the-listing v p W s t h (u .entries) .0 (u .order) ∙ sym (the-listing v p W s t h (u′ .entries) .0 (u′ .order))) ∙ sym (u′ .written) in
       let rest : drop k after ≡ drop k after′ = m .behindLast n k (ap accepted e) ∙ sym (m′ .behindLast n k (ap accepted e)) in
       sym (take-append-drop k after) ∙ ap (λ x. x ++ drop k after) front ∙ ap (λ x. take k after′ ++ x) rest ∙ take-append-drop k after′
 
@@ -172,5 +172,5 @@ book-fixed v b before after after′ r r′ m m′ =
 pub print-fixed : PrintFixed
 print-fixed v p text text′ m m′ = elim (m .one) [
   | inl (n, i, q, h) ↦ m .refuses n i q h ∙ sym (m′ .refuses n i q h)
-  | inr (W, s, t, h, l) ↦ m .lists W s t h l ∙ sym (m′ .lists W s t h l)
+  | inr (W, s, t, l, h, isListing, room) ↦ m .lists W s t l h isListing room ∙ sym (m′ .lists W s t l h isListing room)
 ]

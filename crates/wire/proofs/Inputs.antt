@@ -85,11 +85,11 @@ module _ (v p s : List ℕ) (bp : IsBytes p) (bs : IsBytes s) (W : Vocabulary) (
       ClearHolds v p s (judgedSituation W x r)
   situations-clear x h (refuse n q) e = tt
   situations-clear x h (accept g) e =
-      record { vocabulary = held; pattern = h; situation = situation-in W s (x .kind) g (held .good .inOrder) bs e }
+      record { vocabulary = held; pattern = h; situation = situation-in W s (x .kind) g (held .inOrder) bs e }
 
   patterns-clear : (r : Reading Kinded) → checkedTerm W p ≡ r → ClearHolds v p s (judgedPattern W s r)
   patterns-clear (refuse n q) e = tt
-  patterns-clear (accept x) e = situations-clear x (checked-in W p x (held .good .inOrder) bp e) (checkedSituation W (x .kind) s) refl
+  patterns-clear (accept x) e = situations-clear x (checked-in W p x (held .inOrder) bp e) (checkedSituation W (x .kind) s) refl
 
 judged-clear : (v p s : List ℕ) → IsBytes v → IsBytes p → IsBytes s → ClearHolds v p s (judged v p s)
 judged-clear v p s bv bp bs = go (readVocabulary v) refl
@@ -102,7 +102,7 @@ held-judged : (v p s : List ℕ) (x : Inputs) → IsBytes v → IsBytes p → Is
 held-judged v p s x bv bp bs h =
     let W : Vocabulary = x .vocabulary in
     let k : Kinded = kinded (x .kind) (x .pattern) in
-    let inOrder = h .vocabulary .good .inOrder in
+    let inOrder = h .vocabulary .inOrder in
     ap (judgedVocabulary p s) (vocabularies-inverse v W bv .1 (h .vocabulary))
     ∙ ap (judgedPattern W s) (in-checked W p k inOrder bp (h .pattern))
     ∙ ap (judgedSituation W k) (in-situation W s (x .kind) (x .situation) inOrder bs (h .situation))

@@ -7,7 +7,8 @@
 --
 use mathlib.Core.Path.{_≡_, refl, sym, ap, _∙_, subst}
 use mathlib.Core.Bool.{Bool, true, false, cond}
-use mathlib.Core.List.{List, [], _∷_, _++_}
+use mathlib.Core.List.{List, [], _∷_, _++_, map}
+use mathlib.Core.Logic.{_↔_}
 use mathlib.Core.Option.{Option, some, none}
 use Prim.Native.Nat.{ℕ, _≤_}
 use native.Mathlib.Omega.{arith}
@@ -17,17 +18,19 @@ use lib.Seq.{take-at, drop-at}
 use borrow.Author.Tests.{leb-true, leb-false, le-leb, lt-leb}
 use Rattle.terms.specs.Lists.{All}
 use Rattle.terms.specs.Term.{Term, Linear}
-use Rattle.terms.specs.Listing.{listing}
+use Rattle.terms.specs.Signature.{WellFormed}
+use Rattle.terms.specs.Listing.{IsListing}
+use Rattle.terms.specs.Productive.{listingOf}
 use Rattle.terms.proofs.All.{all-implies, all-both, all-map}
-use Rattle.terms.proofs.Theorems.{partition, strike-out, listing-represents}
+use Rattle.terms.proofs.Theorems.{listing-is-one, partition, strike-out, listing-represents}
 use Rattle.wire.specs.Reply.{Reply, accepted, refused, IsBytes, Kinded, kinded}
 use Rattle.wire.specs.Parser.{Reading, accept, refuse, readVocabulary}
 use Rattle.wire.specs.Vocabulary.{Vocabulary, signature, InOrder, HoldsVocabulary}
 use Rattle.wire.specs.TermBytes.{encodeTerm, GoodTerm, deepest, leastBytes, HoldsTerm}
 use Rattle.wire.specs.CheckComputed.{checkedTerm}
 use Rattle.wire.specs.PatternLines.{sightings}
-use Rattle.wire.specs.ListComputed.{repeatedIn, linearOf, linearIn, checkedLinear, listedInto, listedPattern, listedVocabulary, listed}
-use Rattle.wire.specs.Leftovers.{HoldsPattern, entriesBytes, entriesOf, listingBytes, Entries, ListUnder, ofPattern, noRoom, ListRefusal}
+use Rattle.wire.specs.ListComputed.{repeatedIn, linearOf, linearIn, checkedLinear, leftoversOf, listedInto, listedPattern, listedVocabulary, listed}
+use Rattle.wire.specs.Leftovers.{HoldsPattern, entriesBytes, listedBytes, Entries, ListUnder, ofPattern, noRoom, ListRefusal}
 use Rattle.wire.specs.VocabularyLines.{ofVocabulary, under}
 use Rattle.wire.specs.Effect.{Effect}
 use Rattle.wire.specs.Laws.{PatternIsOne, ListKeeps}
@@ -40,7 +43,7 @@ use Rattle.wire.proofs.VocabularyRefusals.{vocabulary-refusals}
 use Rattle.wire.proofs.LinearRefusals.{linear-refusals}
 use Rattle.wire.proofs.Inputs.{checked-in, in-checked}
 use Rattle.wire.proofs.Entries.{entries-are-good}
-use Rattle.wire.proofs.EntryLevels.{entries-deepest}
+use Rattle.wire.proofs.EntryLevels.{listing-deepest}
 use Rattle.wire.proofs.EntriesRead.{GoodKinded, entries-same}
 use Rattle.wire.proofs.Matching.{not-accepted}
 use Rattle.wire.proofs.Repeats.{unrepeated-is-linear}
@@ -81,7 +84,7 @@ pub pattern-read : (v p : List ℕ) (W : Vocabulary) (x : Kinded) → IsBytes v 
     readVocabulary v ≡ accept W → checkedLinear W p ≡ accept x → HoldsPattern v p W (x .kind) (x .term)
 pattern-read v p W x bv bp e f =
     let read = vocabularies-inverse v W bv .0 e in
-    let h = linear-in W p x (read .good .inOrder) bp f in
+    let h = linear-in W p x (read .inOrder) bp f in
     record { vocabulary = read; pattern = h .term; linear = h .linear }
 
 -- A pattern that is accepted is read again.
@@ -89,18 +92,18 @@ pub read-pattern : (v p : List ℕ) (W : Vocabulary) (s : ℕ) (t : Term) → Is
     (readVocabulary v ≡ accept W) × (checkedLinear W p ≡ accept (kinded s t))
 read-pattern v p W s t bv bp h = (
   vocabularies-inverse v W bv .1 (h .vocabulary),
-  in-linear W p (kinded s t) (h .vocabulary .good .inOrder) bp (record { term = h .pattern; linear = h .linear }),
+  in-linear W p (kinded s t) (h .vocabulary .inOrder) bp (record { term = h .pattern; linear = h .linear }),
 )
 
 pub pattern-is-one : PatternIsOne
 pattern-is-one v p W W′ s s′ t t′ bv bp h h′ =
     let same : W ≡ W′ = vocabulary-is-one v W W′ bv (h .vocabulary) (h′ .vocabulary) in
-    let one = term-is-one W (h .vocabulary .good .inOrder) p s s′ t t′ (h .pattern) (subst (λ U. HoldsTerm U p s′ t′) (sym same) (h′ .pattern)) in
+    let one = term-is-one W (h .vocabulary .inOrder) p s s′ t t′ (h .pattern) (subst (λ U. HoldsTerm U p s′ t′) (sym same) (h′ .pattern)) in
     (same, one .0, one .1)
 
 -- The reply and the lent slice of a pattern that is accepted.
 pub pattern-listed : (v p out : List ℕ) (W : Vocabulary) (s : ℕ) (t : Term) → IsBytes v → IsBytes p → HoldsPattern v p W s t →
-    listed v p out ≡ listedInto out (length (entriesOf W s t)) (listingBytes W s t)
+    listed v p out ≡ listedInto out (length (leftoversOf W s t)) (entriesBytes W (leftoversOf W s t))
 pattern-listed v p out W s t bv bp h =
     let r = read-pattern v p W s t bv bp h in
     ap (listedVocabulary p out) (r .0) ∙ ap (listedPattern W out) (r .1)
@@ -133,22 +136,32 @@ answer-of out n b n′ m e = go (leb (length b) (length out)) refl e
 
 module _ (v p : List ℕ) (W : Vocabulary) (s : ℕ) (t : Term) (h : HoldsPattern v p W s t) where
   abbrev entries : List Term
-  entries = listing (signature W) t
+  entries = listingOf (signature W) s t
 
   abbrev bytes : List ℕ
-  bytes = entriesBytes W (entriesOf W s t)
+  bytes = entriesBytes W (leftoversOf W s t)
 
   inOrder : InOrder W
-  inOrder = h .vocabulary .good .inOrder
+  inOrder = h .vocabulary .inOrder
+
+  well-formed : WellFormed (signature W)
+  well-formed = in-order-well-formed W inOrder
+
+  -- What is computed is the listing, and there is no other.
+  pub the-listing : (l : List Term) → IsListing (signature W) s t l ↔ (l ≡ entries)
+  the-listing = listing-is-one (signature W) t s well-formed (h .pattern .good .sorted .sorted) (h .linear)
+
+  pub is-listing : IsListing (signature W) s t entries
+  is-listing = the-listing entries .1 refl
 
   good-entries : All (λ e. GoodTerm W s e × Linear e × (length (encodeTerm W s e) ≤ length (encodeTerm W s t))) entries
-  good-entries = entries-are-good W s t (h .pattern .good) (h .linear)
+  good-entries = entries-are-good W s t (h .pattern .good) (h .linear) entries is-listing
 
-  good-kinded : All (GoodKinded W) (entriesOf W s t)
+  good-kinded : All (GoodKinded W) (leftoversOf W s t)
   good-kinded = all-map (GoodKinded W) (kinded s) entries (all-implies _ (λ e. GoodTerm W s e) (λ e g. g .0) entries good-entries)
 
   each-entry : All (λ e. HoldsTerm W (encodeTerm W s e) s e × Linear e × (length (encodeTerm W s e) ≤ length p)) entries
-  each-entry = all-implies Known _ entry entries (all-both _ _ entries good-entries (entries-deepest (signature W) t))
+  each-entry = all-implies Known _ entry entries (all-both _ _ entries good-entries (listing-deepest (signature W) s t is-listing))
     where
       Known : Term → Type 0
       Known e = (GoodTerm W s e × Linear e × (length (encodeTerm W s e) ≤ length (encodeTerm W s t))) × (deepest e ≤ deepest t)
@@ -162,21 +175,19 @@ module _ (v p : List ℕ) (W : Vocabulary) (s : ℕ) (t : Term) (h : HoldsPatter
           let least : leastBytes ≤ length (encodeTerm W s e) = omega (arith, deepest-bytes W e) in
           (record { good = good; written = refl; limits = record { least = least; most = omega arith; levels = omega arith } }, alone, omega arith)
 
-  entries-kept : (n m : ℕ) (after : List ℕ) → length (entriesOf W s t) ≡ n → m ≤ length after → take m after ≡ bytes →
+  entries-kept : (n m : ℕ) (after : List ℕ) → length (leftoversOf W s t) ≡ n → m ≤ length after → take m after ≡ bytes →
       Entries W s t p n m after
   entries-kept n m after count inside written = record {
     entries = entries;
     count = sym (length-map entries (kinded s)) ∙ count;
     inside = inside;
     written = written;
-    one = λ l long good e. entries-same W inOrder l (entriesOf W s t) good good-kinded (long ∙ sym count) (sym e ∙ written);
-    order = refl;
+    one = λ l long good e. entries-same W inOrder l (leftoversOf W s t) good good-kinded (long ∙ sym count) (sym e ∙ written);
+    order = is-listing;
     each = each-entry;
-    once = partition (signature W) t s (h .pattern .good .sorted .sorted) (h .linear);
-    needed =
-        strike-out (signature W) t s (in-order-well-formed W inOrder) (h .vocabulary .good .inhabited) (h .pattern .good .sorted .sorted)
-        (h .linear);
-    represents = listing-represents (signature W) t s (h .pattern .good .sorted .sorted) (h .linear);
+    once = partition (signature W) t s entries well-formed (h .pattern .good .sorted .sorted) (h .linear) is-listing;
+    needed = strike-out (signature W) t s entries well-formed (h .pattern .good .sorted .sorted) (h .linear) is-listing;
+    represents = listing-represents (signature W) t s entries well-formed (h .pattern .good .sorted .sorted) (h .linear) is-listing;
   }
 
 -- ---- a refusal or an answer
@@ -185,8 +196,8 @@ module _ (v p out : List ℕ) (bv : IsBytes v) (bp : IsBytes p) where
   -- A vocabulary and a pattern that are accepted, with a listing that fits, and the values that answer it.
   abbrev pub Listable : List ℕ → Type 0
   Listable values =
-      (W : Vocabulary) × (s : ℕ) × (t : Term) × HoldsPattern v p W s t × (length (listingBytes W s t) ≤ length out) ×
-      (values ≡ length (listing (signature W) t) ∷ length (listingBytes W s t) ∷ [])
+      (W : Vocabulary) × (s : ℕ) × (t : Term) × (l : List Term) × HoldsPattern v p W s t × IsListing (signature W) s t l ×
+      (length (listedBytes W s l) ≤ length out) × (values ≡ length l ∷ length (listedBytes W s l) ∷ [])
 
   -- What a reply comes of.
   abbrev pub Decided : Reply → Type 0
@@ -197,38 +208,51 @@ module _ (v p out : List ℕ) (bv : IsBytes v) (bp : IsBytes p) where
   decided = vocabulary (readVocabulary v) refl
     where
       room : (W : Vocabulary) (x : Kinded) → HoldsPattern v p W (x .kind) (x .term) →
-          (c : Bool) → leb (length (listingBytes W (x .kind) (x .term))) (length out) ≡ c →
-          Decided (intoIf c out (length (entriesOf W (x .kind) (x .term))) (listingBytes W (x .kind) (x .term)) .reply)
-      room W x h true e = (
-        W,
-        x .kind,
-        x .term,
-        h,
-        leb-true (length (listingBytes W (x .kind) (x .term))) (length out) e,
-        ap (λ n. n ∷ length (listingBytes W (x .kind) (x .term)) ∷ []) (length-map (listing (signature W) (x .term)) (kinded (x .kind))),
-      )
+          (c : Bool) → leb (length (entriesBytes W (leftoversOf W (x .kind) (x .term)))) (length out) ≡ c →
+          Decided (intoIf c out (length (leftoversOf W (x .kind) (x .term))) (entriesBytes W (leftoversOf W (x .kind) (x .term))) .reply)
+      room W x h true e =
+          let l : List Term = listingOf (signature W) (x .kind) (x .term) in (
+            W,
+            x .kind,
+            x .term,
+            l,
+            h,
+            is-listing v p W (x .kind) (x .term) h,
+            leb-true (length (listedBytes W (x .kind) l)) (length out) e,
+            ap (λ n. n ∷ length (listedBytes W (x .kind) l) ∷ []) (length-map l (kinded (x .kind))),
+          )
       room W x h false e =
+          let l : List Term = listingOf (signature W) (x .kind) (x .term) in
           under W 20 3 _ (h .vocabulary)
-          (noRoom (x .kind) (x .term) (h .pattern) (h .linear) (leb-false (length (listingBytes W (x .kind) (x .term))) (length out) e))
+          (noRoom (x .kind) (x .term) l (h .pattern) (h .linear) (is-listing v p W (x .kind) (x .term) h)
+          (leb-false (length (listedBytes W (x .kind) l)) (length out) e))
 
       pattern : (W : Vocabulary) → readVocabulary v ≡ accept W → (r : Reading Kinded) → checkedLinear W p ≡ r →
           Decided (listedPattern W out r .reply)
       pattern W e (refuse n q) f =
           let held = vocabularies-inverse v W bv .0 e in
-          under W n 1 q held (ofPattern n q (linear-refusals W p (held .good .inOrder) bp .given n q .0 f))
+          under W n 1 q held (ofPattern n q (linear-refusals W p (held .inOrder) bp .given n q .0 f))
       pattern W e (accept x) f = room W x (pattern-read v p W x bv bp e f) (leb _ (length out)) refl
 
       vocabulary : (r : Reading Vocabulary) → readVocabulary v ≡ r → Decided (listedVocabulary p out r .reply)
       vocabulary (refuse n q) e = ofVocabulary n q (vocabulary-refusals v bv .given n q .0 e)
       vocabulary (accept W) e = pattern W e (checkedLinear W p) refl
 
+  -- The reply and the lent slice by whatever is the listing of an accepted pattern.
+  one-listing : (W : Vocabulary) (s : ℕ) (t : Term) → HoldsPattern v p W s t → (l : List Term) → IsListing (signature W) s t l →
+      listed v p out ≡ listedInto out (length (map (kinded s) l)) (listedBytes W s l)
+  one-listing W s t h l isListing =
+      pattern-listed v p out W s t bv bp h
+      ∙ ap (λ x. listedInto out (length (map (kinded s) x)) (listedBytes W s x)) (sym (the-listing v p W s t h l .0 isListing))
+
   refused-under : (W : Vocabulary) → HoldsVocabulary v W → {n i q : ℕ} → ListUnder p out W n i q → listed v p out .reply ≡ refused n i q
   refused-under W held (ofPattern n q d) =
       ap (λ r. listedVocabulary p out r .reply) (vocabularies-inverse v W bv .1 held)
-      ∙ ap (λ r. listedPattern W out r .reply) (linear-refusals W p (held .good .inOrder) bp .given n q .1 d)
-  refused-under W held (noRoom s t h linear short) =
-      let b : List ℕ = listingBytes W s t in
-      ap (λ (r : Effect). r .reply) (pattern-listed v p out W s t bv bp (record { vocabulary = held; pattern = h; linear = linear }))
+      ∙ ap (λ r. listedPattern W out r .reply) (linear-refusals W p (held .inOrder) bp .given n q .1 d)
+  refused-under W held (noRoom s t l h linear isListing short) =
+      let pattern : HoldsPattern v p W s t = record { vocabulary = held; pattern = h; linear = linear } in
+      let b : List ℕ = listedBytes W s l in
+      ap (λ (r : Effect). r .reply) (one-listing W s t pattern l isListing)
       ∙ ap (λ (r : Effect). r .reply) (cond-false (leb (length b) (length out)) _ _ (lt-leb (length b) (length out) short))
 
   refused-by : {n i q : ℕ} → ListRefusal v p out n i q → listed v p out .reply ≡ refused n i q
@@ -236,20 +260,20 @@ module _ (v p out : List ℕ) (bv : IsBytes v) (bp : IsBytes p) where
   refused-by (under W n i q held d) = refused-under W held d
 
   answered-by : (values : List ℕ) → Listable values → listed v p out .reply ≡ accepted values
-  answered-by values (W, s, t, h, fits, e) =
-      let b : List ℕ = listingBytes W s t in
-      ap (λ (r : Effect). r .reply) (pattern-listed v p out W s t bv bp h)
+  answered-by values (W, s, t, l, h, isListing, fits, e) =
+      let b : List ℕ = listedBytes W s l in
+      ap (λ (r : Effect). r .reply) (one-listing W s t h l isListing)
       ∙ ap (λ (r : Effect). r .reply) (cond-true (leb (length b) (length out)) _ _ (le-leb (length b) (length out) fits))
-      ∙ ap (λ n. accepted (n ∷ length b ∷ [])) (length-map (listing (signature W) t) (kinded s))
+      ∙ ap (λ n. accepted (n ∷ length b ∷ [])) (length-map l (kinded s))
       ∙ ap accepted (sym e)
 
   -- Where the reply is accepted, the entries stand in front of what stood there before.
   written-by : (n m : ℕ) → listed v p out .reply ≡ accepted (n ∷ m ∷ []) →
       (W : Vocabulary) (s : ℕ) (t : Term) → HoldsPattern v p W s t →
-      Answer out (length (entriesOf W s t)) (listingBytes W s t) n m (listed v p out .after)
+      Answer out (length (leftoversOf W s t)) (entriesBytes W (leftoversOf W s t)) n m (listed v p out .after)
   written-by n m e W s t h =
       let known = pattern-listed v p out W s t bv bp h in
-      let a = answer-of out (length (entriesOf W s t)) (listingBytes W s t) n m (sym (ap (λ (r : Effect). r .reply) known) ∙ e) in
+      let a = answer-of out (length (leftoversOf W s t)) (entriesBytes W (leftoversOf W s t)) n m (sym (ap (λ (r : Effect). r .reply) known) ∙ e) in
       record { count = a .count; size = a .size; written = ap (λ (r : Effect). r .after) known ∙ a .written }
 
 -- A refusal leaves the lent slice as it was.
@@ -259,7 +283,7 @@ refused-kept v p out n i q e = vocabulary (readVocabulary v) e
     pattern : (W : Vocabulary) (r : Reading Kinded) → listedPattern W out r .reply ≡ refused n i q → listedPattern W out r .after ≡ out
     pattern W (refuse m r) e = refl
     pattern W (accept x) e =
-        choice (λ (l : Effect). l .reply ≡ refused n i q → l .after ≡ out) (leb (length (listingBytes W (x .kind) (x .term))) (length out)) _ _
+        choice (λ (l : Effect). l .reply ≡ refused n i q → l .after ≡ out) (leb (length (entriesBytes W (leftoversOf W (x .kind) (x .term)))) (length out)) _ _
         (λ c e. absurd (not-accepted n i q _ (sym e))) (λ c e. refl) e
 
     vocabulary : (r : Reading Vocabulary) → listedVocabulary p out r .reply ≡ refused n i q → listedVocabulary p out r .after ≡ out
@@ -272,14 +296,14 @@ list-keeps v p out bv bp = record {
   answered = λ values. ((λ e. subst (Decided v p out bv bp) e (decided v p out bv bp)), answered-by v p out bv bp values);
   entries = λ n m e W s t h.
       let a = written-by v p out bv bp n m e W s t h in
-      let b : List ℕ = listingBytes W s t in
+      let b : List ℕ = entriesBytes W (leftoversOf W s t) in
       entries-kept v p W s t h n m (listed v p out .after) (a .count)
       (let long = ap length (a .written) ∙ length-append b (drop (length b) out) in let size = a .size in omega arith)
       (ap (take m) (a .written) ∙ take-at b (drop (length b) out) m (a .size));
   behindLast = λ n m e.
       let x : Listable v p out bv bp (n ∷ m ∷ []) = subst (Decided v p out bv bp) e (decided v p out bv bp) in
-      let a = written-by v p out bv bp n m e (x .0) (x .1) (x .2) (x .3) in
-      let b : List ℕ = listingBytes (x .0) (x .1) (x .2) in
+      let a = written-by v p out bv bp n m e (x .0) (x .1) (x .2) (x .4) in
+      let b : List ℕ = entriesBytes (x .0) (leftoversOf (x .0) (x .1) (x .2)) in
       ap (drop m) (a .written) ∙ drop-at b (drop (length b) out) m (a .size) ∙ ap (λ k. drop k out) (a .size);
   kept = refused-kept v p out;
 }

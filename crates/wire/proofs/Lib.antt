@@ -66,6 +66,7 @@ pub mod EntrySizes
 pub mod EntryMaps
 pub mod EntryWalk
 pub mod EntryCut
+pub mod Settling
 -- On books.
 pub mod AgainstMaps
 pub mod AgainstBytes

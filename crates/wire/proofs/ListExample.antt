@@ -16,9 +16,10 @@ use Rattle.terms.specs.Matcher.{noFilling}
 use Rattle.terms.proofs.Theorems.{matcher-is-exact}
 use Rattle.wire.specs.Reply.{Reply, accepted, IsBytes}
 use Rattle.wire.specs.Vocabulary.{Word, Vocabulary, signature}
+use Rattle.terms.specs.Productive.{listingOf}
 use Rattle.wire.specs.Leftovers.{HoldsPattern, Entries, ListPromise}
 use Rattle.wire.specs.Starred.{A, waitUpFree}
-use Rattle.wire.proofs.Leftovers.{pattern-read}
+use Rattle.wire.proofs.Leftovers.{pattern-read, the-listing, is-listing}
 
 abbrev word : ℕ → ℕ → List ℕ → Word
 word s m ks = record { result = s; placeMap = m; kinds = ks }
@@ -63,7 +64,7 @@ up-full-fits =
 -- The promise at 15 lent bytes, whatever they are.
 module _ (before after : List ℕ) (r : Reply) (fifteen : length before ≡ 15) (m : ListPromise A waitUpFree before after r) where
   pub says-three : r ≡ accepted (3 ∷ 15 ∷ [])
-  says-three = m .answered (3 ∷ 15 ∷ []) .1 (W, 0, pattern, written, omega arith, refl)
+  says-three = m .answered (3 ∷ 15 ∷ []) .1 (W, 0, pattern, listingOf (signature W) 0 pattern, written, is-listing A waitUpFree W 0 pattern written, omega arith, refl)
 
   -- What stands in the slice after the call.
   pub entries-of-A : Entries W 0 pattern waitUpFree 3 15 after
@@ -73,12 +74,15 @@ module _ (before after : List ℕ) (r : Reply) (fifteen : length before ≡ 15) 
   abbrev standing : List Term
   standing = entries-of-A .entries
 
+  same : standing ≡ listingOf (signature W) 0 pattern
+  same = the-listing A waitUpFree W 0 pattern written standing .0 (entries-of-A .order)
+
   pub incident-listed : Fits (signature W) (getD standing 2 any) 0 incident
   incident-listed =
-      subst (λ e. Fits (signature W) e 0 incident) (sym (ap (λ l. getD l 2 any) (entries-of-A .order))) up-full-fits
+      subst (λ e. Fits (signature W) e 0 incident) (sym (ap (λ l. getD l 2 any) same)) up-full-fits
 
   pub incident-only : (j : ℕ) → j < 4 → Fits (signature W) (getD (pattern ∷ standing) j any) 0 incident → j ≡ 3
   incident-only j b h =
       let one = entries-of-A .once incident incident-sorted in
-      let three : length (pattern ∷ standing) ≡ 4 = ap (λ l. length (pattern ∷ l)) (entries-of-A .order) in
+      let three : length (pattern ∷ standing) ≡ 4 = ap (λ l. length (pattern ∷ l)) same in
       one .only j (omega arith) h ∙ sym (one .only 3 (omega arith) incident-listed)

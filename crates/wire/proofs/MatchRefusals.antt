@@ -46,12 +46,12 @@ module _ (v p s table : List ℕ) (bv : IsBytes v) (bp : IsBytes p) (bs : IsByte
       situation W held k h (accept g) e = tt
       situation W held k h (refuse n q) e =
           under W n 2 q held
-          (ofSituation (k .kind) (k .term) n q h (situation-refusals W (k .kind) s (held .good .inOrder) bs .given n q .0 e))
+          (ofSituation (k .kind) (k .term) n q h (situation-refusals W (k .kind) s (held .inOrder) bs .given n q .0 e))
 
       pattern : (W : Vocabulary) → HoldsVocabulary v W → (r : Reading Kinded) → checkedTerm W p ≡ r → Given (judgedPattern W s r)
-      pattern W held (refuse n q) e = under W n 1 q held (ofPattern n q (term-refusals W p (held .good .inOrder) .given n q .0 e))
+      pattern W held (refuse n q) e = under W n 1 q held (ofPattern n q (term-refusals W p (held .inOrder) .given n q .0 e))
       pattern W held (accept k) e =
-          situation W held k (checked-in W p k (held .good .inOrder) bp e) (checkedSituation W (k .kind) s) refl
+          situation W held k (checked-in W p k (held .inOrder) bp e) (checkedSituation W (k .kind) s) refl
 
       vocabulary : (r : Reading Vocabulary) → readVocabulary v ≡ r → Given (judgedVocabulary p s r)
       vocabulary (refuse n q) e = ofVocabulary n q (vocabulary-refusals v bv .given n q .0 e)
@@ -81,11 +81,11 @@ module _ (v p s table : List ℕ) (bv : IsBytes v) (bp : IsBytes p) (bs : IsByte
   refused-under : (W : Vocabulary) → HoldsVocabulary v W → {n i q : ℕ} → MatchUnder p s table W n i q → matched v p s table .reply ≡ refused n i q
   refused-under W held (ofPattern n q d) =
       ap (λ r. matchedWith table (judgedVocabulary p s r) .reply) (vocabularies-inverse v W bv .1 held)
-      ∙ ap (λ r. matchedWith table (judgedPattern W s r) .reply) (term-refusals W p (held .good .inOrder) .given n q .1 d)
+      ∙ ap (λ r. matchedWith table (judgedPattern W s r) .reply) (term-refusals W p (held .inOrder) .given n q .1 d)
   refused-under W held (ofSituation k t n q h d) =
       ap (λ r. matchedWith table (judgedVocabulary p s r) .reply) (vocabularies-inverse v W bv .1 held)
-      ∙ ap (λ r. matchedWith table (judgedPattern W s r) .reply) (in-checked W p (kinded k t) (held .good .inOrder) bp h)
-      ∙ ap (λ r. matchedWith table (judgedSituation W (kinded k t) r) .reply) (situation-refusals W k s (held .good .inOrder) bs .given n q .1 d)
+      ∙ ap (λ r. matchedWith table (judgedPattern W s r) .reply) (in-checked W p (kinded k t) (held .inOrder) bp h)
+      ∙ ap (λ r. matchedWith table (judgedSituation W (kinded k t) r) .reply) (situation-refusals W k s (held .inOrder) bs .given n q .1 d)
   refused-under W held (ofTable k t g h h′ long) =
       let x : Inputs = record { vocabulary = W; kind = k; pattern = t; situation = g } in
       ap (λ j. matchedWith table j .reply)

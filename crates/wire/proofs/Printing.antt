@@ -10,29 +10,30 @@ use lib.ListN.{length, take, drop, replicate, length-replicate, take-append-drop
 use lib.Seq.{take-all, take-append-le, drop-append-le}
 use borrow.Author.Tests.{ltb-true, ltb-false, lt-ltb}
 use Rattle.terms.specs.Term.{Term}
-use Rattle.terms.specs.Listing.{listing}
+use Rattle.terms.specs.Listing.{IsListing}
+use Rattle.terms.specs.Productive.{listingOf}
 use Rattle.terms.proofs.Bools.{or-right}
 use Rattle.wire.specs.Reply.{Reply, accepted, refused, IsBytes, outside, Kinded, kinded}
 use Rattle.wire.specs.Parser.{Reading, accept, refuse, readVocabulary}
 use Rattle.wire.specs.Vocabulary.{Vocabulary, signature}
 use Rattle.wire.specs.TermBytes.{encodeTerm, leastBytes, mostBytes}
 use Rattle.wire.specs.ListComputed.{linearIn, checkedLinear, listedPattern, listedVocabulary, listed}
-use Rattle.wire.specs.Leftovers.{HoldsPattern, listingBytes, ListRefusal, ListPromise}
+use Rattle.wire.specs.Leftovers.{HoldsPattern, listedBytes, ListRefusal, ListPromise}
 use Rattle.wire.specs.Printing.{mostInput, listingSpace, vocabularyPart, patternPart, listingText}
 use Rattle.wire.specs.PrintComputed.{entriesUnder, entriesWith, entriesLeft, reported, printedFrom, printed}
 use Rattle.wire.specs.Laws.{PrintKeeps, mostVocabulary, MoreAltersNothing}
 use Rattle.wire.proofs.Cond.{cond-true}
 use Rattle.wire.proofs.VocabularyMore.{refused-alike}
-use Rattle.wire.proofs.Leftovers.{read-pattern, Decided, decided, list-keeps}
+use Rattle.wire.proofs.Leftovers.{read-pattern, the-listing, Decided, decided, list-keeps}
 
 -- The entries that are printed are those of the pattern.
 entries-printed : (v p : List ℕ) (W : Vocabulary) (s : ℕ) (t : Term) → IsBytes v → IsBytes p → HoldsPattern v p W s t →
-    entriesLeft v p ≡ map (encodeTerm W s) (listing (signature W) t)
+    entriesLeft v p ≡ map (encodeTerm W s) (listingOf (signature W) s t)
 entries-printed v p W s t bv bp h =
     let read = read-pattern v p W s t bv bp h in
     ap (entriesWith p) (read .0)
     ∙ ap (entriesUnder W) (read .1)
-    ∙ map-map (λ (e : Kinded). encodeTerm W (e .kind) (e .term)) (kinded s) (listing (signature W) t)
+    ∙ map-map (λ (e : Kinded). encodeTerm W (e .kind) (e .term)) (kinded s) (listingOf (signature W) s t)
 
 -- The space that is lent to list.
 abbrev space : List ℕ
@@ -53,15 +54,18 @@ print-keeps v p bv bp = record {
 
     one : (r : Reply) → Decided v p space bv bp r →
         ((n : ℕ) × (i : ℕ) × (q : ℕ) × ListRefusal v p space n i q) ⊎
-        ((W : Vocabulary) × (s : ℕ) × (t : Term) × HoldsPattern v p W s t × (length (listingBytes W s t) ≤ listingSpace))
+        ((W : Vocabulary) × (s : ℕ) × (t : Term) × (l : List Term) × HoldsPattern v p W s t × IsListing (signature W) s t l ×
+        (length (listedBytes W s l) ≤ listingSpace))
     one (refused n i q) h = inl (n, i, q, h)
-    one (accepted l) (W, s, t, h, fits, e) = inr (W, s, t, h, subst (λ m. length (listingBytes W s t) ≤ m) space-long fits)
+    one (accepted values) (W, s, t, l, h, isListing, fits, e) =
+        inr (W, s, t, l, h, isListing, subst (λ m. length (listedBytes W s l) ≤ m) space-long fits)
 
-    lists : (W : Vocabulary) (s : ℕ) (t : Term) → HoldsPattern v p W s t → length (listingBytes W s t) ≤ listingSpace →
-        printedFrom v p ≡ listingText (map (encodeTerm W s) (listing (signature W) t))
-    lists W s t h fits =
-        let room = subst (λ m. length (listingBytes W s t) ≤ m) (sym space-long) fits in
-        ap₂ reported (promise .answered _ .1 (W, s, t, h, room, refl)) (entries-printed v p W s t bv bp h)
+    lists : (W : Vocabulary) (s : ℕ) (t : Term) (l : List Term) → HoldsPattern v p W s t → IsListing (signature W) s t l →
+        length (listedBytes W s l) ≤ listingSpace → printedFrom v p ≡ listingText (map (encodeTerm W s) l)
+    lists W s t l h isListing fits =
+        let room = subst (λ m. length (listedBytes W s l) ≤ m) (sym space-long) fits in
+        ap₂ reported (promise .answered _ .1 (W, s, t, l, h, isListing, room, refl))
+        (entries-printed v p W s t bv bp h ∙ ap (map (encodeTerm W s)) (sym (the-listing v p W s t h l .0 isListing)))
 
 -- ---- all bytes of the input in place of the first
 

@@ -8,7 +8,7 @@
 --   no-gap-is-complete       a term has no gap exactly where it is complete
 --   full-map-means-no-open-place   a written map equals its word's place map exactly where no place is open
 --   entries-are-good         each entry of a good linear pattern is one, and is never longer than the pattern
---   vocabulary-refusals      a vocabulary is refused exactly by lines 1 to 6 of the refusal list
+--   vocabulary-refusals      a vocabulary is refused exactly by lines 1 to 5 of the refusal list
 --   term-refusals            a term is refused exactly by lines 7 to 15 of the refusal list
 --   first-gap-is-exact       firstGap gives the first gap of a good term, where there is one
 --   situation-refusals       a situation is refused exactly by lines 7 to 17 of the refusal list
@@ -36,6 +36,10 @@
 --   spots-by-bits            the words of a term, by the bits of its written map
 --   pattern-count, pattern-length   one pass over a good pattern counts its entries and their bytes
 --   cut-by-bytes             the leftovers of an entry against a pattern, as both are walked from left to right
+--   settled-in-order, settled-is-settled, settled-writes, settled-holds
+--                            the settled vocabulary is in order, has the settled signature, writes every term as the vocabulary does, and
+--                            holds the terms all of whose words are productive
+--   fruitful-leftovers       what is listed for these is document 01's listing over the settled vocabulary
 --   list-keeps               what is computed of list's reply and lent slice keeps what list promises
 --   filled-matches           what match computes for a complete result of fill: yes, and the parts that the file gave
 --   decimal-is-exact         a number in decimal is of digits that stand for it, with no needless zero in front
@@ -49,6 +53,7 @@ use Rattle.wire.specs.EntryBytes.{EntriesBySpots}
 use Rattle.wire.specs.EntryMaps.{SpotsByBits}
 use Rattle.wire.specs.EntrySizes.{PatternCount, PatternLength}
 use Rattle.wire.specs.EntryAgainst.{CutByBytes}
+use Rattle.wire.specs.Settling.{SettledInOrder, SettledIsSettled, SettledWrites, SettledHolds, FruitfulLeftovers}
 use Rattle.wire.specs.Starred.{StarredHold}
 
 pub in-order-is-well-formed : InOrderIsWellFormed
@@ -179,6 +184,21 @@ pattern-length = Rattle.wire.proofs.EntrySizes.pattern-length
 
 pub cut-by-bytes : CutByBytes
 cut-by-bytes = Rattle.wire.proofs.AgainstBytes.cut-by-bytes
+
+pub settled-in-order : SettledInOrder
+settled-in-order = Rattle.wire.proofs.Settling.settled-in-order
+
+pub settled-is-settled : SettledIsSettled
+settled-is-settled = Rattle.wire.proofs.Settling.settled-is-settled
+
+pub settled-writes : SettledWrites
+settled-writes = Rattle.wire.proofs.Settling.settled-writes
+
+pub settled-holds : SettledHolds
+settled-holds = Rattle.wire.proofs.Settling.settled-holds
+
+pub fruitful-leftovers : FruitfulLeftovers
+fruitful-leftovers = Rattle.wire.proofs.Settling.fruitful-leftovers
 
 pub list-keeps : ListKeeps
 list-keeps = Rattle.wire.proofs.Leftovers.list-keeps

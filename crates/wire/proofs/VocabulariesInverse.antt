@@ -3,12 +3,10 @@ use mathlib.Core.Path.{_≡_, sym, _∙_, ap}
 use mathlib.Core.List.{List}
 use Prim.Native.Nat.{ℕ}
 use native.Mathlib.Omega.{arith}
-use Rattle.terms.proofs.Theorems.{first-empty-is-exact}
 use Rattle.wire.specs.Reply.{IsBytes}
-use Rattle.wire.specs.Parser.{Reading, accept, refuse, line6, readVocabulary}
-use Rattle.wire.specs.Vocabulary.{Vocabulary, signature, encodeVocabulary, GoodVocabulary, HoldsVocabulary}
+use Rattle.wire.specs.Parser.{Reading, accept, refuse, readVocabulary}
+use Rattle.wire.specs.Vocabulary.{Vocabulary, HoldsVocabulary}
 use Rattle.wire.specs.Laws.{VocabulariesInverse}
-use Rattle.wire.proofs.Words.{in-order-well-formed}
 use Rattle.wire.proofs.VocabularyWritten.{read-written}
 use Rattle.wire.proofs.VocabularyRead.{Accepted, VocabularyRead, vocabulary-read}
 
@@ -16,16 +14,10 @@ accepted : (b : List ℕ) (W : Vocabulary) (r : Reading Vocabulary) → Vocabula
 accepted b W (accept X) read e = let same : X ≡ W = cc in rw same at read
 accepted b W (refuse n q) read e = let z : _≡_ {A = ℕ} 0 1 = cc in absurd (omega arith)
 
--- A good vocabulary is read again from its writing.
-pub read-good : (W : Vocabulary) → GoodVocabulary W → readVocabulary (encodeVocabulary W) ≡ accept W
-read-good W good =
-    read-written W (good .inOrder)
-    ∙ ap (line6 W) (first-empty-is-exact (signature W) (in-order-well-formed W (good .inOrder)) .missed .1 (good .inhabited))
-
 pub vocabularies-inverse : VocabulariesInverse
 vocabularies-inverse b W bytes = (
-  (λ e. let read = accepted b W (readVocabulary b) (vocabulary-read b bytes) e in record { good = read .good; written = read .bytes }),
-  (λ h. ap readVocabulary (h .written) ∙ read-good W (h .good)),
+  (λ e. let read = accepted b W (readVocabulary b) (vocabulary-read b bytes) e in record { inOrder = read .inOrder; written = read .bytes }),
+  (λ h. ap readVocabulary (h .written) ∙ read-written W (h .inOrder)),
 )
 
 pub accept-same : {A : Type 0} (x y : A) → accept x ≡ accept y → x ≡ y

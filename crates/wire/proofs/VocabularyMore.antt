@@ -7,7 +7,7 @@ use native.Mathlib.Omega.{arith}
 use lib.Dec.{eqb, ltb}
 use lib.ListN.{length, length-append}
 use borrow.Author.Tests.{ltb-true, ltb-false}
-use Rattle.wire.specs.Parser.{Reading, accept, refuse, Got, got, stop, andThen, offset, readKind, readKinds, readWord, readWords, lines5and6, readVocabulary}
+use Rattle.wire.specs.Parser.{Reading, accept, refuse, Got, got, stop, andThen, offset, readKind, readKinds, readWord, readWords, line5, readVocabulary}
 use Rattle.wire.specs.Reply.{outside}
 use Rattle.wire.specs.Map.{mapBits, flagsIn, flags, bit, ones}
 use Rattle.wire.specs.Vocabulary.{Word, Vocabulary, mostKinds, mostWords}
@@ -65,12 +65,12 @@ offset-same b r x = omega (arith, length-append b x, length-append r x)
 abbrev pub RefusedAlike : Reading Vocabulary → Reading Vocabulary → Type 0
 RefusedAlike g h = (n : ℕ) × (q : ℕ) × (g ≡ refuse n q) × (h ≡ refuse n q)
 
-lines-alike : (b x : List ℕ) (k : ℕ) (g h : Got (List Word)) → Same 1 x g h → RefusedAlike (lines5and6 b k g) (lines5and6 (b ++ x) k h)
+lines-alike : (b x : List ℕ) (k : ℕ) (g h : Got (List Word)) → Same 1 x g h → RefusedAlike (line5 b k g) (line5 (b ++ x) k h)
 lines-alike b x k (stop n r) h e =
-    (n, offset b r, refl, ap (lines5and6 (b ++ x) k) e ∙ ap (refuse n) (offset-same b r x))
+    (n, offset b r, refl, ap (line5 (b ++ x) k) e ∙ ap (refuse n) (offset-same b r x))
 lines-alike b x k (got ws []) h (left, e) = absurd (omega arith)
 lines-alike b x k (got ws (c ∷ r)) h (left, e) =
-    (5, offset b (c ∷ r), refl, ap (lines5and6 (b ++ x) k) e ∙ ap (refuse 5) (offset-same b (c ∷ r) x))
+    (5, offset b (c ∷ r), refl, ap (line5 (b ++ x) k) e ∙ ap (refuse 5) (offset-same b (c ∷ r) x))
 
 -- Two counts and 96 records make at most 962 bytes, so in a longer vocabulary at least one byte is left behind them.
 pub refused-alike : (v x : List ℕ) → mostVocabulary < length v → RefusedAlike (readVocabulary v) (readVocabulary (v ++ x))
@@ -79,8 +79,8 @@ refused-alike (k ∷ []) x h = absurd (omega arith)
 refused-alike (k ∷ n ∷ l) x h = go (outside 1 mostKinds k) (outside 1 mostWords n) refl
   where
     go : (t u : Bool) → outside 1 mostWords n ≡ u →
-        RefusedAlike (cond t (refuse 1 0) (cond u (refuse 2 1) (lines5and6 (k ∷ n ∷ l) k (readWords k n l))))
-        (cond t (refuse 1 0) (cond u (refuse 2 1) (lines5and6 (k ∷ n ∷ (l ++ x)) k (readWords k n (l ++ x)))))
+        RefusedAlike (cond t (refuse 1 0) (cond u (refuse 2 1) (line5 (k ∷ n ∷ l) k (readWords k n l))))
+        (cond t (refuse 1 0) (cond u (refuse 2 1) (line5 (k ∷ n ∷ (l ++ x)) k (readWords k n (l ++ x)))))
     go true u e = (1, 0, refl, refl)
     go false true e = (2, 1, refl, refl)
     go false false e =

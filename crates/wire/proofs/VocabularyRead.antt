@@ -8,34 +8,28 @@ use mathlib.Core.Path.{_≡_, refl, sym, _∙_}
 use mathlib.Core.Bool.{Bool, true, false, cond}
 use mathlib.Core.List.{List, [], _∷_, _++_, append-nil}
 use mathlib.Core.Logic.{_⊎_, inl, inr}
-use mathlib.Core.Option.{Option, some, none}
 use Prim.Native.Nat.{ℕ, _<_, _≤_}
 use native.Mathlib.Omega.{arith}
 use lib.Dec.{ltb, lit<}
 use lib.ListN.{length, drop}
 use borrow.Author.Tests.{ltb-true, ltb-false}
 use Rattle.terms.specs.Lists.{All}
-use Rattle.terms.specs.Inhabited.{LeastEmpty}
-use Rattle.terms.specs.Emptiness.{firstEmpty, FirstEmptyExact}
-use Rattle.terms.proofs.Theorems.{first-empty-is-exact}
-use Rattle.wire.specs.Parser.{Reading, accept, refuse, Got, got, stop, offset, readWords, line6, lines5and6, readVocabulary}
+use Rattle.wire.specs.Parser.{Reading, accept, refuse, Got, got, stop, offset, readWords, line5, readVocabulary}
 use Rattle.wire.specs.Reply.{IsBytes, outside, Outside}
-use Rattle.wire.specs.Vocabulary.{Word, Vocabulary, signature, WordInOrder, InOrder, encodeWords, encodeVocabulary, mostKinds, mostWords, GoodVocabulary}
+use Rattle.wire.specs.Vocabulary.{Word, Vocabulary, WordInOrder, InOrder, encodeWords, encodeVocabulary, mostKinds, mostWords}
 use Rattle.wire.specs.Refusals.{Sooner, Decides}
-use Rattle.wire.specs.VocabularyLines.{byteAt, recordAt, wordsOf, VocabularyLine, head, count, ends, kind, more, empty}
+use Rattle.wire.specs.VocabularyLines.{byteAt, recordAt, wordsOf, VocabularyLine, head, count, ends, kind, more}
 use Rattle.wire.proofs.Bytes.{drop-begins, drop-ends, offset-drop}
 use Rattle.wire.proofs.Outside.{outside-true, outside-false, no-outside}
-use Rattle.wire.proofs.Words.{in-order-well-formed}
 use Rattle.wire.proofs.Inverse.{ReadOff}
 use Rattle.wire.proofs.WordsInverse.{words-inverse}
-use Rattle.wire.proofs.VocabularyWritten.{encode-front}
 use Rattle.wire.proofs.Records.{after, record-after, KindFrom, kind-byte-from, kind-byte}
 use Rattle.wire.proofs.Parts.{Why, Stopped, Came}
 use Rattle.wire.proofs.WordsRead.{words-read}
 
 -- What readVocabulary has to give of the bytes b.
 pub record Accepted (b : List ℕ) (W : Vocabulary) : Type 0 where
-  pub good : GoodVocabulary W
+  pub inOrder : InOrder W
   pub bytes : b ≡ encodeVocabulary W
   pub noLine : (n q : ℕ) → VocabularyLine b n q → ⊥
 
@@ -58,7 +52,6 @@ first-line b m r (count g h) = inl (lit< tt)
 first-line b m r (ends g h) = inl (lit< tt)
 first-line b m r (kind q k h l) = inl (lit< tt)
 first-line b m r (more h) = inl (lit< tt)
-first-line b m r (empty W x k s e h) = inl (lit< tt)
 
 no-head : (b : List ℕ) → 2 ≤ length b → 1 ≤ byteAt b 0 → byteAt b 0 ≤ mostKinds → (length b < 2) ⊎ Outside 1 mostKinds (byteAt b 0) → ⊥
 no-head b h l m (inl o) = omega arith
@@ -71,7 +64,6 @@ second-line b h l k m r (count g o) = inr (refl, inr (refl, omega arith))
 second-line b h l k m r (ends g o) = inl (lit< tt)
 second-line b h l k m r (kind q y o p) = inl (lit< tt)
 second-line b h l k m r (more o) = inl (lit< tt)
-second-line b h l k m r (empty W x j s e o) = inl (lit< tt)
 
 fourth-again : (p q : ℕ) → ¬ (q < p) → Sooner 4 p 4 q
 fourth-again p q h = go (ltb p q) refl
@@ -96,7 +88,6 @@ module _ (b : List ℕ) (headed : Headed b) where
   third-line h clean m r (ends g o) = inr (refl, inr (refl, omega arith))
   third-line h clean m r (kind q y o p) = absurd (omega (arith, clean q (kind-byte-from b q y) o))
   third-line h clean m r (more o) = inl (lit< tt)
-  third-line h clean m r (empty W x j s e o) = inl (lit< tt)
 
   -- Line 4 at p, where the kind bytes before it are in order.
   fourth-line : (p : ℕ) → p < length b → ((q : ℕ) → KindFrom b (wordsOf b) 2 q → q < p → byteAt b q < byteAt b 0) →
@@ -106,7 +97,6 @@ module _ (b : List ℕ) (headed : Headed b) where
   fourth-line p h clean m r (ends g o) = inr (refl, inl h)
   fourth-line p h clean m r (kind q y o l) = fourth-again p q (λ before. omega (arith, clean q (kind-byte-from b q y) before))
   fourth-line p h clean m r (more o) = inl (lit< tt)
-  fourth-line p h clean m r (empty W x j s e o) = inl (lit< tt)
 
   -- Line 5, where the records are in order.
   fifth-line : recordAt b (wordsOf b) ≤ length b → ((q : ℕ) → KindFrom b (wordsOf b) 2 q → byteAt b q < byteAt b 0) →
@@ -116,17 +106,15 @@ module _ (b : List ℕ) (headed : Headed b) where
   fifth-line h clean m r (ends g o) = absurd (omega arith)
   fifth-line h clean m r (kind q y o p) = absurd (omega (arith, clean q (kind-byte-from b q y)))
   fifth-line h clean m r (more o) = inr (refl, inr (refl, omega arith))
-  fifth-line h clean m r (empty W x j s e o) = inl (lit< tt)
 
-  -- Line 6 alone is left, where the records are in order and nothing follows them.
-  last-line : recordAt b (wordsOf b) ≡ length b → ((q : ℕ) → KindFrom b (wordsOf b) 2 q → byteAt b q < byteAt b 0) →
-      (m r : ℕ) → VocabularyLine b m r → (m ≡ 6) × ((W : Vocabulary) × (x : List ℕ) × InOrder W × (b ≡ encodeVocabulary W ++ x) × LeastEmpty (signature W) r)
-  last-line h clean m r (head o) = absurd (no-first o)
-  last-line h clean m r (count g o) = absurd (no-second o)
-  last-line h clean m r (ends g o) = absurd (omega arith)
-  last-line h clean m r (kind q y o p) = absurd (omega (arith, clean q (kind-byte-from b q y)))
-  last-line h clean m r (more o) = absurd (omega arith)
-  last-line h clean m r (empty W x j s e o) = (refl, (W, x, s, e, o))
+  -- No line fits where the records are in order and nothing follows them.
+  no-line : recordAt b (wordsOf b) ≡ length b → ((q : ℕ) → KindFrom b (wordsOf b) 2 q → byteAt b q < byteAt b 0) →
+      (m r : ℕ) → VocabularyLine b m r → ⊥
+  no-line h clean m r (head o) = no-first o
+  no-line h clean m r (count g o) = no-second o
+  no-line h clean m r (ends g o) = omega arith
+  no-line h clean m r (kind q y o p) = omega (arith, clean q (kind-byte-from b q y))
+  no-line h clean m r (more o) = omega arith
 
   stopped-decides : (n : ℕ) (r : List ℕ) → Stopped b (byteAt b 0) (recordAt b (wordsOf b)) (KindFrom b (wordsOf b) 2) n r →
       Decides (VocabularyLine b) n (offset b r)
@@ -147,57 +135,29 @@ module _ (b : List ℕ) (headed : Headed b) where
       let here : offset b r ≡ recordAt b (wordsOf b) = offset-drop b r (recordAt b (wordsOf b)) d (omega arith) in
       rw here (record { fits = more h; first = fifth-line (omega arith) clean })
 
-  line6-read : (W : Vocabulary) → InOrder W → b ≡ encodeVocabulary W → recordAt b (wordsOf b) ≡ length b →
-      ((q : ℕ) → KindFrom b (wordsOf b) 2 q → byteAt b q < byteAt b 0) → VocabularyRead b (line6 W (firstEmpty (signature W)))
-  line6-read W s e h clean = go (firstEmpty (signature W)) refl
-    where
-      exactly : FirstEmptyExact (signature W)
-      exactly = first-empty-is-exact (signature W) (in-order-well-formed W s)
-
-      -- Line 6 fits at the kind that firstEmpty finds, and nowhere else.
-      found : (m r : ℕ) → VocabularyLine b m r → (m ≡ 6) × (firstEmpty (signature W) ≡ some r)
-      found m r line =
-          let fact = last-line h clean m r line in
-          let X = fact .1 .0 in
-          let same : X ≡ W = encode-front X W (fact .1 .1) (fact .1 .2) s (sym (fact .1 .3) ∙ e) in
-          (fact .0, exactly .found r .1 (rw same at (fact .1 .4)))
-
-      go : (o : Option ℕ) → firstEmpty (signature W) ≡ o → VocabularyRead b (line6 W o)
-      go none f = record {
-        good = record { inOrder = s; inhabited = exactly .missed .0 f };
-        bytes = e;
-        noLine = λ m r line. let here = found m r line in let z : _≡_ {A = ℕ} 0 1 = cc in absurd (omega arith);
-      }
-      go (some k) f = record {
-        fits = empty W [] k s (e ∙ sym (append-nil (encodeVocabulary W))) (exactly .found k .0 f);
-        first = λ m r line.
-            let here = found m r line in
-            let number = here .0 in
-            let place : k ≡ r = cc in
-            rw (number, place) (inr (refl, inr (refl, omega arith)));
-      }
-
 -- What is left to judge once lines 1 and 2 do not fit.
-lines5and6-read : (b : List ℕ) → Headed b → (g : Got (List Word)) → b ≡ byteAt b 0 ∷ wordsOf b ∷ drop 2 b →
+line5-read : (b : List ℕ) → Headed b → (g : Got (List Word)) → b ≡ byteAt b 0 ∷ wordsOf b ∷ drop 2 b →
     ReadOff encodeWords (λ ws. (length ws ≡ wordsOf b) × All (WordInOrder (byteAt b 0)) ws) (drop 2 b) g →
-    Came b (byteAt b 0) (after b (wordsOf b) 2) (KindFrom b (wordsOf b) 2) g → VocabularyRead b (lines5and6 b (byteAt b 0) g)
-lines5and6-read b headed (stop n r) whole off s = stopped-decides b headed n r (rw (record-after b (wordsOf b)) s)
-lines5and6-read b headed (got ws (x ∷ r)) whole off passed =
+    Came b (byteAt b 0) (after b (wordsOf b) 2) (KindFrom b (wordsOf b) 2) g → VocabularyRead b (line5 b (byteAt b 0) g)
+line5-read b headed (stop n r) whole off s = stopped-decides b headed n r (rw (record-after b (wordsOf b)) s)
+line5-read b headed (got ws (x ∷ r)) whole off passed =
     more-decides b headed (x ∷ r) (rw (record-after b (wordsOf b)) (passed .rest))
     (rw (record-after b (wordsOf b)) (drop-begins b (after b (wordsOf b) 2) x r (sym (passed .rest)) .inside))
     (passed .clean)
-lines5and6-read b headed (got ws []) whole ((number, wordsInOrder), bytes) passed =
-    line6-read b headed (record { kinds = byteAt b 0; words = ws })
-    (record {
-      someKind = headed .someKind;
-      fewKinds = headed .fewKinds;
-      someWord = omega (arith, headed .someWord);
-      fewWords = omega (arith, headed .fewWords);
-      words = wordsInOrder;
-    })
-    (cc (append-nil (encodeWords ws)))
-    (rw (record-after b (wordsOf b)) (omega (arith, passed .inside, drop-ends b (after b (wordsOf b) 2) (sym (passed .rest)))))
-    (passed .clean)
+line5-read b headed (got ws []) whole ((number, wordsInOrder), bytes) passed =
+    record {
+      inOrder = record {
+        someKind = headed .someKind;
+        fewKinds = headed .fewKinds;
+        someWord = omega (arith, headed .someWord);
+        fewWords = omega (arith, headed .fewWords);
+        words = wordsInOrder;
+      };
+      bytes = cc (append-nil (encodeWords ws));
+      noLine = no-line b headed
+          (rw (record-after b (wordsOf b)) (omega (arith, passed .inside, drop-ends b (after b (wordsOf b) 2) (sym (passed .rest)))))
+          (passed .clean);
+    }
 
 pub vocabulary-read : (b : List ℕ) → IsBytes b → VocabularyRead b (readVocabulary b)
 vocabulary-read [] bytes = record { fits = head (inl (lit< tt)); first = first-line [] }
@@ -208,7 +168,7 @@ vocabulary-read (k ∷ n ∷ l) bytes = go (outside 1 mostKinds k) refl (outside
     b = k ∷ n ∷ l
 
     go : (t : Bool) → outside 1 mostKinds k ≡ t → (u : Bool) → outside 1 mostWords n ≡ u →
-        VocabularyRead b (cond t (refuse 1 0) (cond u (refuse 2 1) (lines5and6 b k (readWords k n l))))
+        VocabularyRead b (cond t (refuse 1 0) (cond u (refuse 2 1) (line5 b k (readWords k n l))))
     go true t u v = record { fits = head (inr (outside-true 1 mostKinds k t)); first = first-line b }
     go false t true v =
         let h = outside-false 1 mostKinds k t in
@@ -216,6 +176,6 @@ vocabulary-read (k ∷ n ∷ l) bytes = go (outside 1 mostKinds k) refl (outside
     go false t false v =
         let h = outside-false 1 mostKinds k t in
         let j = outside-false 1 mostWords n v in
-        lines5and6-read b
+        line5-read b
         (record { long = omega arith; someKind = h .0; fewKinds = h .1; someWord = j .0; fewWords = j .1 })
         (readWords k n l) refl (words-inverse k n .read l (bytes .1 .1)) (words-read b k n 2 l refl (omega arith))

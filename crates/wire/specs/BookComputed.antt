@@ -15,6 +15,7 @@
 --   someLong W s l             some entry of l has more bytes than a pattern may have
 --   passes W s room l          the entries l have more bytes than there is room for, or one of them more than a pattern may have
 --   firstPast W s room i l ts  the first of the patterns ts, counted from i, behind which this holds of what is left of the entries l
+--   bookEntries W s ts         the entries of a book
 --   BookJudged                 the inputs of list_book as they are read, or a refusal's number, input and place
 --   judgedBook, judgedUnder, bookJudged v b    these inputs, in the order in which they are judged
 --   bookClear j                the reply that says whether the inputs are in order
@@ -27,14 +28,14 @@ use Prim.Native.Nat.{ℕ, suc}
 use lib.Dec.{eqb, ltb}
 use lib.ListN.{length, take, drop}
 use Rattle.terms.specs.Lists.{orElse}
-use Rattle.terms.specs.Term.{Term, any}
-use Rattle.terms.specs.Book.{against}
+use Rattle.terms.specs.Term.{Term}
+use Rattle.terms.specs.Productive.{wholeOf, leftBehind, bookListingOf}
 use Rattle.wire.specs.Reply.{Reply, accepted, refused, Kinded, kinded, outside}
 use Rattle.wire.specs.Vocabulary.{Vocabulary, signature}
 use Rattle.wire.specs.TermBytes.{encodeTerm, mostBytes, mostLevels}
 use Rattle.wire.specs.BookBytes.{mostPatterns, patternsBytes}
 use Rattle.wire.specs.PatternLines.{sightings}
-use Rattle.wire.specs.BookLeftovers.{mostListed, bookEntries}
+use Rattle.wire.specs.BookLeftovers.{mostListed}
 use Rattle.wire.specs.Effect.{Effect}
 use Rattle.wire.specs.Parser.{Reading, accept, refuse, Got, got, stop, andThen, offset, readRow, Read, readTerm, readVocabulary}
 use Rattle.wire.specs.ListComputed.{repeatedIn, listedInto}
@@ -97,8 +98,11 @@ passes W s room l = ltb room (length (patternsBytes W s l)) || someLong W s l
 abbrev pub firstPast : Vocabulary → ℕ → ℕ → ℕ → List Term → List Term → Option ℕ
 firstPast W s room i l [] = none
 firstPast W s room i l (t ∷ ts) =
-    let left : List Term = against (signature W) t l in
+    let left : List Term = leftBehind (signature W) s t l in
     cond (passes W s room left) (some i) (firstPast W s room (suc i) left ts)
+
+abbrev pub bookEntries : Vocabulary → ℕ → List Term → List Term
+bookEntries W s ts = bookListingOf (signature W) s ts
 
 pub data BookJudged : Type 0 where
   listable : Vocabulary → Book → BookJudged
@@ -122,12 +126,12 @@ bookClear (unlistable n i q) = refused n i q
 abbrev pub bookInto : Vocabulary → List ℕ → Book → Option ℕ → Effect
 bookInto W out x (some i) = record { reply = refused 26 5 i; after = out }
 bookInto W out x none =
-    let entries : List Term = bookEntries W (x .patterns) in
+    let entries : List Term = bookEntries W (x .kind) (x .patterns) in
     listedInto out (length entries) (patternsBytes W (x .kind) entries)
 
 abbrev pub bookWith : List ℕ → BookJudged → Effect
 bookWith out (unlistable n i q) = record { reply = refused n i q; after = out }
-bookWith out (listable W x) = bookInto W out x (firstPast W (x .kind) mostListed 0 (any ∷ []) (x .patterns))
+bookWith out (listable W x) = bookInto W out x (firstPast W (x .kind) mostListed 0 (wholeOf (signature W) (x .kind)) (x .patterns))
 
 abbrev pub bookListed : List ℕ → List ℕ → List ℕ → Effect
 bookListed v b out = bookWith out (bookJudged v b)

@@ -2,10 +2,9 @@
 --
 --   mostListed                 the entries of a book have at most so many bytes in all (32,768)
 --   PassesLimit W s l          the entries l pass it, or one of them has more bytes than a pattern may have
---   bookEntries W ts           the entries of the book of the patterns ts
+--   PassesBehind W s ts        the entries that the patterns ts leave pass a limit
 --   FirstPast W s ts i         pattern i is the first behind which the entries that are left pass a limit
 --   WithinLimits W s ts        behind no pattern do they pass one
---   bookLength W s ts          how many bytes the entries have
 --   BookEntries W s ts n m after   what holds of the n entries in the first m bytes of the lent slice
 --   BookUnder, BookRefusal     the number, input and place that the refusal list decides on
 --   BookPromise                what list_book promises of its reply and the lent slice
@@ -18,7 +17,7 @@ use lib.ListN.{length, getD, take, drop}
 use Rattle.terms.specs.Lists.{All, Reordered}
 use Rattle.terms.specs.Term.{Term, any, Ground, SortedG, names}
 use Rattle.terms.specs.Substitution.{withVariables}
-use Rattle.terms.specs.Book.{bookListing, FitsEither, NeededBeside, RepresentsAll}
+use Rattle.terms.specs.Book.{IsBookListing, FitsEither, NeededBeside, RepresentsAll}
 use Rattle.wire.specs.Reply.{Reply, accepted, refused, Kinded, kinded}
 use Rattle.wire.specs.Vocabulary.{Vocabulary, signature, HoldsVocabulary}
 use Rattle.wire.specs.TermBytes.{encodeTerm, GoodTerm, mostBytes, HoldsTerm}
@@ -34,20 +33,17 @@ mostListed = 32768
 abbrev pub PassesLimit : Vocabulary → ℕ → List Term → Type 0
 PassesLimit W s l = (mostListed < length (patternsBytes W s l)) ⊎ ((i : ℕ) × (i < length l) × (mostBytes < length (encodeTerm W s (getD l i any))))
 
-abbrev pub bookEntries : Vocabulary → List Term → List Term
-bookEntries W ts = bookListing (signature W) ts
+abbrev pub PassesBehind : Vocabulary → ℕ → List Term → Type 0
+PassesBehind W s ts = (l : List Term) × IsBookListing (signature W) s ts l × PassesLimit W s l
 
 -- "the entries left after some pattern": those of the patterns up to it.
 pub record FirstPast (W : Vocabulary) (s : ℕ) (ts : List Term) (i : ℕ) : Type 0 where
   pub below : i < length ts
-  pub passes : PassesLimit W s (bookEntries W (take (suc i) ts))
-  pub first : (j : ℕ) → j < i → PassesLimit W s (bookEntries W (take (suc j) ts)) → ⊥
+  pub passes : PassesBehind W s (take (suc i) ts)
+  pub first : (j : ℕ) → j < i → PassesBehind W s (take (suc j) ts) → ⊥
 
 abbrev pub WithinLimits : Vocabulary → ℕ → List Term → Type 0
-WithinLimits W s ts = (i : ℕ) → i < length ts → PassesLimit W s (bookEntries W (take (suc i) ts)) → ⊥
-
-abbrev pub bookLength : Vocabulary → ℕ → List Term → ℕ
-bookLength W s ts = length (patternsBytes W s (bookEntries W ts))
+WithinLimits W s ts = (i : ℕ) → i < length ts → PassesBehind W s (take (suc i) ts) → ⊥
 
 pub record BookEntries (W : Vocabulary) (s : ℕ) (ts : List Term) (n m : ℕ) (after : List ℕ) : Type 0 where
   -- The first bytes, as many as answered, are the answered number of whole patterns: these, and no others.
@@ -59,7 +55,9 @@ pub record BookEntries (W : Vocabulary) (s : ℕ) (ts : List Term) (n m : ℕ) (
       take m after ≡ entriesBytes W l → l ≡ map (kinded s) entries
   -- "The order of entries is left open, and the contract says so; the entries themselves are fixed, each standing once." They are
   -- those of the definition, in some order that is not promised.
-  pub fixed : Reordered entries (bookEntries W ts)
+  pub asDefined : List Term
+  pub isListing : IsBookListing (signature W) s ts asDefined
+  pub fixed : Reordered entries asDefined
   -- Each is a pattern that the term check accepts. "Entries here carry no names".
   pub each : All (λ e. HoldsTerm W (encodeTerm W s e) s e × (names e ≡ [])) entries
   -- "Every complete situation of the kind fits some pattern or, by one filling only, a single entry, never both": of any size.
@@ -77,8 +75,8 @@ pub data BookUnder (b out : List ℕ) (W : Vocabulary) : ℕ → ℕ → ℕ →
   tooLarge : (s : ℕ) (ts : List Term) (i : ℕ) → HoldsBook W b s ts → FirstPast W s ts i → BookUnder b out W 26 5 i
   -- 20. "The listing, or other output that a call is to write, is longer than the lent slice (input 3, place: that output's
   -- length in bytes)."
-  noRoom : (s : ℕ) (ts : List Term) → HoldsBook W b s ts → WithinLimits W s ts → length out < bookLength W s ts →
-      BookUnder b out W 20 3 (bookLength W s ts)
+  noRoom : (s : ℕ) (ts l : List Term) → HoldsBook W b s ts → WithinLimits W s ts → IsBookListing (signature W) s ts l →
+      length out < length (patternsBytes W s l) → BookUnder b out W 20 3 (length (patternsBytes W s l))
 
 abbrev pub BookRefusal : List ℕ → List ℕ → List ℕ → ℕ → ℕ → ℕ → Type 0
 BookRefusal v b out = VocabularyFirst v (BookUnder b out)
@@ -89,8 +87,9 @@ pub record BookPromise (v b before after : List ℕ) (r : Reply) : Type 0 where
   -- It is accepted exactly where vocabulary and book are and the entries fit; the answer is their number and that of their bytes.
   pub answered : (values : List ℕ) →
       (r ≡ accepted values) ↔
-      ((W : Vocabulary) × (s : ℕ) × (ts : List Term) × HoldsVocabulary v W × HoldsBook W b s ts × WithinLimits W s ts ×
-      (bookLength W s ts ≤ length before) × (values ≡ length (bookEntries W ts) ∷ bookLength W s ts ∷ []))
+      ((W : Vocabulary) × (s : ℕ) × (ts : List Term) × (l : List Term) × HoldsVocabulary v W × HoldsBook W b s ts × WithinLimits W s ts ×
+      IsBookListing (signature W) s ts l × (length (patternsBytes W s l) ≤ length before) ×
+      (values ≡ length l ∷ length (patternsBytes W s l) ∷ []))
   -- About the bytes that stand in the lent slice after the call, wherever the reply is no refusal.
   pub entries : (n m : ℕ) → r ≡ accepted (n ∷ m ∷ []) →
       (W : Vocabulary) (s : ℕ) (ts : List Term) → HoldsVocabulary v W → HoldsBook W b s ts → BookEntries W s ts n m after

@@ -1,7 +1,7 @@
 -- Checking: what document 01's calls "check" promise of their replies, with what document 02 (iii) adds.
 --
 --   VocabularyPromise v r    what checking a vocabulary promises of its reply
---   CheckRefusal v b         the number, input and place that the refusal list decides on: lines 1 to 15
+--   CheckRefusal v b         the number, input and place that the refusal list decides on: lines 1 to 5 and 7 to 15
 --   GapShown W b t q         checking the bytes b of the term t shows q as the gap
 --   TermPromise v b r        what checking a term promises of its reply
 --

@@ -21,7 +21,7 @@ use Rattle.terms.specs.Listing.{others, openEvery}
 use Rattle.wire.specs.Map.{writeMap}
 use Rattle.wire.specs.Vocabulary.{Vocabulary, signature}
 use Rattle.wire.specs.TermBytes.{writtenMap, encodeAll}
-use Rattle.wire.specs.Leftovers.{listingBytes}
+use Rattle.wire.specs.ListComputed.{listingBytes}
 
 abbrev pub above : Terms → Terms → Terms
 above nil us = us

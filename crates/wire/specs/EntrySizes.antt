@@ -19,7 +19,7 @@ use Rattle.terms.specs.Listing.{others}
 use Rattle.wire.specs.Map.{mapBytes}
 use Rattle.wire.specs.Vocabulary.{Vocabulary, InOrder, signature}
 use Rattle.wire.specs.TermBytes.{encodeAt, encodeTerm, GoodTerm}
-use Rattle.wire.specs.Leftovers.{entriesOf, listingBytes}
+use Rattle.wire.specs.ListComputed.{entriesOf, listingBytes}
 use Rattle.wire.specs.Parser.{isWord}
 
 abbrev mutual

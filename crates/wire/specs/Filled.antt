@@ -5,7 +5,7 @@
 --   filledTerm x             the pattern with each name replaced
 --   filledBytes x            its bytes
 --   valueSpanFrom, valueSpan x n    where the value of the name n stands in the filling file; 0 and 0 where it has none
---   FillUnder, FillRefusal   the number, input and place that the refusal list decides on: lines 1 to 15, 21, 22, 23 and 20
+--   FillUnder, FillRefusal   the number, input and place that the refusal list decides on: lines 1 to 5 and 7 to 15, 21, 22, 23 and 20
 --   MatchesBack v p b x m    match says yes to the situation m, with the parts that the file gave
 --   Result v p b x m after   what stands in the first m bytes of the lent slice
 --   FillPromise              what fill promises of its reply and the lent slice

@@ -2,7 +2,7 @@
 -- of each.
 --
 --   InOrderIsWellFormed       the signature of a vocabulary in order is well-formed
---   VocabulariesInverse       a vocabulary is accepted exactly where it is the writing of a good one
+--   VocabulariesInverse       a vocabulary is accepted exactly where it is the writing of one in order
 --   TermsInverse              a term is read exactly where it is the writing of a good one, with no limits
 --   LimitsAreATest            the limits on a term handed to a call are a test of their own
 --   CompleteIsGround          a good term is complete exactly where it is a ground term of its kind
@@ -52,7 +52,7 @@ use Rattle.terms.specs.Signature.{WellFormed}
 use Rattle.terms.specs.Term.{Term, Terms, Ground, SortedAll, SortedG, Linear, asTerm, names, openings}
 use Rattle.terms.specs.Filling.{Binding}
 use Rattle.terms.specs.Replacing.{replace}
-use Rattle.terms.specs.Listing.{listing}
+use Rattle.terms.specs.Listing.{IsListing}
 use Rattle.wire.specs.Reply.{Reply, accepted, refused, Kinded, kinded, IsBytes}
 use Rattle.wire.specs.Vocabulary.{Vocabulary, signature, word, mapOf, InOrder, HoldsVocabulary}
 use Rattle.wire.specs.TermBytes.{nameCount, writtenMap, encodeTerm, GoodTerm, deepest, mostBytes, mostLevels, Limits, complete}
@@ -123,7 +123,8 @@ FullMapMeansNoOpenPlace =
 abbrev pub EntriesAreGood : Type 0
 EntriesAreGood =
     (W : Vocabulary) (s : ℕ) (p : Term) → GoodTerm W s p → Linear p →
-    All (λ e. GoodTerm W s e × Linear e × (length (encodeTerm W s e) ≤ length (encodeTerm W s p))) (listing (signature W) p)
+    (l : List Term) → IsListing (signature W) s p l →
+    All (λ e. GoodTerm W s e × Linear e × (length (encodeTerm W s e) ≤ length (encodeTerm W s p))) l
 
 abbrev pub EntriesInverse : Type 0
 EntriesInverse =

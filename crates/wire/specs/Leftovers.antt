@@ -2,10 +2,9 @@
 --
 --   HoldsPattern v p W s t   the bytes v and p are accepted: they write the vocabulary W and its linear pattern t of kind s
 --   entriesBytes W l         whole patterns, each directly behind the one before it
---   entriesOf W s t          the entries of a pattern, each with its kind
---   listingBytes W s t       the bytes of these entries
+--   listedBytes W s l        the bytes of the entries l of kind s
 --   Entries W s t p n m after    demand 3 of the n entries in the first m bytes of the lent slice
---   ListUnder, ListRefusal      the number, input and place that the refusal list decides on: lines 1 to 15, 18 and 20
+--   ListUnder, ListRefusal      the number, input and place that the refusal list decides on: lines 1 to 5 and 7 to 15, 18 and 20
 --   ListPromise              what list promises of its reply and the lent slice
 --
 use mathlib.Core.Path.{_≡_}
@@ -17,7 +16,7 @@ use Rattle.terms.specs.Lists.{All}
 use Rattle.terms.specs.Term.{Term, Ground, SortedG, Linear}
 use Rattle.terms.specs.Substitution.{withVariables}
 use Rattle.terms.specs.Instance.{Represents}
-use Rattle.terms.specs.Listing.{listing, FitsExactlyOne, Needed}
+use Rattle.terms.specs.Listing.{IsListing, FitsExactlyOne, Needed}
 use Rattle.wire.specs.Reply.{Reply, accepted, refused, Kinded, kinded}
 use Rattle.wire.specs.Row.{writeRow}
 use Rattle.wire.specs.Vocabulary.{Vocabulary, signature, HoldsVocabulary}
@@ -36,22 +35,19 @@ pub record HoldsPattern (v p : List ℕ) (W : Vocabulary) (s : ℕ) (t : Term) :
 abbrev pub entriesBytes : Vocabulary → List Kinded → List ℕ
 entriesBytes W l = writeRow (λ k. encodeTerm W (k .kind) (k .term)) l
 
-abbrev pub entriesOf : Vocabulary → ℕ → Term → List Kinded
-entriesOf W s t = map (kinded s) (listing (signature W) t)
-
-abbrev pub listingBytes : Vocabulary → ℕ → Term → List ℕ
-listingBytes W s t = entriesBytes W (entriesOf W s t)
+abbrev pub listedBytes : Vocabulary → ℕ → List Term → List ℕ
+listedBytes W s l = entriesBytes W (map (kinded s) l)
 
 pub record Entries (W : Vocabulary) (s : ℕ) (t : Term) (p : List ℕ) (n m : ℕ) (after : List ℕ) : Type 0 where
   -- "its first bytes, as many as answered, are the answered number of whole patterns": these, and no others.
   pub entries : List Term
   pub count : length entries ≡ n
   pub inside : m ≤ length after
-  pub written : take m after ≡ entriesBytes W (map (kinded s) entries)
+  pub written : take m after ≡ listedBytes W s entries
   pub one : (l : List Kinded) → length l ≡ n → All (λ k. GoodTerm W (k .kind) (k .term)) l →
       take m after ≡ entriesBytes W l → l ≡ map (kinded s) entries
-  -- Demand 3: "are document 01's listing in its order".
-  pub order : entries ≡ listing (signature W) t
+  -- Demand 3: "are document 01's listing in its order"; as document 02 (iv) has it, without what no situation fits, or 255 alone.
+  pub order : IsListing (signature W) s t entries
   -- Each is a pattern that the term check accepts, without repeated names; "An entry is never longer than the pattern."
   pub each : All (λ e. HoldsTerm W (encodeTerm W s e) s e × Linear e × (length (encodeTerm W s e) ≤ length p)) entries
   -- Demand 3: "Every complete situation of the pattern's kind, however large, fits exactly one of the pattern and
@@ -66,8 +62,8 @@ pub record Entries (W : Vocabulary) (s : ℕ) (t : Term) (p : List ℕ) (n m : �
 pub data ListUnder (p out : List ℕ) (W : Vocabulary) : ℕ → ℕ → ℕ → Type 0 where
   ofPattern : (n q : ℕ) → Decides (PatternLine W p) n q → ListUnder p out W n 1 q
   -- 20. "The listing .. is longer than the lent slice (input 3, place: that output's length in bytes)."
-  noRoom : (s : ℕ) (t : Term) → HoldsTerm W p s t → Linear t → length out < length (listingBytes W s t) →
-      ListUnder p out W 20 3 (length (listingBytes W s t))
+  noRoom : (s : ℕ) (t : Term) (l : List Term) → HoldsTerm W p s t → Linear t → IsListing (signature W) s t l →
+      length out < length (listedBytes W s l) → ListUnder p out W 20 3 (length (listedBytes W s l))
 
 abbrev pub ListRefusal : List ℕ → List ℕ → List ℕ → ℕ → ℕ → ℕ → Type 0
 ListRefusal v p out = VocabularyFirst v (ListUnder p out)
@@ -79,8 +75,8 @@ pub record ListPromise (v p before after : List ℕ) (r : Reply) : Type 0 where
   -- number of entries and of bytes".
   pub answered : (values : List ℕ) →
       (r ≡ accepted values) ↔
-      ((W : Vocabulary) × (s : ℕ) × (t : Term) × HoldsPattern v p W s t × (length (listingBytes W s t) ≤ length before) ×
-      (values ≡ length (listing (signature W) t) ∷ length (listingBytes W s t) ∷ []))
+      ((W : Vocabulary) × (s : ℕ) × (t : Term) × (l : List Term) × HoldsPattern v p W s t × IsListing (signature W) s t l ×
+      (length (listedBytes W s l) ≤ length before) × (values ≡ length l ∷ length (listedBytes W s l) ∷ []))
   -- Demand 3, about the bytes that stand in the lent slice after the call, wherever the reply is no refusal.
   pub entries : (n m : ℕ) → r ≡ accepted (n ∷ m ∷ []) →
       (W : Vocabulary) (s : ℕ) (t : Term) → HoldsPattern v p W s t → Entries W s t p n m after

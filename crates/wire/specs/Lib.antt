@@ -34,6 +34,7 @@ pub mod Scan
 pub mod MatchComputed
 pub mod Splicing
 pub mod ListComputed
+pub mod Settling
 pub mod FillComputed
 pub mod BookComputed
 pub mod EntryBytes

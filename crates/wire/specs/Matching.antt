@@ -14,7 +14,7 @@
 --   FitsInputs x             some filling turns the pattern into the situation
 --   TurnsInputs x f          the filling f does
 --   SpansOf x s f table      the table gives the parts that a filling gives the names
---   MatchUnder, MatchRefusal    the number, input and place that the refusal list decides on: lines 1 to 17 and 19
+--   MatchUnder, MatchRefusal    the number, input and place that the refusal list decides on: lines 1 to 5 and 7 to 17 and 19
 --   MatchPromise             what match promises of its reply and table
 --   PartPromise              what part promises of its reply and where in the situation it stands
 --

@@ -15,8 +15,7 @@
 --   readPlaces k r m          what follows a record's result kind r: its map, which was read as m, and its kinds
 --   readWord k l              a record
 --   readWords k n l           n records
---   line6 W o                 line 6, where o is the lowest kind without complete situations
---   lines5and6 b k g          lines 5 and 6, once the records of the bytes b are read as g
+--   line5 b k g               line 5, once the records of the bytes b are read as g
 --   readVocabulary b          a vocabulary
 --   Node                      what stands where a term is due
 --   clash seen n s            the name n stood earlier at a place of another kind than s
@@ -37,15 +36,13 @@
 --
 use mathlib.Core.Bool.{Bool, true, false, not, _&&_, _||_, cond}
 use mathlib.Core.List.{List, [], _∷_, _++_}
-use mathlib.Core.Option.{Option, some, none}
 use Prim.Native.Nat.{ℕ, zero, suc, _+_, _-_}
 use lib.Dec.{eqb, ltb}
 use lib.ListN.{length}
 use Rattle.terms.specs.Term.{Term, any, var, app, Terms, nil, cons, Occurrence}
-use Rattle.terms.specs.Emptiness.{firstEmpty}
 use Rattle.wire.specs.Reply.{Kinded, kinded, outside}
 use Rattle.wire.specs.Map.{MapRead, mapGot, mapMissing, readMap, flags, ones, within, Slot, slots}
-use Rattle.wire.specs.Vocabulary.{Word, Vocabulary, signature, word, mapOf, mostKinds, mostWords}
+use Rattle.wire.specs.Vocabulary.{Word, Vocabulary, word, mapOf, mostKinds, mostWords}
 use Rattle.wire.specs.TermBytes.{nameCount, firstNameByte, wholeByte}
 
 pub data Reading (A : Type 0) : Type 0 where
@@ -91,25 +88,18 @@ readWord k (r ∷ l) = cond (ltb r k) (readPlaces k r (readMap l)) (stop 4 (r �
 abbrev pub readWords : ℕ → ℕ → List ℕ → Got (List Word)
 readWords k n l = readAlike (readWord k) n l
 
--- Line 6: a kind without complete situations.
-abbrev pub line6 : Vocabulary → Option ℕ → Reading Vocabulary
-line6 W none = accept W
-line6 W (some k) = refuse 6 k
-
--- Lines 5 and 6, once the records are read: bytes that follow, then line 6.
-abbrev pub lines5and6 : List ℕ → ℕ → Got (List Word) → Reading Vocabulary
-lines5and6 b k (stop n r) = refuse n (offset b r)
-lines5and6 b k (got ws (x ∷ r)) = refuse 5 (offset b (x ∷ r))
-lines5and6 b k (got ws []) =
-    let W : Vocabulary = record { kinds = k; words = ws } in
-    line6 W (firstEmpty (signature W))
+-- Line 5, once the records are read: bytes that follow.
+abbrev pub line5 : List ℕ → ℕ → Got (List Word) → Reading Vocabulary
+line5 b k (stop n r) = refuse n (offset b r)
+line5 b k (got ws (x ∷ r)) = refuse 5 (offset b (x ∷ r))
+line5 b k (got ws []) = accept (record { kinds = k; words = ws })
 
 abbrev pub readVocabulary : List ℕ → Reading Vocabulary
 readVocabulary [] = refuse 1 0
 readVocabulary (k ∷ []) = refuse 1 0
 readVocabulary (k ∷ n ∷ l) =
     cond (outside 1 mostKinds k) (refuse 1 0)
-    (cond (outside 1 mostWords n) (refuse 2 1) (lines5and6 (k ∷ n ∷ l) k (readWords k n l)))
+    (cond (outside 1 mostWords n) (refuse 2 1) (line5 (k ∷ n ∷ l) k (readWords k n l)))
 
 pub data Node : Type 0 where
   -- A word, its slots, and the bytes behind its map.

@@ -13,14 +13,13 @@ use lib.ListN.{take, replicate}
 use Rattle.wire.specs.Reply.{Reply, accepted, refused, Kinded}
 use Rattle.wire.specs.Vocabulary.{Vocabulary}
 use Rattle.wire.specs.TermBytes.{encodeTerm}
-use Rattle.wire.specs.Leftovers.{entriesOf}
 use Rattle.wire.specs.Printing.{mostInput, listingSpace, vocabularyPart, patternPart, listingText, refusalText}
 use Rattle.wire.specs.Parser.{Reading, accept, refuse, readVocabulary}
-use Rattle.wire.specs.ListComputed.{checkedLinear, listed}
+use Rattle.wire.specs.ListComputed.{checkedLinear, leftoversOf, listed}
 
 abbrev pub entriesUnder : Vocabulary → Reading Kinded → List (List ℕ)
 entriesUnder W (refuse n q) = []
-entriesUnder W (accept k) = map (λ (e : Kinded). encodeTerm W (e .kind) (e .term)) (entriesOf W (k .kind) (k .term))
+entriesUnder W (accept k) = map (λ (e : Kinded). encodeTerm W (e .kind) (e .term)) (leftoversOf W (k .kind) (k .term))
 
 abbrev pub entriesWith : List ℕ → Reading Vocabulary → List (List ℕ)
 entriesWith p (refuse n q) = []

@@ -3,7 +3,7 @@
 --   Call           a call with its inputs, a lent slice's content before the call among them, or a run of the program
 --   Outcome        a reply and the lent slice's content after the call, or what the program prints
 --   outcome c      the outcome of a call, by the definitions that the contracts cite
---   Row, starred   a case: a call, and the outcome that document 01 gives
+--   Row, starred   a case: a call, and the outcome that document 01 gives, the last as document 02 (iv) changed it
 --   A, B, C        document 01's vocabularies
 --   waitUpFree     wait(up, free) under A
 --   pairTwice      pair(n0, n0) under C
@@ -125,10 +125,10 @@ starred =
       call = matchPattern C (0x00 ∷ 0xff ∷ []) (0x00 ∷ 0x02 ∷ 0x01 ∷ 0x00 ∷ 0x00 ∷ []) lent;
       outcome = answers (refused 16 2 2) lent;
     }
-    -- "Vocabulary `01 01 00 01 00`: 6, input 0, place 0."
+    -- "Vocabulary `01 01 00 01 00`: 6, input 0, place 0." Document 02 (iv): "its starred case is now accepted".
     ∷ record {
       call = checkVocabulary (0x01 ∷ 0x01 ∷ 0x00 ∷ 0x01 ∷ 0x00 ∷ []);
-      outcome = answers (refused 6 0 0) [];
+      outcome = answers (accepted []) [];
     }
     ∷ []
 

@@ -12,8 +12,7 @@
 --   encodeWord w          the bytes of a record
 --   encodeWords ws        the bytes of the records ws
 --   encodeVocabulary W    the bytes of W
---   GoodVocabulary W      document 01's vocabularies: in order, and every kind has a complete situation
---   HoldsVocabulary v W   the bytes v are accepted: they write the good vocabulary W
+--   HoldsVocabulary v W   the bytes v are accepted: they write the vocabulary W, which is in order
 --
 use mathlib.Core.Path.{_≡_}
 use mathlib.Core.List.{List, [], _∷_, _++_, map}
@@ -21,7 +20,6 @@ use Prim.Native.Nat.{ℕ, _<_, _≤_, _^_}
 use lib.ListN.{length, getD}
 use Rattle.terms.specs.Lists.{All}
 use Rattle.terms.specs.Signature.{Symbol, Signature}
-use Rattle.terms.specs.Inhabited.{Inhabited}
 use Rattle.wire.specs.Map.{mapBits, writeMap, flags, ones}
 use Rattle.wire.specs.Row.{writeRow}
 
@@ -81,11 +79,7 @@ encodeWords ws = writeRow encodeWord ws
 abbrev pub encodeVocabulary : Vocabulary → List ℕ
 encodeVocabulary W = W .kinds ∷ length (W .words) ∷ encodeWords (W .words)
 
--- "Every kind must have at least one complete situation, of any size and depth".
-pub record GoodVocabulary (W : Vocabulary) : Type 0 where
-  pub inOrder : InOrder W
-  pub inhabited : Inhabited (signature W)
-
+-- A kind may be "without situations" (document 02 (iv), which struck document 01's rule that every kind has one).
 pub record HoldsVocabulary (v : List ℕ) (W : Vocabulary) : Type 0 where
-  pub good : GoodVocabulary W
+  pub inOrder : InOrder W
   pub written : v ≡ encodeVocabulary W

@@ -1,4 +1,5 @@
--- VocabularyLines: lines 1 to 6 of the refusal list, each a predicate on the bytes of a vocabulary.
+-- VocabularyLines: lines 1 to 5 of the refusal list, each a predicate on the bytes of a vocabulary. Line 6 was struck by document
+-- 02 (iv), and its number is not used again.
 --
 --   byteAt b i                the byte at offset i
 --   mapIn m                   the map that was read as m; 0 where the bytes end first
@@ -10,15 +11,13 @@
 --   VocabularyFirst v Under   a refusal of the vocabulary v, or one of those that a call gives under the vocabulary that
 --                             v writes
 --
-use mathlib.Core.Path.{_≡_}
-use mathlib.Core.List.{List, _++_}
+use mathlib.Core.List.{List}
 use mathlib.Core.Logic.{_⊎_}
 use Prim.Native.Nat.{ℕ, zero, suc, _+_, _<_, _≤_}
 use lib.ListN.{length, getD, drop}
-use Rattle.terms.specs.Inhabited.{LeastEmpty}
 use Rattle.wire.specs.Reply.{Outside}
 use Rattle.wire.specs.Map.{mapBytes, MapRead, mapGot, mapMissing, readMap, flags, ones}
-use Rattle.wire.specs.Vocabulary.{Vocabulary, signature, mostKinds, mostWords, InOrder, encodeVocabulary, HoldsVocabulary}
+use Rattle.wire.specs.Vocabulary.{Vocabulary, mostKinds, mostWords, HoldsVocabulary}
 use Rattle.wire.specs.Refusals.{Decides}
 
 abbrev pub byteAt : List ℕ → ℕ → ℕ
@@ -56,8 +55,6 @@ pub data VocabularyLine (b : List ℕ) : ℕ → ℕ → Type 0 where
   kind : (q : ℕ) → KindByte b q → q < length b → byteAt b 0 ≤ byteAt b q → VocabularyLine b 4 q
   -- 5. "Bytes follow the last record (the first of them)."
   more : recordAt b (wordsOf b) < length b → VocabularyLine b 5 (recordAt b (wordsOf b))
-  -- 6. "A kind has no complete situation (place: the lowest such kind)." Bytes r may follow: 5 then comes first.
-  empty : (W : Vocabulary) (r : List ℕ) (k : ℕ) → InOrder W → b ≡ encodeVocabulary W ++ r → LeastEmpty (signature W) k → VocabularyLine b 6 k
 
 -- "The vocabulary is checked first". It is input 0; what a call judges then it judges under the vocabulary W.
 pub data VocabularyFirst (v : List ℕ) (Under : Vocabulary → ℕ → ℕ → ℕ → Type 0) : ℕ → ℕ → ℕ → Type 0 where

@@ -430,7 +430,12 @@ fn vocabularies(bench: &mut Bench) {
     let last = ends.len() - 1;
     ends[last] = 1;
     bench.vocabulary("vocabulary, 96 words, refused 4 at the end", &ends);
-    bench.vocabulary("vocabulary, refused 6", &[1, 1, 0, 1, 0]);
+    bench.vocabulary("vocabulary, a word over itself", &terms::W);
+    bench.vocabulary("vocabulary, 96 words, half unusable", &terms::half());
+    bench.vocabulary(
+        "vocabulary, 16 kinds in a chain, 15 of them empty",
+        &terms::empty_chain(),
+    );
     bench.term_row(
         "vocabulary, 96 words, 16 kinds: check term n0",
         &terms::d(),
@@ -557,6 +562,47 @@ fn lists(bench: &mut Bench, all: &[Term]) {
     for size in [64, 256, 1_024] {
         bench.list_row("list, C even", c, &terms::even(size));
     }
+    Bench::list_head("List under vocabularies with empty kinds");
+    let (a, c, half) = (&terms::A_EMPTY[..], &terms::C_EMPTY[..], &terms::half()[..]);
+    bench.list_row("list, a word over itself, nothing", &terms::W, &[0, 0, 0]);
+    bench.list_row(
+        "list, A without printer, wait(up, free)",
+        a,
+        &[0, 0, 3, 1, 0, 3, 0],
+    );
+    bench.list_row(
+        "list, A without printer, print(_), any alone",
+        a,
+        &[0, 6, 0],
+    );
+    bench.list_row(
+        "list, 16 kinds in a chain, 15 of them empty",
+        &terms::empty_chain(),
+        &[0, 16, 0],
+    );
+    bench.list_row("list, 96 words, half unusable, leaf", half, &[0, 6, 0]);
+    bench.list_row(
+        "list, 96 words, half unusable, pair of leaves",
+        half,
+        &[0, 50, 3, 4, 0, 6, 0],
+    );
+    bench.list_row(
+        "list, 96 words, half unusable, any alone",
+        half,
+        &[0, 51, 1, 6, 0],
+    );
+    for size in [60, 200, 500] {
+        let pattern = terms::even_half(size);
+        bench.list_row("list, 96 words, half unusable, pairs", half, &pattern);
+    }
+    for size in [64, 1_024, 4_096] {
+        bench.list_row("list, C and an empty kind, even", c, &terms::even(size));
+    }
+    for size in [64, 1_024, 4_096] {
+        let pattern = terms::even_unfit(size);
+        bench.list_row("list, C and an empty kind, even, any alone", c, &pattern);
+    }
+    let c = &terms::C[..];
     Bench::head("List refused");
     for term in all {
         let name = format!("list, {}, refused 20", term.name);
@@ -602,6 +648,10 @@ fn list_books(bench: &mut Bench) {
     println!("|---|---:|---:|---:|---:|---:|---:|---:|---:|");
     let all = books::all();
     for book in &all {
+        let name = format!("book, {}", book.name);
+        bench.book_row(&name, &book.vocabulary, &book.book);
+    }
+    for book in &books::empty() {
         let name = format!("book, {}", book.name);
         bench.book_row(&name, &book.vocabulary, &book.book);
     }

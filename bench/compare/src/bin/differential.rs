@@ -215,6 +215,7 @@ fn listing(case: &Case, number: u64, out: &mut Lent<u8>, seen: &mut Seen) {
     out.compare(case, number, "list", bytes);
     let how = match mine[2] {
         0 => "0 entries",
+        2 => "any alone",
         1..=0xffff => "entries",
         _ => "64 KiB or more",
     };
@@ -264,6 +265,7 @@ fn listing_book(case: &BookCase, number: u64, out: &mut Lent<u8>, seen: &mut See
     }
     let how = match mine[2] {
         0 => "0 entries",
+        2 => "any alone",
         1..=0x0fff => "entries",
         _ => "4 KiB or more",
     };

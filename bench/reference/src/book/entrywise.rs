@@ -29,8 +29,9 @@ fn size(bytes: &[u8]) -> usize {
     at
 }
 
-/// Whether an entry and a pattern share a situation. Both are taken from their
-/// words on, and what is passed of them is taken off.
+/// Whether an entry and a pattern, each of which some situation fits, share
+/// one. Both are taken from their words on, and what is passed of them is taken
+/// off.
 fn share(entry: &mut &[u8], pattern: &mut &[u8]) -> bool {
     let (e, p) = (*entry, *pattern);
     if e[0] >= NAME || p[0] >= NAME {
@@ -155,11 +156,18 @@ fn strike(kinds: &Kinds, mut entries: &[u8], pattern: &[u8]) -> Result<Vec<u8>, 
 
 /// Lists the leftovers of a book that is in order.
 pub fn list_read(kinds: &Kinds, book: &[u8], out: &mut [u8]) -> Result<Reply, Refusal> {
-    let mut listing = vec![book[1], 255];
+    let mut listing = Vec::new();
+    if kinds.has(book[1]) {
+        listing.extend([book[1], 255]);
+    }
     let mut rest = &book[1..];
     for number in 0..book[0] {
         let (pattern, behind) = rest.split_at(1 + size(&rest[1..]));
         rest = behind;
+        // One that no situation fits changes nothing.
+        if !kinds.fits(pattern) {
+            continue;
+        }
         listing = strike(kinds, &listing, pattern).map_err(|_| [26, 5, number as u64])?;
     }
     let Some(out) = out.get_mut(..listing.len()) else {

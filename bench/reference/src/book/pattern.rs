@@ -1,25 +1,27 @@
 //! A pattern made ready to be taken from many entries.
 
 use super::{Node, Set, PATTERN};
-use crate::vocabulary::{Words, ONES};
+use crate::vocabulary::{Usable, Words, ONES};
 
 /// The first name; words are below.
 const NAME: u8 = 128;
 
-/// The words of each kind, and for each word its kind and whether it has other
-/// words beside it.
+/// The words of each kind that stand in complete situations, and for each word
+/// its kind and whether it has such other words beside it.
 pub struct Kinds {
     words: [Set; 16],
     kinds: [u8; 128],
     lists: [bool; 256],
+    usable: Option<Usable>,
 }
 
 impl Kinds {
-    pub fn new<const W: usize>(words: &Words<W>) -> Self {
+    pub fn new<const W: usize>(words: &Words<W>, usable: Option<&Usable>) -> Self {
         let mut all = Kinds {
             words: [0; 16],
             kinds: [0; 128],
             lists: [false; 256],
+            usable: usable.copied(),
         };
         let facts = &words.facts[..words.words as usize];
         for (number, facts) in facts.iter().enumerate() {
@@ -27,10 +29,25 @@ impl Kinds {
             all.words[kind as usize] |= 1 << number;
             all.kinds[number & 127] = kind;
         }
+        if let Some(usable) = usable {
+            all.words.iter_mut().for_each(|set| *set &= usable.words);
+        }
         for number in 0..facts.len() {
             all.lists[number] = all.others(number as u8) != 0;
         }
         all
+    }
+
+    /// Whether a kind has complete situations.
+    #[inline(always)]
+    pub fn has(&self, kind: u8) -> bool {
+        self.usable.is_none_or(|usable| usable.has(kind))
+    }
+
+    /// Whether a complete situation fits a pattern of a kind that has some.
+    #[inline(always)]
+    pub fn fits(&self, pattern: &[u8]) -> bool {
+        self.usable.is_none_or(|usable| usable.fits(pattern))
     }
 
     /// The other words of the same kind.

@@ -79,7 +79,8 @@ impl Gen {
         for (rank, &(_, kind)) in places.iter().enumerate() {
             let mut share = self.share(*spare, places.len() - rank);
             *spare -= share;
-            let written = level < 32 && share >= 2 && !self.once_in(open);
+            let worded = !v.by_kind[kind].is_empty();
+            let written = worded && level < 32 && share >= 2 && !self.once_in(open);
             terms.push(written.then(|| self.partial(v, kind, level + 1, &mut share, open)));
             *spare += share;
         }
@@ -109,7 +110,7 @@ impl Gen {
         };
         for (&(_, kind), term) in v.words[*number].places.iter().zip(terms) {
             match term {
-                None if level < 31 && self.once_in(rarely) => {
+                None if level < 31 && !v.by_kind[kind].is_empty() && self.once_in(rarely) => {
                     let mut spare = self.pick(&[2, 2, 4, 10]);
                     *term = Some(self.partial(v, kind, level + 1, &mut spare, 3));
                 }
@@ -121,7 +122,8 @@ impl Gen {
 
     /// A short pattern of the kind, mostly in order.
     fn short(&mut self, v: &Vocabulary, kind: usize, naming: Naming) -> Tree {
-        match self.below(150) {
+        let first = if v.by_kind[kind].is_empty() { 2 } else { 150 };
+        match self.below(first) {
             0 => Tree::Any,
             1 => Tree::Name(self.below(64) as u8),
             2..=50 => {
@@ -176,7 +178,11 @@ impl Gen {
             _ => Naming::Once,
         };
         let bytes = self.between(5, 40);
-        let situation = self.situation(v, kind, bytes);
+        let situation = if v.has(kind) {
+            self.situation(v, kind, bytes)
+        } else {
+            Tree::Any
+        };
         let listed = count <= 8 || self.once_in(8);
         let mut patterns: Patterns = Vec::new();
         while patterns.len() < count {
@@ -213,9 +219,12 @@ impl Gen {
     }
 
     /// A kind of which there are short situations, mostly one of which there
-    /// are many.
+    /// are many; or any kind, if there is no such one.
     fn book_kind(&mut self, v: &Vocabulary) -> usize {
         let short: Vec<usize> = (0..v.kinds).filter(|&kind| v.size[kind] < 200).collect();
+        if short.is_empty() {
+            return self.below(v.kinds);
+        }
         let many: Vec<usize> = short.iter().copied().filter(|&k| many(v, k)).collect();
         if many.is_empty() || self.once_in(8) {
             self.pick(&short)
@@ -231,7 +240,7 @@ impl Gen {
             let v = self.vocabulary();
             let good = |kind| v.size[kind] < 200 && many(&v, kind);
             let usable = v.size.iter().any(|&size| size < 200);
-            if v.sound() && (0..v.kinds).any(good) || usable && self.once_in(6) {
+            if (0..v.kinds).any(good) || self.once_in(if usable { 6 } else { 20 }) {
                 return v;
             }
         }
@@ -288,6 +297,19 @@ impl Gen {
             let places = self.between(2, 8);
             words.push(self.word(0, places, &all));
         }
+        let mut kinds = kinds;
+        if self.once_in(3) {
+            // Choices over a kind without situations.
+            for _ in 0..self.between(1, 12) {
+                let result = match self.below(8) {
+                    0 => 0,
+                    _ => self.between(chain + 1, kinds - 1),
+                };
+                let places = self.between(1, 2);
+                words.push(self.word(result, places, &[kinds]));
+            }
+            kinds += 1;
+        }
         self.shuffle(&mut words);
         Vocabulary::new(kinds, words)
     }
@@ -326,7 +348,7 @@ impl Gen {
             let written = if quiet {
                 long && !self.once_in(4)
             } else {
-                self.once_in(2)
+                !v.by_kind[kind].is_empty() && self.once_in(2)
             };
             terms.push(written.then(|| {
                 let mut share = if quiet {
@@ -395,8 +417,14 @@ impl Gen {
         }
         made.push(word(5, &[]));
         made.extend((0..leaves).map(|_| word(0, &[])));
+        // Kind 7 has no situations, and entries with these words are left out.
+        let empty = self.once_in(3);
+        if empty {
+            made.push(word(0, &[(2, 7)]));
+            made.extend((0..self.between(1, 8)).map(|_| word(6, &[(1, 7)])));
+        }
         made.extend((0..=long).map(|_| word(6, &[])));
-        let v = Vocabulary::new(7, made);
+        let v = Vocabulary::new(7 + empty as usize, made);
         let quiet = dense(&v, 1, &mut (words - 2), 0, 8);
         let terms = vec![Some(quiet), Some(leaf(&v, v.words.len() - 1))];
         let mut patterns = vec![v.term(0, &Tree::Word(0, terms))];
@@ -456,7 +484,7 @@ impl Gen {
                 bytes[at] = self.byte(v);
             }
             // A pattern of any kind.
-            12 if v.sound() => {
+            12 => {
                 let kind = self.book_kind(v);
                 let other = self.patterns(v, kind, 1);
                 bytes.splice(start..end, other.concat());
@@ -497,9 +525,19 @@ impl Gen {
         }
         let v = self.book_vocabulary();
         let patterns = match self.below(28) {
-            _ if !v.sound() => vec![vec![0, 255]],
             0..=2 => self.cover(&v),
-            3 => self.limits(&v),
+            3 if v.size.iter().any(|&size| size < 200) => self.limits(&v),
+            // Of a kind without situations, if there is one.
+            4 => {
+                let empty: Vec<usize> = (0..v.kinds).filter(|&kind| !v.has(kind)).collect();
+                let count = self.book_count();
+                let kind = if empty.is_empty() {
+                    self.book_kind(&v)
+                } else {
+                    self.pick(&empty)
+                };
+                self.patterns(&v, kind, count)
+            }
             _ => {
                 let (kind, count) = (self.book_kind(&v), self.book_count());
                 self.patterns(&v, kind, count)

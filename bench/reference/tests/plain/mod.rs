@@ -22,6 +22,8 @@ pub struct Word {
 pub struct Vocabulary {
     pub kinds: u8,
     pub words: Vec<Word>,
+    /// Whether each kind has a complete situation.
+    pub inhabited: Vec<bool>,
 }
 
 #[derive(Clone, PartialEq, Debug)]
@@ -87,10 +89,24 @@ pub fn vocabulary(bytes: &[u8]) -> Result<Vocabulary, Refusal> {
             }
         }
     }
-    if let Some(kind) = inhabited.iter().position(|&yes| !yes) {
-        return Err([6, 0, kind as u64]);
+    Ok(Vocabulary {
+        kinds,
+        words,
+        inhabited,
+    })
+}
+
+/// Whether some complete situation fits a term of a kind, in which no name
+/// stands twice. No term is an open place.
+fn fitted(v: &Vocabulary, kind: u8, term: Option<&Tree>) -> bool {
+    match term {
+        None | Some(Tree::Any | Tree::Name(_)) => v.inhabited[kind as usize],
+        Some(Tree::Word(word, terms)) => {
+            let places = &v.words[*word as usize].places;
+            let mut both = places.iter().zip(terms);
+            both.all(|(place, term)| place.is_none_or(|kind| fitted(v, kind, term.as_ref())))
+        }
     }
-    Ok(Vocabulary { kinds, words })
 }
 
 struct Reader<'a> {
@@ -349,16 +365,19 @@ pub fn part(v: &[u8], pattern: &[u8], situation: &[u8], name: u64) -> Reply {
     accepted(0, 0)
 }
 
-/// The listing of a term, in order. It may end early when it has more than so
-/// many bytes.
+/// The listing of a term, in order, without entries that no situation fits; at
+/// each depth, since a term with such a term in it fits nothing. It may end
+/// early when it has more than so many bytes.
 fn leftovers(v: &Vocabulary, tree: &Tree, most: usize) -> Vec<Tree> {
     let mut list = Vec::new();
     let mut bytes = 0;
     if let Tree::Word(word, terms) = tree {
         let kind = v.words[*word as usize].result;
         for (number, other) in v.words.iter().enumerate() {
-            if other.result == kind && number != *word as usize {
-                list.push(Tree::Word(number as u8, vec![None; 8]));
+            let entry = Tree::Word(number as u8, vec![None; 8]);
+            let other = other.result == kind && number != *word as usize;
+            if other && fitted(v, kind, Some(&entry)) {
+                list.push(entry);
             }
         }
         for (bit, term) in terms.iter().enumerate() {
@@ -366,8 +385,11 @@ fn leftovers(v: &Vocabulary, tree: &Tree, most: usize) -> Vec<Tree> {
                 let mut places = vec![None; 8];
                 places[..bit].clone_from_slice(&terms[..bit]);
                 places[bit] = Some(entry);
-                list.push(Tree::Word(*word, places));
-                bytes += length(&list[list.len() - 1]);
+                let entry = Tree::Word(*word, places);
+                if fitted(v, kind, Some(&entry)) {
+                    bytes += length(&entry);
+                    list.push(entry);
+                }
                 if bytes > most {
                     return list;
                 }
@@ -404,7 +426,14 @@ pub fn entries(v: &[u8], pattern: &[u8]) -> Result<Vec<Vec<u8>>, Refusal> {
     if let Some(second) = read.second {
         return Err([18, 1, second as u64]);
     }
-    let entries = leftovers(&v, &read.read.tree, usize::MAX);
+    let (kind, tree) = (pattern[0], &read.read.tree);
+    let entries = if fitted(&v, kind, Some(tree)) {
+        leftovers(&v, tree, usize::MAX)
+    } else if v.inhabited[kind as usize] {
+        vec![Tree::Any]
+    } else {
+        vec![]
+    };
     Ok(entries
         .iter()
         .map(|entry| {
@@ -581,16 +610,21 @@ fn without_names(tree: &Tree) -> Option<Tree> {
     }
 }
 
-/// Whether an entry and a pattern share a situation.
-fn share(entry: &Tree, pattern: &Tree) -> bool {
-    let (Tree::Word(word, terms), Tree::Word(other, others)) = (entry, pattern) else {
-        return true;
-    };
-    let shared = |(term, other): (&Option<Tree>, &Option<Tree>)| match (term, other) {
-        (Some(term), Some(other)) => share(term, other),
-        _ => true,
-    };
-    word == other && terms.iter().zip(others).all(shared)
+/// Whether a complete situation fits the terms of an entry and of a pattern at
+/// a place of a kind.
+fn share(v: &Vocabulary, kind: u8, entry: Option<&Tree>, pattern: Option<&Tree>) -> bool {
+    match (entry, pattern) {
+        (Some(Tree::Word(word, terms)), Some(Tree::Word(other, others))) => {
+            let places = v.words[*word as usize].places.iter();
+            let mut all = places.zip(terms).zip(others);
+            word == other
+                && all.all(|((place, term), other)| {
+                    place.is_none_or(|kind| share(v, kind, term.as_ref(), other.as_ref()))
+                })
+        }
+        (Some(Tree::Word(..)), _) => fitted(v, kind, entry),
+        _ => fitted(v, kind, pattern),
+    }
 }
 
 /// What an entry and a pattern that share a situation both allow at a place.
@@ -609,7 +643,8 @@ fn both(entry: &Option<Tree>, pattern: &Option<Tree>) -> Option<Tree> {
 }
 
 /// The own leftovers of an entry against a pattern with which it shares a
-/// situation. The list may end early when it has more than 32,768 bytes.
+/// situation, without those that no situation fits. The list may end early when
+/// it has more than 32,768 bytes.
 fn own_leftovers(v: &Vocabulary, entry: &Tree, pattern: &Tree) -> Vec<Tree> {
     let mut list = Vec::new();
     match (entry, pattern) {
@@ -629,8 +664,11 @@ fn own_leftovers(v: &Vocabulary, entry: &Tree, pattern: &Tree) -> Vec<Tree> {
                         places[lower] = both(&terms[lower], &others[lower]);
                     }
                     places[bit] = Some(left);
-                    list.push(Tree::Word(*word, places));
-                    bytes += length(&list[list.len() - 1]);
+                    let left = Tree::Word(*word, places);
+                    if fitted(v, v.words[*word as usize].result, Some(&left)) {
+                        bytes += length(&left);
+                        list.push(left);
+                    }
                     if bytes > 32_768 {
                         return list;
                     }
@@ -645,19 +683,24 @@ fn own_leftovers(v: &Vocabulary, entry: &Tree, pattern: &Tree) -> Vec<Tree> {
 pub fn book_entries(v: &[u8], book: &[u8]) -> Result<Vec<Vec<u8>>, Refusal> {
     let v = vocabulary(v)?;
     let patterns = patterns(&v, book)?;
-    let mut entries = vec![Tree::Any];
+    let kind = book[1];
+    let mut entries = vec![];
+    if v.inhabited[kind as usize] {
+        entries.push(Tree::Any);
+    }
     for (number, pattern) in patterns.iter().enumerate() {
         let too_long = Err([26, 5, number as u64]);
         let mut next = Vec::new();
         let mut bytes = 0;
         for entry in entries {
             let from = next.len();
-            if share(&entry, pattern) {
+            if share(&v, kind, Some(&entry), Some(pattern)) {
                 next.extend(own_leftovers(&v, &entry, pattern));
             } else {
                 next.push(entry);
             }
             for entry in &next[from..] {
+                assert!(fitted(&v, kind, Some(entry)));
                 bytes += 1 + length(entry);
                 if bytes > 32_768 || 1 + length(entry) > 4096 {
                     return too_long;

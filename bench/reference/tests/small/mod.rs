@@ -109,10 +109,11 @@ pub fn split(mut listing: &[u8], entries: u64) -> Vec<Vec<u8>> {
     all
 }
 
-/// A situation that fits a pattern, with a least term at each open place.
+/// A situation that fits a pattern, with a least term at each open place. There
+/// must be one.
 pub fn instance(kinds: u8, words: &Words, pattern: &[u8]) -> Vec<u8> {
     let mut least: Vec<Option<Vec<u8>>> = vec![None; kinds as usize];
-    while least.iter().any(|term| term.is_none()) {
+    for _ in 0..kinds {
         for (number, (result, map, places)) in words.iter().enumerate() {
             if least[*result as usize].is_none() {
                 let below: Option<Vec<Vec<u8>>> = places
@@ -219,6 +220,57 @@ pub fn shapes() -> Vec<(u8, Words, usize, usize)> {
             vec![(0, 0xff, vec![1; 8]), (1, 0, vec![]), (1, 0, vec![])],
             2,
             2,
+        ),
+        // Kind 1 has no word; a word over itself; A without its printer.
+        (
+            2,
+            vec![(0, 0, vec![]), (0, 3, vec![0, 1]), (0, 1, vec![0])],
+            4,
+            6,
+        ),
+        (1, vec![(0, 1, vec![0])], 4, 6),
+        (
+            4,
+            vec![
+                (0, 3, vec![1, 2]),
+                (1, 0, vec![]),
+                (1, 0, vec![]),
+                (2, 0, vec![]),
+                (2, 0, vec![]),
+                (0, 0, vec![]),
+                (0, 1, vec![3]),
+                (2, 1, vec![3]),
+            ],
+            3,
+            3,
+        ),
+        // Kind 1 has situations through kind 3 alone, and kind 2 has none.
+        (
+            4,
+            vec![
+                (0, 0, vec![]),
+                (0, 0x82, vec![1, 0]),
+                (1, 1, vec![2]),
+                (1, 1, vec![3]),
+                (2, 1, vec![2]),
+                (3, 0, vec![]),
+                (0, 4, vec![2]),
+            ],
+            3,
+            6,
+        ),
+        // C with a word over a kind that needs itself.
+        (
+            2,
+            vec![
+                (0, 0, vec![]),
+                (0, 1, vec![1]),
+                (0, 0, vec![]),
+                (0, 3, vec![0, 0]),
+                (1, 3, vec![0, 1]),
+            ],
+            3,
+            4,
         ),
     ]
 }

@@ -25,7 +25,7 @@ list-in-requires c κs =
 same-length : tie.Need-same-length
 same-length c =
     let at-list-in = c .before .before .before .before .before .before in
-    at-list-in .list-in .kept .1 .1 .1 .1 .1 .1 .0
+    at-list-in .list-in .kept .1 .1 .1 .1 .1 .1 .1 .1 .1 .0
 
 returns : tie.Need-returns
 returns c =

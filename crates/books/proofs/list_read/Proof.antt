@@ -3,7 +3,6 @@ use denote.Ref.{now}
 use native.Mathlib.Omega.{arith}
 use Rattle.books.proofs.Rooms.{read-at, not-past, large-listed, small-listed, past-listed}
 use borrow.Author.Needs.{needs}
-use borrow.Author.Needs.{needs}
 use Rattle.books.proofs.list_read.Statement.{statement}
 use Rattle.books.proofs.list_read.Tie as tie
 

@@ -36,12 +36,6 @@ enum-known-why-3 c = search needs
 refused-requires-5 : tie.Need-refused-requires-5
 refused-requires-5 c κs = search needs
 
-enum-known-why-4 : tie.Need-enum-known-why-4
-enum-known-why-4 c = search needs
-
-refused-requires-6 : tie.Need-refused-requires-6
-refused-requires-6 c κs = search needs
-
 returns : tie.Need-returns
 returns c = c .refused .ensures ∙ sym (ap (λ w. replyNumbers (vocabularyRefused w)) (c .before .enum-told .given .1))
 
@@ -57,9 +51,6 @@ returns-4 c = c .refused4 .ensures ∙ sym (ap (λ w. replyNumbers (vocabularyRe
 returns-5 : tie.Need-returns-5
 returns-5 c = c .refused5 .ensures ∙ sym (ap (λ w. replyNumbers (vocabularyRefused w)) (c .before .before .why3 .given .1))
 
-returns-6 : tie.Need-returns-6
-returns-6 c = c .refused6 .ensures ∙ sym (ap (λ w. replyNumbers (vocabularyRefused w)) (c .before .before .why4 .given .1))
-
 pub vocabulary-refused-spec : {M : Type 1} → statement M
 vocabulary-refused-spec =
     tie.close
@@ -74,11 +65,8 @@ vocabulary-refused-spec =
     refused-requires-4
     enum-known-why-3
     refused-requires-5
-    enum-known-why-4
-    refused-requires-6
     returns
     returns-2
     returns-3
     returns-4
-    returns-5
-    returns-6)
+    returns-5)

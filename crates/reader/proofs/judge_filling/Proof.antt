@@ -3,7 +3,8 @@ use denote.Ref.{now}
 use mathlib.Core.Path.{sym, ap, _∙_}
 use native.Mathlib.Omega.{arith}
 use Rattle.signature.specs.Answers.{vocabularyNumbers}
-use Rattle.reader.proofs.Tables.{tables-as, some-bytes}
+use Rattle.signature.proofs.Settling.{tables-as}
+use Rattle.reader.proofs.Tables.{some-bytes}
 use Rattle.reader.proofs.Files.{inputs-refused, inputs-judged}
 use borrow.Author.Needs.{needs}
 use Rattle.reader.proofs.judge_filling.Statement.{statement}

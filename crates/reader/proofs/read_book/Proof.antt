@@ -1,65 +1,66 @@
 -- `reader::read_book` meets its contract.
-use mathlib.Core.Path.{sym, ap, _∙_}
-use denote.Ref.{now}
 use native.Mathlib.Omega.{arith}
-use Rattle.signature.specs.Tables.{vocabularyIn}
-use Rattle.signature.specs.Answers.{vocabularyNumbers}
-use Rattle.reader.proofs.Books.{books-refused, books-judged}
-use Rattle.reader.proofs.Tables.{tables-as, some-bytes}
 use borrow.Author.Needs.{needs}
+use Rattle.reader.proofs.BookTables.{book-vocabulary, book-refused, book-loaded}
+use Rattle.signature.proofs.Settling.{tables-as}
+use Rattle.reader.proofs.Tables.{some-bytes}
 use Rattle.reader.proofs.read_book.Statement.{statement}
 use Rattle.reader.proofs.read_book.Tie as tie
 
-load-requires : tie.Need-load-requires
-load-requires c κs = search needs
+load-settled-requires : tie.Need-load-settled-requires
+load-settled-requires c κs = search needs
 
-enum-known-loaded : tie.Need-enum-known-loaded
-enum-known-loaded c = search needs
+enum-known-why : tie.Need-enum-known-why
+enum-known-why c = search needs
 
-enum-told : tie.Need-enum-told
-enum-told c = search needs
+enum-known-missing : tie.Need-enum-known-missing
+enum-known-missing c = search needs
 
 shared-slice-read-wide : tie.Need-shared-slice-read-wide
-shared-slice-read-wide c =
-    omega (arith, some-bytes (c .before .before .before .load .ensures .tables (c .before .enum-told .given .1)) (λ i. c .shared-slice-known3 .given i .fits))
+shared-slice-read-wide c = omega (arith, some-bytes (c .before .before .before .before .load-settled .ensures .tables _ (c .before .before .missing .given .1)) (λ i. c .shared-slice-known3 .given i .fits))
 
 wide-requires : tie.Need-wide-requires
 wide-requires c κs = search needs
 
 read-requires : tie.Need-read-requires
 read-requires c κs =
-    let at-wide = c .before .before .before in
-    let told = at-wide .before .before in
-    tables-as (at-wide .wide .ensures) (told .before .before .load .ensures .tables (told .enum-told .given .1))
+    let counted = c .before .before .before in
+    let known = counted .before .before .before in
+    tables-as (counted .wide .ensures) (known .before .before .load-settled .ensures .tables _ (known .missing .given .1))
+
+enum-known-why-2 : tie.Need-enum-known-why-2
+enum-known-why-2 c = search needs
+
+enum-told : tie.Need-enum-told
+enum-told c = search needs
 
 returns : tie.Need-returns
-returns c =
-    let why = c .before in
-    let at-load = why .before .before in
-    let a = at-load .before .before .before .before .before .before .args in
-    let loaded = at-load .load .ensures in
-    let answer = books-refused (now (a .vocabulary)) (now (a .book)) (why .loaded .given .0 .0) (sym (ap vocabularyNumbers (why .loaded .given .1)) ∙ loaded .answer) in
-    record { answer = answer; results = loaded .holds .results }
+returns c = book-vocabulary (c .before .before .before .load-settled .ensures) _ _ (c .before .why .given .1)
 
 returns-2 : tie.Need-returns-2
 returns-2 c =
-    let told = c .before .before .before .before .before .before in
-    let at-load = told .before .before in
-    let a = at-load .before .before .before .before .before .before .args in
-    let loaded = at-load .load .ensures in
-    let v = now (a .vocabulary) in
-    let accepted = loaded .tables (told .enum-told .given .1) .accepted in
-    record { answer = books-judged v (now (a .book)) (vocabularyIn v) accepted (c .read .ensures); results = loaded .holds .results }
+    let known = c .before .before .before .before .before .before .before .before .before .before in
+    let read = c .before .before .before in
+    book-refused (known .before .before .load-settled .ensures) _ _ (known .missing .given .1) (read .read .result) (read .read .ensures) _ (c .before .why2 .given .1)
+
+returns-3 : tie.Need-returns-3
+returns-3 c =
+    let known = c .before .before .before .before .before .before .before .before .before in
+    let read = c .before .before in
+    book-loaded (known .before .before .load-settled .ensures) _ _ (known .missing .given .1) (read .read .result) (read .read .ensures) (c .enum-told .given .1)
 
 pub read-book-spec : {M : Type 1} → statement M
 read-book-spec =
     tie.close
     (tie.spec
-    load-requires
-    enum-known-loaded
-    enum-told
+    load-settled-requires
+    enum-known-why
+    enum-known-missing
     shared-slice-read-wide
     wide-requires
     read-requires
+    enum-known-why-2
+    enum-told
     returns
-    returns-2)
+    returns-2
+    returns-3)

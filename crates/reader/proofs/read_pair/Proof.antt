@@ -5,7 +5,8 @@ use native.Mathlib.Omega.{arith}
 use Rattle.signature.specs.Tables.{vocabularyIn}
 use Rattle.signature.specs.Answers.{vocabularyNumbers}
 use Rattle.reader.proofs.Calls.{pair-refused, pair-accepted}
-use Rattle.reader.proofs.Tables.{tables-as, some-bytes}
+use Rattle.signature.proofs.Settling.{tables-as}
+use Rattle.reader.proofs.Tables.{some-bytes}
 use borrow.Author.Needs.{needs}
 use Rattle.reader.proofs.read_pair.Statement.{statement}
 use Rattle.reader.proofs.read_pair.Tie as tie

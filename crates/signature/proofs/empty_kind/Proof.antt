@@ -1,8 +1,11 @@
 -- `signature::empty_kind` meets its contract. The loop's invariant: what the rounds so far reach is marked. The measure is the number of rounds left.
+use mathlib.Core.Path.{subst}
 use Prim.Native.Nat.{_-_}
 use native.Mathlib.Omega.{arith}
 use borrow.Author.Needs.{needs}
-use Rattle.signature.proofs.Rounds.{Reached, reached-none, reached-more, reached-all, reached-early}
+use borrow.Author.Tests.{not-true}
+use Rattle.signature.specs.Loading.{Searched}
+use Rattle.signature.proofs.Rounds.{Reached, reached-none, reached-more, reached-all, reached-early, reached-still}
 use Rattle.signature.proofs.empty_kind.Statement.{statement}
 use Rattle.signature.proofs.empty_kind.Tie as tie
 
@@ -17,7 +20,7 @@ loop-holds c = reached-none _ _ _
 
 mark-round-requires : tie.Need-mark-round-requires Inv-loop μ-loop
 mark-round-requires c κs =
-    let pre = c .before .before .before .before .pre in
+    let pre = c .before .before .before .before .before .pre in
     (pre .0, (omega arith, pre .1 .1 .1))
 
 first-missing-requires : tie.Need-first-missing-requires Inv-loop μ-loop
@@ -32,11 +35,20 @@ returns c =
     let turn = called .before .before in
     let found = c .before .before .first-missing in
     reached-early _ _ _ _ _ (found .result)
-    (reached-more _ _ _ _ _ _ (turn .before .loop .inv) (turn .loop-test .taken) (called .mark-round .ensures))
-    (turn .before .before .before .pre .1 .1 .0) (found .ensures) (c .enum-told .given .1)
+    (reached-more _ _ _ _ _ _ (turn .before .loop .inv) (turn .loop-test .taken) (called .mark-round .ensures .grows))
+    (turn .before .before .before .before .pre .1 .1 .0) (found .ensures) (c .enum-told .given .1)
 
-enum-told-2 : tie.Need-enum-told-2 Inv-loop μ-loop
-enum-told-2 c = search needs
+enum-known-k : tie.Need-enum-known-k Inv-loop μ-loop
+enum-known-k c = search needs
+
+returns-2 : tie.Need-returns-2 Inv-loop μ-loop
+returns-2 c =
+    let found = c .before .before .before .before in
+    let called = found .before .before in
+    let turn = called .before .before in
+    subst (Searched _ _ _) (c .before .before .k .given .1)
+    (reached-still _ _ _ _ _ _ (found .first-missing .result) (turn .before .loop .inv) (called .mark-round .ensures .grows)
+    (called .mark-round .ensures .unchanged (not-true _ (c .if1 .taken))) (turn .before .before .before .before .pre .1 .1 .0) (found .first-missing .ensures))
 
 add-round : tie.Need-add-round Inv-loop μ-loop
 add-round c = search needs
@@ -46,17 +58,17 @@ loop-less c = search needs
 
 loop-again : tie.Need-loop-again Inv-loop μ-loop
 loop-again c =
-    let called = c .before .before .before .before in
+    let called = c .before .before .before .before .before .before in
     let turn = called .before .before in
-    reached-more _ _ _ _ _ _ (turn .before .loop .inv) (turn .loop-test .taken) (called .mark-round .ensures)
+    reached-more _ _ _ _ _ _ (turn .before .loop .inv) (turn .loop-test .taken) (called .mark-round .ensures .grows)
 
 first-missing-requires-2 : tie.Need-first-missing-requires-2 Inv-loop μ-loop
 first-missing-requires-2 c κs = search needs
 
-returns-2 : tie.Need-returns-2 Inv-loop μ-loop
-returns-2 c =
+returns-3 : tie.Need-returns-3 Inv-loop μ-loop
+returns-3 c =
     let left = c .before .before in
-    reached-all _ _ _ _ _ (c .first-missing2 .result) (left .before .loop .inv) (left .loop-test .left) (left .before .before .before .pre .1 .1 .0)
+    reached-all _ _ _ _ _ (c .first-missing2 .result) (left .before .loop .inv) (left .loop-test .left) (left .before .before .before .before .pre .1 .1 .0)
     (c .first-missing2 .ensures)
 
 pub empty-kind-spec : {M : Type 1} → statement M
@@ -70,9 +82,10 @@ empty-kind-spec =
     first-missing-requires
     enum-told
     returns
-    enum-told-2
+    enum-known-k
+    returns-2
     add-round
     loop-less
     loop-again
     first-missing-requires-2
-    returns-2)
+    returns-3)

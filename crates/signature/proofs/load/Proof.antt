@@ -1,8 +1,8 @@
--- `signature::load` meets its contract: lines 1 and 2 from the first two bytes, the others from what `read_words` and `inhabited` ensure.
+-- `signature::load` meets its contract: lines 1 and 2 from the first two bytes, the others from what `read_words` ensures.
 use mathlib.Core.Path.{refl}
 use native.Mathlib.Omega.{arith}
 use borrow.Author.Needs.{needs}
-use Rattle.signature.proofs.VocabularyLoaded.{below-range, above-range, refused-short, refused-kinds, refused-words, loaded-rest, loaded-refused}
+use Rattle.signature.proofs.VocabularyLoaded.{below-range, above-range, refused-short, refused-kinds, refused-words, loaded-rest}
 use Rattle.signature.proofs.load.Statement.{statement}
 use Rattle.signature.proofs.load.Tie as tie
 
@@ -56,47 +56,14 @@ read-words-requires c κs =
       ),
     )
 
-enum-told : tie.Need-enum-told
-enum-told c = search needs
-
-wide-requires-2 : tie.Need-wide-requires-2
-wide-requires-2 c κs = search needs
-
-inhabited-requires : tie.Need-inhabited-requires
-inhabited-requires c κs =
-    let called = c .before .before .before in
-    let loaded = called .before .before .before in
-    let words = loaded .before .before .before .before in (
-      words .if5 .left,
-      (
-        omega (arith, called .wide2 .ensures, words .before .before .if3 .left),
-        (called .wide2 .ensures, loaded .read-words .ensures .filled (called .before .enum-told .given .1)),
-      ),
-    )
-
-enum-known-why : tie.Need-enum-known-why
-enum-known-why c = search needs
-
 returns-6 : tie.Need-returns-6
 returns-6 c =
-    let called = c .before .before .before .before in
-    let loaded = called .before .before .before in
+    let loaded = c in
     let words = loaded .before .before .before .before in
     let kinds = words .before .before in
     let read = kinds .before .before in
     loaded-rest _ _ _ _ (read .before .before .before .if1 .left) (kinds .before .if2 .left) (kinds .if3 .left) _ (read .wide .ensures)
-    (words .before .if4 .left) (words .if5 .left) _ _ _ _
-    (loaded .read-words .ensures .holds) (c .inhabited .ensures) (λ d. loaded .read-words .ensures .filled (called .before .enum-told .given .1))
-
-returns-7 : tie.Need-returns-7
-returns-7 c =
-    let loaded = c .before .before .before in
-    let words = loaded .before .before .before .before in
-    let kinds = words .before .before in
-    let read = kinds .before .before in
-    loaded-refused _ _ _ _ (read .before .before .before .if1 .left) (kinds .before .if2 .left) (kinds .if3 .left) _ (read .wide .ensures)
-    (words .before .if4 .left) (words .if5 .left) _ _ _ _ _
-    (loaded .read-words .ensures) (c .before .why .given .1)
+    (words .before .if4 .left) (words .if5 .left) _ _ _ _ (loaded .read-words .ensures)
 
 pub load-spec : {M : Type 1} → statement M
 load-spec =
@@ -111,9 +78,4 @@ load-spec =
     returns-4
     returns-5
     read-words-requires
-    enum-told
-    wide-requires-2
-    inhabited-requires
-    enum-known-why
-    returns-6
-    returns-7)
+    returns-6)

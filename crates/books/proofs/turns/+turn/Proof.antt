@@ -13,20 +13,20 @@ use borrow.Fn.PlainCycle.{Measures, is, falls, and}
 use Rattle.books.proofs.turns.turn.Reads as turn
 use Rattle.books.proofs.turns.turn.Kinds as turn-kinds
 use Rattle.books.proofs.turns.+turn.Lts-turn as turn-lts
-use Rattle.strikes.proofs.strike.Reads as strike-reads
+use Rattle.takes.proofs.take_pattern.Reads as take-pattern-reads
 use Rattle.books.proofs.turns.finish.Reads as finish-reads
 use Rattle.extents.proofs.term_size.Reads as term-size-reads
 use Rattle.books.proofs.turns.+turn.{statement}
 use Rattle.books.proofs.turns.+turn.Tie.{close}
 
-abbrev μ-turn : Measures 7 turn-kinds.ps ℕ
+abbrev μ-turn : Measures 8 turn-kinds.ps ℕ
 μ-turn κs a = length (now (a .0))
 
-abbrev turn-at : ℕ → In 7 turn-kinds.ps
-turn-at t = and 7 turn-kinds.ps (is 7 turn-kinds.ps μ-turn t) turn.Pre
+abbrev turn-at : ℕ → In 8 turn-kinds.ps
+turn-at t = and 8 turn-kinds.ps (is 8 turn-kinds.ps μ-turn t) turn.Pre
 
-abbrev turn-below : ℕ → In 7 turn-kinds.ps
-turn-below t = and 7 turn-kinds.ps (falls 7 turn-kinds.ps _<_ μ-turn t) turn.Pre
+abbrev turn-below : ℕ → In 8 turn-kinds.ps
+turn-below t = and 8 turn-kinds.ps (falls 8 turn-kinds.ps _<_ μ-turn t) turn.Pre
 
 abbrev claims : ℕ → turn-lts.Claims
 claims t = (
@@ -34,14 +34,14 @@ claims t = (
   finish-reads.Learnt,
   term-size-reads.Asked,
   term-size-reads.Learnt,
-  strike-reads.Asked,
-  strike-reads.Learnt,
+  take-pattern-reads.Asked,
+  take-pattern-reads.Learnt,
   turn-below t,
   turn.Post,
 )
 
 -- What is asked or known in turn at a measure.
-abbrev InTurn : (turn-lts.Claims → In 7 turn-kinds.ps → Out 7 turn-kinds.ps turn-kinds.r → Type 0) → ℕ → Type 0
+abbrev InTurn : (turn-lts.Claims → In 8 turn-kinds.ps → Out 8 turn-kinds.ps turn-kinds.r → Type 0) → ℕ → Type 0
 InTurn asked t = asked (claims t) (turn-at t) turn.Post
 
 turn-finish-requires : (t : ℕ) → InTurn turn-lts.Need-finish-requires t
@@ -84,25 +84,25 @@ turn-add-size t c =
     let start = at-if1 .before .before .before .before .before .before .before in
     fits-below tt (turn-short (start .pre .1) (at-if1 .if1 .left) _ (c .term-size .ensures))
 
-turn-slice-reshare-prefix-strike : (t : ℕ) → InTurn turn-lts.Need-slice-reshare-prefix-strike t
-turn-slice-reshare-prefix-strike t c =
+turn-slice-reshare-prefix-take-pattern : (t : ℕ) → InTurn turn-lts.Need-slice-reshare-prefix-take-pattern t
+turn-slice-reshare-prefix-take-pattern t c =
     let start = c .before .before .before .before .before .before .before .before .before in
     start .pre .1 .inside
 
-turn-slice-aggregate-strike : (t : ℕ) → InTurn turn-lts.Need-slice-aggregate-strike t
-turn-slice-aggregate-strike t c =
+turn-slice-aggregate-take-pattern : (t : ℕ) → InTurn turn-lts.Need-slice-aggregate-take-pattern t
+turn-slice-aggregate-take-pattern t c =
     let start = c .before .before .before .before .before .before .before .before .before .before in
     sym (length-take-le (start .args .n) (now (start .args .from)) (start .pre .1 .inside))
 
-turn-slice-aggregate-strike-2 : (t : ℕ) → InTurn turn-lts.Need-slice-aggregate-strike-2 t
-turn-slice-aggregate-strike-2 t c =
+turn-slice-aggregate-take-pattern-2 : (t : ℕ) → InTurn turn-lts.Need-slice-aggregate-take-pattern-2 t
+turn-slice-aggregate-take-pattern-2 t c =
     let at-term-size = c .before .before in
     let at-if1 = at-term-size .before .before in
     let start = at-if1 .before .before .before .before .before .before .before in
     sym (length-take-le _ (now (start .args .book)) (turn-size (start .pre .1) (at-if1 .if1 .left) _ (at-term-size .term-size .ensures)))
 
-turn-strike-requires : (t : ℕ) → InTurn turn-lts.Need-strike-requires t
-turn-strike-requires t c κs = search needs
+turn-take-pattern-requires : (t : ℕ) → InTurn turn-lts.Need-take-pattern-requires t
+turn-take-pattern-requires t c κs = search needs
 
 turn-enum-told : (t : ℕ) → InTurn turn-lts.Need-enum-told t
 turn-enum-told t c = c .match .keys1
@@ -136,13 +136,13 @@ turn-add-turn t c =
 turn-turn-requires : (t : ℕ) → InTurn turn-lts.Need-turn-requires t
 turn-turn-requires t c κs =
     let at-bytes = c .before .before .before .before .before .before .before in
-    let at-strike = at-bytes .before .before .before .before .before .before .before .before in
-    let at-term-size = at-strike .before .before .before .before .before .before in
+    let at-take = at-bytes .before .before .before .before .before .before .before .before in
+    let at-term-size = at-take .before .before .before .before .before .before in
     let at-if1 = at-term-size .before .before in
     let start = at-if1 .before .before .before .before .before .before .before in (
       turn-less (start .pre .1) (at-if1 .if1 .left) _ (at-term-size .term-size .ensures) t (start .pre .0),
-      turn-next (start .pre .1) (at-if1 .if1 .left) _ (at-term-size .term-size .ensures) (now (start .args .to)) _ refl (at-strike .strike .result) (at-strike .strike .ensures) (at-bytes .bytes .given .1)
-          _ _ (at-strike .strike .kept .1 .1 .1 .0) (at-strike .strike .kept .1 .1 .0),
+      turn-next (start .pre .1) (at-if1 .if1 .left) _ (at-term-size .term-size .ensures) (now (start .args .to)) _ refl (at-take .take-pattern .result) (at-take .take-pattern .ensures) (at-bytes .bytes .given .1)
+          _ _ (at-take .take-pattern .kept .1 .1 .1 .1 .0) (at-take .take-pattern .kept .1 .1 .1 .0),
     )
 
 turn-same-length-3 : (t : ℕ) → InTurn turn-lts.Need-same-length-3 t
@@ -150,27 +150,27 @@ turn-same-length-3 t c = search needs
 
 turn-same-length-4 : (t : ℕ) → InTurn turn-lts.Need-same-length-4 t
 turn-same-length-4 t c =
-    let at-strike = c .before .before .before .before .before .before .before .before in
-    at-strike .strike .kept .1 .1 .1 .1 .1 .0
+    let at-take = c .before .before .before .before .before .before .before .before in
+    at-take .take-pattern .kept .1 .1 .1 .1 .1 .1 .1 .1 .1 .0
 
 turn-same-length-5 : (t : ℕ) → InTurn turn-lts.Need-same-length-5 t
 turn-same-length-5 t c =
-    let at-strike = c .before .before .before .before .before .before .before .before in
-    at-strike .strike .kept .1 .1 .1 .0
+    let at-take = c .before .before .before .before .before .before .before .before in
+    at-take .take-pattern .kept .1 .1 .1 .1 .0
 
 turn-same-length-6 : (t : ℕ) → InTurn turn-lts.Need-same-length-6 t
 turn-same-length-6 t c =
-    let at-strike = c .before .before .before .before .before .before .before .before in
-    at-strike .strike .kept .1 .1 .0
+    let at-take = c .before .before .before .before .before .before .before .before in
+    at-take .take-pattern .kept .1 .1 .1 .0
 
 turn-returns-2 : (t : ℕ) → InTurn turn-lts.Need-returns-2 t
 turn-returns-2 t c =
-    let at-strike = c .before .before .before .before .before .before .before .before in
-    let at-term-size = at-strike .before .before .before .before .before .before in
+    let at-take = c .before .before .before .before .before .before .before .before in
+    let at-term-size = at-take .before .before .before .before .before .before in
     let at-if1 = at-term-size .before .before in
     let start = at-if1 .before .before .before .before .before .before .before in
     λ h.
-    turn-past h (at-if1 .if1 .left) _ (at-term-size .term-size .ensures) (now (start .args .to)) _ refl (at-strike .strike .result) (at-strike .strike .ensures) (c .enum-told .given .1) (now (start .args .out))
+    turn-past h (at-if1 .if1 .left) _ (at-term-size .term-size .ensures) (now (start .args .to)) _ refl (at-take .take-pattern .result) (at-take .take-pattern .ensures) (c .enum-told .given .1) (now (start .args .out))
 
 turn-same-length-7 : (t : ℕ) → InTurn turn-lts.Need-same-length-7 t
 turn-same-length-7 t c =
@@ -180,37 +180,37 @@ turn-same-length-7 t c =
 turn-same-length-8 : (t : ℕ) → InTurn turn-lts.Need-same-length-8 t
 turn-same-length-8 t c =
     let at-turn = c .before .before .before .before .before .before .before .before .before .before in
-    let at-strike = at-turn .before .before .before .before .before .before .before .before .before .before .before .before .before .before .before .before in
-    at-turn .turn .kept .1 .1 .0 ∙ at-strike .strike .kept .1 .1 .1 .1 .1 .0
+    let at-take = at-turn .before .before .before .before .before .before .before .before .before .before .before .before .before .before .before .before in
+    at-turn .turn .kept .1 .1 .0 ∙ at-take .take-pattern .kept .1 .1 .1 .1 .1 .1 .1 .1 .1 .0
 
 turn-same-length-9 : (t : ℕ) → InTurn turn-lts.Need-same-length-9 t
 turn-same-length-9 t c =
     let at-turn = c .before .before .before .before .before .before .before .before .before .before in
-    let at-strike = at-turn .before .before .before .before .before .before .before .before .before .before .before .before .before .before .before .before in
-    at-turn .turn .kept .1 .1 .1 .1 .1 .1 .0 ∙ at-strike .strike .kept .1 .1 .1 .0
+    let at-take = at-turn .before .before .before .before .before .before .before .before .before .before .before .before .before .before .before .before in
+    at-turn .turn .kept .1 .1 .1 .1 .1 .1 .0 ∙ at-take .take-pattern .kept .1 .1 .1 .1 .0
 
 turn-same-length-10 : (t : ℕ) → InTurn turn-lts.Need-same-length-10 t
 turn-same-length-10 t c =
     let at-turn = c .before .before .before .before .before .before .before .before .before .before in
-    let at-strike = at-turn .before .before .before .before .before .before .before .before .before .before .before .before .before .before .before .before in
-    at-turn .turn .kept .1 .1 .1 .1 .1 .1 .1 .0 ∙ at-strike .strike .kept .1 .1 .0
+    let at-take = at-turn .before .before .before .before .before .before .before .before .before .before .before .before .before .before .before .before in
+    at-turn .turn .kept .1 .1 .1 .1 .1 .1 .1 .0 ∙ at-take .take-pattern .kept .1 .1 .1 .0
 
 turn-same-length-11 : (t : ℕ) → InTurn turn-lts.Need-same-length-11 t
 turn-same-length-11 t c =
     let at-turn = c .before .before .before .before .before .before .before .before .before .before in
-    at-turn .turn .kept .1 .1 .1 .1 .1 .1 .1 .1 .1 .0
+    at-turn .turn .kept .1 .1 .1 .1 .1 .1 .1 .1 .1 .1 .1 .1 .0
 
 turn-returns-3 : (t : ℕ) → InTurn turn-lts.Need-returns-3 t
 turn-returns-3 t c =
     let at-turn = c .before .before .before .before .before .before .before .before .before .before in
     let at-bytes = at-turn .before .before .before .before .before .before .before .before in
-    let at-strike = at-bytes .before .before .before .before .before .before .before .before in
-    let at-term-size = at-strike .before .before .before .before .before .before in
+    let at-take = at-bytes .before .before .before .before .before .before .before .before in
+    let at-term-size = at-take .before .before .before .before .before .before in
     let at-if1 = at-term-size .before .before in
     let start = at-if1 .before .before .before .before .before .before .before in
     λ h.
-    turn-goes h (at-if1 .if1 .left) _ (at-term-size .term-size .ensures) (now (start .args .to)) _ refl (at-strike .strike .result) (at-strike .strike .ensures) (at-bytes .bytes .given .1)
-    _ _ (at-strike .strike .kept .1 .1 .1 .0) (at-strike .strike .kept .1 .1 .0) (now (start .args .out)) _ (at-turn .turn .result) (at-turn .turn .ensures)
+    turn-goes h (at-if1 .if1 .left) _ (at-term-size .term-size .ensures) (now (start .args .to)) _ refl (at-take .take-pattern .result) (at-take .take-pattern .ensures) (at-bytes .bytes .given .1)
+    _ _ (at-take .take-pattern .kept .1 .1 .1 .1 .0) (at-take .take-pattern .kept .1 .1 .1 .0) (now (start .args .out)) _ (at-turn .turn .result) (at-turn .turn .ensures)
 
 pub +turn-spec : {M : Type 1} → statement M
 +turn-spec = close μ-turn λ t. turn-lts.spec (claims t) (turn-at t) turn.Post
@@ -223,10 +223,10 @@ pub +turn-spec : {M : Type 1} → statement M
     (turn-part-term-size-end t)
     (turn-term-size-requires t)
     (turn-add-size t)
-    (turn-slice-reshare-prefix-strike t)
-    (turn-slice-aggregate-strike t)
-    (turn-slice-aggregate-strike-2 t)
-    (turn-strike-requires t)
+    (turn-slice-reshare-prefix-take-pattern t)
+    (turn-slice-aggregate-take-pattern t)
+    (turn-slice-aggregate-take-pattern-2 t)
+    (turn-take-pattern-requires t)
     (turn-enum-told t)
     (turn-enum-known-bytes t)
     (turn-sub-turn t)
