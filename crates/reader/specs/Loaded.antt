@@ -1,6 +1,6 @@
 -- Loaded: what reading a vocabulary and a pattern to be listed gives; the contract of `load_pattern` cites it.
 --
---   withoutValues r                 the reply r without its values
+--   withoutValues r         the reply r without its values
 --   SettledTable v table k  the table by which listings under v go, where k is the lowest kind without complete situations
 --   PatternLoaded v b       the reply of reading the vocabulary v and the pattern b, and that table before and after, each for
 --                           every v and b

@@ -4,7 +4,7 @@
 --   tables-vocabulary  .. which make it up
 --   tables-limits      .. within its limits
 --   settles-same       no kind is without complete situations: the table is that of the result kinds
---   settles-moved      a kind is: every word that no complete situation has is settledSymbol to it
+--   settles-moved      a kind is: every word that no complete situation has is moved to it
 --   tables-as          tables for a number of words are those for an equal one
 --   refused-settled, loaded-settled    what loading a vocabulary for a listing gives, by what loading it gives
 --

@@ -26,7 +26,7 @@
 --   FirstMissing           what first_missing answers, for any such l
 --   signatureIn v n        the signature that v writes
 --   Searched               what empty_kind answers, and where it finds a kind it marks those that are reached
---   MovesWords                  what move_words does
+--   MovesWords             what move_words does
 --
 use mathlib.Core.Path.{_≡_}
 use mathlib.Core.Bool.{Bool, false, not, cond}

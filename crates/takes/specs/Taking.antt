@@ -3,7 +3,7 @@
 --   ListingTables            the tables by which the listings under W go: the words' settled result kinds, the lowest kind without
 --                            complete situations, and the words' siblings by these kinds
 --   BookEntryOf W s e        e is an entry of a book of kind s, within the limits
---   behindBytes W s t es       the bytes of what is left of the entries es behind the pattern t
+--   behindBytes W s t es     the bytes of what is left of the entries es behind the pattern t
 --   TakeAt                   an area of entries and a pattern of one kind; the copy has room for each entry with the pattern
 --   TakesPattern             what is left behind the pattern is put, if there are marks enough for its bytes
 --   LeavesArea               the entries of an area are put, and counted as they are said to be

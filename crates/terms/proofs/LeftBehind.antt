@@ -5,10 +5,10 @@
 --   against-of-fitted                 behind a pattern that some ground term fits remains what remained before (iv), and behind any other all
 --   plain                             a book's entries are entries
 --   against-of-entries                what remains of entries are entries
---   left-entries, left-in-turn-entries   what is left of a book's entries are such entries
+--   left-entries, left-in-turn-entries  what is left of a book's entries are such entries
 --   whole-entries, book-entries       .. so all of a book's are
 --   entries-linear                    they are linear patterns of the sort
---   count-left, count-left-in-turn       what is left is counted as the entries were where no pattern fits, and 0 times where one does
+--   count-left, count-left-in-turn    what is left is counted as the entries were where no pattern fits, and 0 times where one does
 --   count-book                        .. so a book's entries are counted once where no pattern fits
 --
 use mathlib.Core.Path.{_≡_, refl, sym, _∙_, ap, ap₂}

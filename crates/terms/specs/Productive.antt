@@ -4,18 +4,18 @@
 -- FruitfulTurn and BarrenTurn (Laws) fix what it gives.
 --
 --   productive S f                every argument sort of the symbol f has a ground term
---   fruitful S t, fruitfulAll S ts    every symbol of t, or of ts, is productive
+--   fruitful S t, fruitfulAll S ts   every symbol of t, or of ts, is productive
 --   fitted S s t                  some ground term fits the linear term t of sort s
 --   wholeOf S s                   255 where the sort s has a ground term
 --   listingOf S s p               the listing of the pattern p of sort s
 --   remainsOf S s p e             what remains of the entry e behind the pattern p
 --   againstOf S s p l             what remains of the entries l behind the pattern p
 --   leftBehind S s p l            .. without the entries that no ground term fits
---   leftInTurn S s ps l             the same behind the patterns ps, taken in turn
+--   leftInTurn S s ps l           the same behind the patterns ps, taken in turn
 --   bookListingOf S s ps          the entries of a book
 --   BookEntry S s e               e is a pattern of sort s without names that some ground term fits
---   settledSymbol S e k                   the symbol k, with the result sort e where it is not productive
---   settledBy S o, settled S      the signature S with every symbol that is not productive settledSymbol to the lowest sort without ground
+--   settledSymbol S e k           the symbol k, with the result sort e where it is not productive
+--   settledBy S o, settled S      the signature S with every symbol that is not productive moved to the lowest sort without ground
 --                                 terms: what S lists for a fruitful pattern is document 01's listing over this one
 --
 use mathlib.Core.Path.{_≡_}

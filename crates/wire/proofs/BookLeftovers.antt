@@ -1,6 +1,5 @@
 -- BookLeftovers: what is computed of list_book's reply and lent slice keeps what list_book promises.
 --
---   patterns-entries          patterns of one kind are written as entries are
 --   same-order                a list is its own reordering
 --   entries-kept              what holds of the entries of a book that is accepted
 --   Answering, decided        a refusal or an answer
@@ -8,7 +7,7 @@
 --
 use mathlib.Core.Path.{_≡_, refl, sym, ap, _∙_, subst}
 use mathlib.Core.Bool.{Bool, true, false}
-use mathlib.Core.List.{List, [], _∷_, _++_, map}
+use mathlib.Core.List.{List, [], _∷_, map}
 use mathlib.Core.Logic.{_↔_, inr}
 use mathlib.Core.Option.{Option, some, none}
 use Prim.Native.Nat.{ℕ, suc, _-_, _<_, _≤_}
@@ -24,13 +23,12 @@ use Rattle.terms.specs.Book.{IsBookListing}
 use Rattle.terms.specs.Laws.{PatternsOfSort}
 use Rattle.terms.proofs.All.{all-implies, all-both, all-map, at-all}
 use Rattle.terms.proofs.Theorems.{book-listing-is-one, book-partition, book-strike-out, book-represents, book-entries-are-patterns}
-use Rattle.wire.specs.Reply.{Reply, accepted, refused, IsBytes, Kinded, kinded}
+use Rattle.wire.specs.Reply.{Reply, accepted, refused, IsBytes, kinded}
 use Rattle.wire.specs.Parser.{Reading, accept, refuse, readVocabulary}
 use Rattle.wire.specs.Vocabulary.{Vocabulary, signature, HoldsVocabulary}
 use Rattle.wire.specs.TermBytes.{encodeTerm, GoodTerm, levels, leastBytes, mostBytes, mostLevels, HoldsTerm}
 use Rattle.wire.specs.BookBytes.{patternsBytes, Listable, HoldsBook}
-use Rattle.wire.specs.Leftovers.{entriesBytes}
-use Rattle.wire.specs.BookLeftovers.{PassesBehind, FirstPast, WithinLimits, BookEntries, BookUnder, ofBook, tooLarge, noRoom, BookRefusal}
+use Rattle.wire.specs.BookLeftovers.{PassesBehind, WithinLimits, BookEntries, BookUnder, ofBook, tooLarge, noRoom, BookRefusal}
 use Rattle.wire.specs.VocabularyLines.{ofVocabulary, under}
 use Rattle.wire.specs.Effect.{Effect}
 use Rattle.wire.specs.ListComputed.{listedInto}
@@ -43,7 +41,7 @@ use Rattle.wire.proofs.Words.{in-order-well-formed}
 use Rattle.wire.proofs.VocabulariesInverse.{vocabularies-inverse}
 use Rattle.wire.proofs.VocabularyRefusals.{vocabulary-refusals}
 use Rattle.wire.proofs.EntriesRead.{GoodKinded, entries-same}
-use Rattle.wire.proofs.Leftovers.{Answer, intoIf, answer-of}
+use Rattle.wire.proofs.Leftovers.{patterns-entries, Answer, intoIf, answer-of}
 use Rattle.wire.proofs.Matching.{not-accepted}
 use Rattle.wire.proofs.BooksInverse.{books-inverse}
 use Rattle.wire.proofs.BookRefusals.{book-refusals}
@@ -51,10 +49,6 @@ use Rattle.wire.proofs.BookLimits.{Found, search, found, past-is, withi
 use Rattle.wire.proofs.BookLevels.{book-levels}
 
 -- ---- the entries
-
-pub patterns-entries : (W : Vocabulary) (s : ℕ) (l : List Term) → patternsBytes W s l ≡ entriesBytes W (map (kinded s) l)
-patterns-entries W s [] = refl
-patterns-entries W s (t ∷ l) = ap (λ z. encodeTerm W s t ++ z) (patterns-entries W s l)
 
 -- A list is its own reordering.
 pub same-order : {A : Type 0} (l : List A) → Reordered l l

@@ -12,7 +12,8 @@ use Rattle.wire.specs.Reply.{Reply, accepted, refused}
 use Rattle.wire.specs.Vocabulary.{Vocabulary}
 use Rattle.wire.specs.TermBytes.{nameCount, encodeAt}
 use Rattle.wire.specs.Matching.{tableLength, Span, noSpan, spanIn, cutOut, yes, MatchPromise, PartPromise}
-use Rattle.wire.specs.Leftovers.{listedBytes, ListPromise}
+use Rattle.wire.specs.BookBytes.{patternsBytes}
+use Rattle.wire.specs.Leftovers.{ListPromise}
 use Rattle.wire.specs.Filled.{filledBytes, FillPromise}
 use Rattle.wire.specs.BookLeftovers.{BookPromise}
 use Rattle.wire.specs.Laws.{VocabularyFixed, TermFixed, MatchFixed, PartFixed, ListFixed, FillFixed, BookFixed, PrintFixed}
@@ -118,11 +119,11 @@ module _ (v p before after after′ : List ℕ) where
   list-slice (accepted values) m m′ =
       let (W, s, t, l, h, isListing, room, e) = m .answered values .0 refl in
       let n : ℕ = length l in
-      let k : ℕ = length (listedBytes W s l) in
+      let k : ℕ = length (patternsBytes W s l) in
       let u = m .entries n k (ap accepted e) W s t h in
       let u′ = m′ .entries n k (ap accepted e) W s t h in
       let front : take k after ≡ take k after′ =
-      u .written ∙ ap (listedBytes W s) (the-listing v p W s t h (u .entries) .0 (u .order) ∙ sym (the-listing v p W s t h (u′ .entries) .0 (u′ .order))) ∙ sym (u′ .written) in
+      u .written ∙ ap (patternsBytes W s) (the-listing v p W s t h (u .entries) .0 (u .order) ∙ sym (the-listing v p W s t h (u′ .entries) .0 (u′ .order))) ∙ sym (u′ .written) in
       let rest : drop k after ≡ drop k after′ = m .behindLast n k (ap accepted e) ∙ sym (m′ .behindLast n k (ap accepted e)) in
       sym (take-append-drop k after) ∙ ap (λ x. x ++ drop k after) front ∙ ap (λ x. take k after′ ++ x) rest ∙ take-append-drop k after′
 

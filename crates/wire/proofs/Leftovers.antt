@@ -2,10 +2,11 @@
 --
 --   LinearIn, linear-in, in-linear    where a pattern to be listed is accepted
 --   pattern-read, read-pattern, pattern-is-one, pattern-listed    what is read and what is written
+--   patterns-entries, into-patterns    entries of one kind are written, and answered, as patterns of that kind
 --   Listable, Decided, decided    a refusal or an answer
 --   list-keeps                the reply and the slice that are computed keep the promise
 --
-use mathlib.Core.Path.{_≡_, refl, sym, ap, _∙_, subst}
+use mathlib.Core.Path.{_≡_, refl, sym, ap, ap₂, _∙_, subst}
 use mathlib.Core.Bool.{Bool, true, false, cond}
 use mathlib.Core.List.{List, [], _∷_, _++_, map}
 use mathlib.Core.Logic.{_↔_}
@@ -30,7 +31,8 @@ use Rattle.wire.specs.TermBytes.{encodeTerm, GoodTerm, deepest, leastByt
 use Rattle.wire.specs.CheckComputed.{checkedTerm}
 use Rattle.wire.specs.PatternLines.{sightings}
 use Rattle.wire.specs.ListComputed.{repeatedIn, linearOf, linearIn, checkedLinear, leftoversOf, listedInto, listedPattern, listedVocabulary, listed}
-use Rattle.wire.specs.Leftovers.{HoldsPattern, entriesBytes, listedBytes, Entries, ListUnder, ofPattern, noRoom, ListRefusal}
+use Rattle.wire.specs.BookBytes.{patternsBytes}
+use Rattle.wire.specs.Leftovers.{HoldsPattern, entriesBytes, Entries, ListUnder, ofPattern, noRoom, ListRefusal}
 use Rattle.wire.specs.VocabularyLines.{ofVocabulary, under}
 use Rattle.wire.specs.Effect.{Effect}
 use Rattle.wire.specs.Laws.{PatternIsOne, ListKeeps}
@@ -134,6 +136,14 @@ answer-of out n b n′ m e = go (leb (length b) (length out)) refl e
 
 -- ---- the entries
 
+pub patterns-entries : (W : Vocabulary) (s : ℕ) (l : List Term) → patternsBytes W s l ≡ entriesBytes W (map (kinded s) l)
+patterns-entries W s [] = refl
+patterns-entries W s (t ∷ l) = ap (λ z. encodeTerm W s t ++ z) (patterns-entries W s l)
+
+into-patterns : (W : Vocabulary) (s : ℕ) (l : List Term) (out : List ℕ) →
+    listedInto out (length (map (kinded s) l)) (entriesBytes W (map (kinded s) l)) ≡ listedInto out (length l) (patternsBytes W s l)
+into-patterns W s l out = ap₂ (listedInto out) (length-map l (kinded s)) (sym (patterns-entries W s l))
+
 module _ (v p : List ℕ) (W : Vocabulary) (s : ℕ) (t : Term) (h : HoldsPattern v p W s t) where
   abbrev entries : List Term
   entries = listingOf (signature W) s t
@@ -181,7 +191,7 @@ module _ (v p : List ℕ) (W : Vocabulary) (s : ℕ) (t : Term) (h : HoldsPatter
     entries = entries;
     count = sym (length-map entries (kinded s)) ∙ count;
     inside = inside;
-    written = written;
+    written = written ∙ sym (patterns-entries W s entries);
     one = λ l long good e. entries-same W inOrder l (leftoversOf W s t) good good-kinded (long ∙ sym count) (sym e ∙ written);
     order = is-listing;
     each = each-entry;
@@ -197,7 +207,7 @@ module _ (v p out : List ℕ) (bv : IsBytes v) (bp : IsBytes p) where
   abbrev pub Listable : List ℕ → Type 0
   Listable values =
       (W : Vocabulary) × (s : ℕ) × (t : Term) × (l : List Term) × HoldsPattern v p W s t × IsListing (signature W) s t l ×
-      (length (listedBytes W s l) ≤ length out) × (values ≡ length l ∷ length (listedBytes W s l) ∷ [])
+      (length (patternsBytes W s l) ≤ length out) × (values ≡ length l ∷ length (patternsBytes W s l) ∷ [])
 
   -- What a reply comes of.
   abbrev pub Decided : Reply → Type 0
@@ -207,32 +217,24 @@ module _ (v p out : List ℕ) (bv : IsBytes v) (bp : IsBytes p) where
   pub decided : Decided (listed v p out .reply)
   decided = vocabulary (readVocabulary v) refl
     where
-      room : (W : Vocabulary) (x : Kinded) → HoldsPattern v p W (x .kind) (x .term) →
-          (c : Bool) → leb (length (entriesBytes W (leftoversOf W (x .kind) (x .term)))) (length out) ≡ c →
-          Decided (intoIf c out (length (leftoversOf W (x .kind) (x .term))) (entriesBytes W (leftoversOf W (x .kind) (x .term))) .reply)
-      room W x h true e =
-          let l : List Term = listingOf (signature W) (x .kind) (x .term) in (
-            W,
-            x .kind,
-            x .term,
-            l,
-            h,
-            is-listing v p W (x .kind) (x .term) h,
-            leb-true (length (listedBytes W (x .kind) l)) (length out) e,
-            ap (λ n. n ∷ length (listedBytes W (x .kind) l) ∷ []) (length-map l (kinded (x .kind))),
-          )
-      room W x h false e =
-          let l : List Term = listingOf (signature W) (x .kind) (x .term) in
+      room : (W : Vocabulary) (s : ℕ) (t : Term) → HoldsPattern v p W s t → (l : List Term) → IsListing (signature W) s t l →
+          (c : Bool) → leb (length (patternsBytes W s l)) (length out) ≡ c →
+          Decided (intoIf c out (length l) (patternsBytes W s l) .reply)
+      room W s t h l isListing true e = (W, s, t, l, h, isListing, leb-true (length (patternsBytes W s l)) (length out) e, refl)
+      room W s t h l isListing false e =
           under W 20 3 _ (h .vocabulary)
-          (noRoom (x .kind) (x .term) l (h .pattern) (h .linear) (is-listing v p W (x .kind) (x .term) h)
-          (leb-false (length (listedBytes W (x .kind) l)) (length out) e))
+          (noRoom s t l (h .pattern) (h .linear) isListing (leb-false (length (patternsBytes W s l)) (length out) e))
 
       pattern : (W : Vocabulary) → readVocabulary v ≡ accept W → (r : Reading Kinded) → checkedLinear W p ≡ r →
           Decided (listedPattern W out r .reply)
       pattern W e (refuse n q) f =
           let held = vocabularies-inverse v W bv .0 e in
           under W n 1 q held (ofPattern n q (linear-refusals W p (held .inOrder) bp .given n q .0 f))
-      pattern W e (accept x) f = room W x (pattern-read v p W x bv bp e f) (leb _ (length out)) refl
+      pattern W e (accept x) f =
+          let h = pattern-read v p W x bv bp e f in
+          let l : List Term = listingOf (signature W) (x .kind) (x .term) in
+          subst (λ (r : Effect). Decided (r .reply)) (sym (into-patterns W (x .kind) l out))
+          (room W (x .kind) (x .term) h l (is-listing v p W (x .kind) (x .term) h) (leb _ (length out)) refl)
 
       vocabulary : (r : Reading Vocabulary) → readVocabulary v ≡ r → Decided (listedVocabulary p out r .reply)
       vocabulary (refuse n q) e = ofVocabulary n q (vocabulary-refusals v bv .given n q .0 e)
@@ -240,10 +242,11 @@ module _ (v p out : List ℕ) (bv : IsBytes v) (bp : IsBytes p) where
 
   -- The reply and the lent slice by whatever is the listing of an accepted pattern.
   one-listing : (W : Vocabulary) (s : ℕ) (t : Term) → HoldsPattern v p W s t → (l : List Term) → IsListing (signature W) s t l →
-      listed v p out ≡ listedInto out (length (map (kinded s) l)) (listedBytes W s l)
+      listed v p out ≡ listedInto out (length l) (patternsBytes W s l)
   one-listing W s t h l isListing =
       pattern-listed v p out W s t bv bp h
-      ∙ ap (λ x. listedInto out (length (map (kinded s) x)) (listedBytes W s x)) (sym (the-listing v p W s t h l .0 isListing))
+      ∙ into-patterns W s (listingOf (signature W) s t) out
+      ∙ ap (λ x. listedInto out (length x) (patternsBytes W s x)) (sym (the-listing v p W s t h l .0 isListing))
 
   refused-under : (W : Vocabulary) → HoldsVocabulary v W → {n i q : ℕ} → ListUnder p out W n i q → listed v p out .reply ≡ refused n i q
   refused-under W held (ofPattern n q d) =
@@ -251,7 +254,7 @@ module _ (v p out : List ℕ) (bv : IsBytes v) (bp : IsBytes p) where
       ∙ ap (λ r. listedPattern W out r .reply) (linear-refusals W p (held .inOrder) bp .given n q .1 d)
   refused-under W held (noRoom s t l h linear isListing short) =
       let pattern : HoldsPattern v p W s t = record { vocabulary = held; pattern = h; linear = linear } in
-      let b : List ℕ = listedBytes W s l in
+      let b : List ℕ = patternsBytes W s l in
       ap (λ (r : Effect). r .reply) (one-listing W s t pattern l isListing)
       ∙ ap (λ (r : Effect). r .reply) (cond-false (leb (length b) (length out)) _ _ (lt-leb (length b) (length out) short))
 
@@ -261,10 +264,9 @@ module _ (v p out : List ℕ) (bv : IsBytes v) (bp : IsBytes p) where
 
   answered-by : (values : List ℕ) → Listable values → listed v p out .reply ≡ accepted values
   answered-by values (W, s, t, l, h, isListing, fits, e) =
-      let b : List ℕ = listedBytes W s l in
+      let b : List ℕ = patternsBytes W s l in
       ap (λ (r : Effect). r .reply) (one-listing W s t h l isListing)
       ∙ ap (λ (r : Effect). r .reply) (cond-true (leb (length b) (length out)) _ _ (le-leb (length b) (length out) fits))
-      ∙ ap (λ n. accepted (n ∷ length b ∷ [])) (length-map l (kinded s))
       ∙ ap accepted (sym e)
 
   -- Where the reply is accepted, the entries stand in front of what stood there before.

@@ -18,7 +18,8 @@ use Rattle.wire.specs.Parser.{Reading, accept, refuse, readVocabulary}
 use Rattle.wire.specs.Vocabulary.{Vocabulary, signature}
 use Rattle.wire.specs.TermBytes.{encodeTerm, leastBytes, mostBytes}
 use Rattle.wire.specs.ListComputed.{linearIn, checkedLinear, listedPattern, listedVocabulary, listed}
-use Rattle.wire.specs.Leftovers.{HoldsPattern, listedBytes, ListRefusal, ListPromise}
+use Rattle.wire.specs.BookBytes.{patternsBytes}
+use Rattle.wire.specs.Leftovers.{HoldsPattern, ListRefusal, ListPromise}
 use Rattle.wire.specs.Printing.{mostInput, listingSpace, vocabularyPart, patternPart, listingText}
 use Rattle.wire.specs.PrintComputed.{entriesUnder, entriesWith, entriesLeft, reported, printedFrom, printed}
 use Rattle.wire.specs.Laws.{PrintKeeps, mostVocabulary, MoreAltersNothing}
@@ -55,15 +56,15 @@ print-keeps v p bv bp = record {
     one : (r : Reply) → Decided v p space bv bp r →
         ((n : ℕ) × (i : ℕ) × (q : ℕ) × ListRefusal v p space n i q) ⊎
         ((W : Vocabulary) × (s : ℕ) × (t : Term) × (l : List Term) × HoldsPattern v p W s t × IsListing (signature W) s t l ×
-        (length (listedBytes W s l) ≤ listingSpace))
+        (length (patternsBytes W s l) ≤ listingSpace))
     one (refused n i q) h = inl (n, i, q, h)
     one (accepted values) (W, s, t, l, h, isListing, fits, e) =
-        inr (W, s, t, l, h, isListing, subst (λ m. length (listedBytes W s l) ≤ m) space-long fits)
+        inr (W, s, t, l, h, isListing, subst (λ m. length (patternsBytes W s l) ≤ m) space-long fits)
 
     lists : (W : Vocabulary) (s : ℕ) (t : Term) (l : List Term) → HoldsPattern v p W s t → IsListing (signature W) s t l →
-        length (listedBytes W s l) ≤ listingSpace → printedFrom v p ≡ listingText (map (encodeTerm W s) l)
+        length (patternsBytes W s l) ≤ listingSpace → printedFrom v p ≡ listingText (map (encodeTerm W s) l)
     lists W s t l h isListing fits =
-        let room = subst (λ m. length (listedBytes W s l) ≤ m) (sym space-long) fits in
+        let room = subst (λ m. length (patternsBytes W s l) ≤ m) (sym space-long) fits in
         ap₂ reported (promise .answered _ .1 (W, s, t, l, h, isListing, room, refl))
         (entries-printed v p W s t bv bp h ∙ ap (map (encodeTerm W s)) (sym (the-listing v p W s t h l .0 isListing)))
 

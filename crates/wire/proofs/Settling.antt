@@ -1,7 +1,7 @@
 -- Settling: what settledVocabulary is, and that listings may go by it (document 02 (iv)).
 --
 --   settled-kinds, settled-map, settled-count   a settled word has its kinds and its place map, and there are as many words
---   settled-word, settled-same  a settled word, where some kind has no situations, and that nothing is settledSymbol where none has none
+--   settled-word, settled-same  a settled word, where some kind has no situations, and that nothing is moved where none has none
 --   settled-symbols             the symbols of the settled words are the settled symbols
 --   settled-is-settled          .. so its signature is the settled one
 --   settled-result              a word's result kind is its symbol's in the settled signature

@@ -2,7 +2,6 @@
 --
 --   HoldsPattern v p W s t   the bytes v and p are accepted: they write the vocabulary W and its linear pattern t of kind s
 --   entriesBytes W l         whole patterns, each directly behind the one before it
---   listedBytes W s l        the bytes of the entries l of kind s
 --   Entries W s t p n m after    demand 3 of the n entries in the first m bytes of the lent slice
 --   ListUnder, ListRefusal      the number, input and place that the refusal list decides on: lines 1 to 5 and 7 to 15, 18 and 20
 --   ListPromise              what list promises of its reply and the lent slice
@@ -21,6 +20,7 @@ use Rattle.wire.specs.Reply.{Reply, accepted, refused, Kinded, kinded}
 use Rattle.wire.specs.Row.{writeRow}
 use Rattle.wire.specs.Vocabulary.{Vocabulary, signature, HoldsVocabulary}
 use Rattle.wire.specs.TermBytes.{encodeTerm, GoodTerm, HoldsTerm}
+use Rattle.wire.specs.BookBytes.{patternsBytes}
 use Rattle.wire.specs.Refusals.{Decides}
 use Rattle.wire.specs.VocabularyLines.{VocabularyFirst}
 use Rattle.wire.specs.PatternLines.{PatternLine}
@@ -35,15 +35,12 @@ pub record HoldsPattern (v p : List ℕ) (W : Vocabulary) (s : ℕ) (t : Term) :
 abbrev pub entriesBytes : Vocabulary → List Kinded → List ℕ
 entriesBytes W l = writeRow (λ k. encodeTerm W (k .kind) (k .term)) l
 
-abbrev pub listedBytes : Vocabulary → ℕ → List Term → List ℕ
-listedBytes W s l = entriesBytes W (map (kinded s) l)
-
 pub record Entries (W : Vocabulary) (s : ℕ) (t : Term) (p : List ℕ) (n m : ℕ) (after : List ℕ) : Type 0 where
   -- "its first bytes, as many as answered, are the answered number of whole patterns": these, and no others.
   pub entries : List Term
   pub count : length entries ≡ n
   pub inside : m ≤ length after
-  pub written : take m after ≡ listedBytes W s entries
+  pub written : take m after ≡ patternsBytes W s entries
   pub one : (l : List Kinded) → length l ≡ n → All (λ k. GoodTerm W (k .kind) (k .term)) l →
       take m after ≡ entriesBytes W l → l ≡ map (kinded s) entries
   -- Demand 3: "are document 01's listing in its order"; as document 02 (iv) has it, without what no situation fits, or 255 alone.
@@ -63,7 +60,7 @@ pub data ListUnder (p out : List ℕ) (W : Vocabulary) : ℕ → ℕ → ℕ →
   ofPattern : (n q : ℕ) → Decides (PatternLine W p) n q → ListUnder p out W n 1 q
   -- 20. "The listing .. is longer than the lent slice (input 3, place: that output's length in bytes)."
   noRoom : (s : ℕ) (t : Term) (l : List Term) → HoldsTerm W p s t → Linear t → IsListing (signature W) s t l →
-      length out < length (listedBytes W s l) → ListUnder p out W 20 3 (length (listedBytes W s l))
+      length out < length (patternsBytes W s l) → ListUnder p out W 20 3 (length (patternsBytes W s l))
 
 abbrev pub ListRefusal : List ℕ → List ℕ → List ℕ → ℕ → ℕ → ℕ → Type 0
 ListRefusal v p out = VocabularyFirst v (ListUnder p out)
@@ -76,7 +73,7 @@ pub record ListPromise (v p before after : List ℕ) (r : Reply) : Type 0 where
   pub answered : (values : List ℕ) →
       (r ≡ accepted values) ↔
       ((W : Vocabulary) × (s : ℕ) × (t : Term) × (l : List Term) × HoldsPattern v p W s t × IsListing (signature W) s t l ×
-      (length (listedBytes W s l) ≤ length before) × (values ≡ length l ∷ length (listedBytes W s l) ∷ []))
+      (length (patternsBytes W s l) ≤ length before) × (values ≡ length l ∷ length (patternsBytes W s l) ∷ []))
   -- Demand 3, about the bytes that stand in the lent slice after the call, wherever the reply is no refusal.
   pub entries : (n m : ℕ) → r ≡ accepted (n ∷ m ∷ []) →
       (W : Vocabulary) (s : ℕ) (t : Term) → HoldsPattern v p W s t → Entries W s t p n m after

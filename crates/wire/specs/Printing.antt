@@ -18,7 +18,8 @@ use Rattle.terms.specs.Term.{Term}
 use Rattle.terms.specs.Listing.{IsListing}
 use Rattle.wire.specs.Vocabulary.{Vocabulary, signature}
 use Rattle.wire.specs.TermBytes.{encodeTerm}
-use Rattle.wire.specs.Leftovers.{HoldsPattern, listedBytes, ListRefusal}
+use Rattle.wire.specs.BookBytes.{patternsBytes}
+use Rattle.wire.specs.Leftovers.{HoldsPattern, ListRefusal}
 use Rattle.wire.specs.Text.{ascii, newline, decimal, hexadecimal}
 
 -- "Only the first 65,536 bytes are taken"
@@ -66,8 +67,8 @@ pub record PrintPromise (v p text : List ℕ) : Type 0 where
   -- One of the two cases below holds of every input.
   pub one : ((n : ℕ) × (i : ℕ) × (q : ℕ) × ListRefusal v p (replicate listingSpace 0) n i q) ⊎
       ((W : Vocabulary) × (s : ℕ) × (t : Term) × (l : List Term) × HoldsPattern v p W s t × IsListing (signature W) s t l ×
-      (length (listedBytes W s l) ≤ listingSpace))
+      (length (patternsBytes W s l) ≤ listingSpace))
   pub refuses : (n i q : ℕ) → ListRefusal v p (replicate listingSpace 0) n i q → text ≡ refusalText n i q
   -- The pattern's listing, where it fits the space.
   pub lists : (W : Vocabulary) (s : ℕ) (t : Term) (l : List Term) → HoldsPattern v p W s t → IsListing (signature W) s t l →
-      length (listedBytes W s l) ≤ listingSpace → text ≡ listingText (map (encodeTerm W s) l)
+      length (patternsBytes W s l) ≤ listingSpace → text ≡ listingText (map (encodeTerm W s) l)

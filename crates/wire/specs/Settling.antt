@@ -2,9 +2,9 @@
 --
 -- This file is an algorithm, and nothing in it has to be believed: the laws at its end fix what it gives.
 --
---   settledWord S e w        the word w, with the result kind e where no complete situation has it
+--   settledWord S e w      the word w, with the result kind e where no complete situation has it
 --   settledWordsBy W o     the words of W, where o is a kind without complete situations, if there is one
---   settledVocabulary W    W with every word that no complete situation has settledSymbol to the lowest kind without any
+--   settledVocabulary W    W with every word that no complete situation has moved to the lowest kind without any
 --   SettledInOrder         it is in order
 --   SettledIsSettled       its signature is the settled one of W's
 --   SettledWrites          it writes every term as W does

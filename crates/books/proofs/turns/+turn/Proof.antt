@@ -13,7 +13,7 @@ use borrow.Fn.PlainCycle.{Measures, is, falls, and}
 use Rattle.books.proofs.turns.turn.Reads as turn
 use Rattle.books.proofs.turns.turn.Kinds as turn-kinds
 use Rattle.books.proofs.turns.+turn.Lts-turn as turn-lts
-use Rattle.takes.proofs.take_pattern.Reads as take-pattern-reads
+use Rattle.takes.proofs.take_pattern.Reads as pattern-reads
 use Rattle.books.proofs.turns.finish.Reads as finish-reads
 use Rattle.extents.proofs.term_size.Reads as term-size-reads
 use Rattle.books.proofs.turns.+turn.{statement}
@@ -34,8 +34,8 @@ claims t = (
   finish-reads.Learnt,
   term-size-reads.Asked,
   term-size-reads.Learnt,
-  take-pattern-reads.Asked,
-  take-pattern-reads.Learnt,
+  pattern-reads.Asked,
+  pattern-reads.Learnt,
   turn-below t,
   turn.Post,
 )
