@@ -1,6 +1,6 @@
 -- What stands at an offset.
 pub mod Bytes
--- The loop that counts the terms that are due.
-pub mod Counting
+-- Where terms end, node by node.
+pub mod Nodes
 -- Where a term that is written ends.
 pub mod Extents

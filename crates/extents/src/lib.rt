@@ -1,11 +1,13 @@
 // What stands at an offset of some bytes, and where a term ends, by its bytes alone.
 ghost use mathlib.Core.Path.{_≡_};
-ghost use Prim.Native.Nat.{_≤_, min};
-ghost use lib.ListN.{length};
+ghost use Prim.Native.Nat.{_+_, _<_, _≤_, min};
+ghost use lib.Count.{ones};
+ghost use lib.ListN.{length, drop};
 ghost use Rattle.wire.specs.EntryCut.{dueSize};
 ghost use Rattle.maps.specs.Reading.{mapAt};
 ghost use Rattle.extents.specs.Bytes.{termByte, Small};
-ghost use Rattle.extents.specs.Extents.{mostExtent, termSize};
+ghost use Rattle.extents.specs.Extents.{termSize};
+ghost use Rattle.extents.specs.Nodes.{NodeEnds};
 
 fn least(a: usize, b: usize) -> usize
     ensures { λ r. ⌜ r ≡ min a b ⌝ }
@@ -36,26 +38,84 @@ pub fn map(bytes: &[u8], at: usize) -> usize
     wide(maps::read(bytes, at))
 }
 
-// How many bytes the term at the front takes. A byte of 128 or more ends a term; a word's number is followed by its map,
-// which makes as many terms due as it has ones.
+// A word with its map, or a byte of 128 or more: the offset behind it, and the map, which has a bit for each term below. It is 0
+// for what is no word, and where the map is missing.
+struct Node {
+    end: usize,
+    map: u8,
+}
+
+// What stands at an offset.
+fn node_at(bytes: &[u8], at: usize) -> Node
+    requires { ⌜ at < length (now bytes) ⌝ }
+    ensures { λ r. ⌜ NodeEnds (now (bytes .entry)) at (r .end) (r .map) ⌝ }
+{
+    let next = at + 1;
+    if bytes[at] < 128 {
+        if next < bytes.len() {
+            let map = maps::read(bytes, next);
+            let end = next + maps::BYTES;
+            return Node { end, map };
+        }
+    }
+    Node { end: next, map: 0 }
+}
+
+// The terms that are due, a bit for each, without the next one: the lowest bit falls.
+fn passed(due: u64) -> u64
+    requires { ⌜ 0 < due ⌝ }
+    ensures { λ r. ⌜ ones r + 1 ≡ ones due ⌝ }
+{
+    due & (due - 1)
+}
+
+// The offset behind the terms that are due from an offset on, one for each bit of `terms` that stands; that behind the bytes if
+// they end sooner. It recurses over the levels of the terms, of which accepted ones have at most 32.
+fn pass_terms(bytes: &[u8], from: usize, terms: u64) -> usize
+    requires { ⌜ from ≤ length (now bytes) ⌝ }
+    ensures { λ r. ⌜ r ≡ from + dueSize (drop from (now (bytes .entry))) (ones terms) ⌝ }
+{
+    let mut at = from;
+    let mut due = terms;
+    while due != 0 {
+        if bytes.len() <= at {
+            return at;
+        }
+        let node = node_at(bytes, at);
+        let map = node.map;
+        at = node.end;
+        due = passed(due);
+        if map != 0 {
+            at = pass_terms(bytes, at, map as u64);
+        }
+    }
+    at
+}
+
+// How many bytes the term at the front takes. No ones are counted: a bit stands for each term that is due, and a word's map, which
+// has eight, goes into the lowest byte; bits that are there move up. Where these have no room, behind eight words with written
+// places or more, the terms are passed one by one.
 fn front_size(bytes: &[u8]) -> usize
-    requires { ⌜ length (now bytes) ≤ mostExtent ⌝ }
     ensures { λ r. ⌜ r ≡ dueSize (now (bytes .entry)) 1 ⌝ }
 {
     let mut at = 0;
-    let mut due = 1;
+    let mut due = 1u64;
     while at < bytes.len() {
         if due == 0 {
             return at;
         }
-        let b = bytes[at];
-        at += 1;
-        due -= 1;
-        if b < 128 {
-            if at < bytes.len() {
-                let ones = u8::count_ones(maps::read(bytes, at));
-                at += maps::BYTES;
-                due += ones as usize;
+        let node = node_at(bytes, at);
+        let map = node.map;
+        at = node.end;
+        due = passed(due);
+        if map != 0 {
+            if due % 256 == 0 {
+                due = due + (map as u64);
+            } else {
+                if 72057594037927936 <= due {
+                    return pass_terms(bytes, pass_terms(bytes, at, map as u64), due);
+                }
+                due = due * 256 + (map as u64);
             }
         }
     }

@@ -1,6 +1,5 @@
 -- Frames: what is due of a frame without its first place, of one with no place left, and of a list of frames.
 --
---   lowest-falls, no-ones, some-ones    the bits of a run, one for each place
 --   framed                    a frame is made of four numbers, and they are read back
 --   passed-framed, advanced-framed    the frames that `passed` and `advanced` make
 --   the -fits                 no number on the way there passes 2 ^ 64
@@ -15,7 +14,7 @@ use mathlib.Core.Path.{_≡_, refl, sym, ap, ap₂, _∙_}
 use mathlib.Core.Bool.{Bool, true, false, true≢false, false≢true}
 use mathlib.Core.List.{List, [], _∷_, _++_}
 use mathlib.Core.Logic.{_≢_}
-use Prim.Native.Nat.{ℕ, zero, suc, _+_, _-_, _*_, _/_, _%_, _^_, _<_, _≤_, min}
+use Prim.Native.Nat.{ℕ, zero, suc, _+_, _-_, _*_, _/_, _%_, _^_, _<_, _≤_}
 use native.Mathlib.Nat.{add-zero, pow-suc}
 use native.Mathlib.Decide.{ℕ-discrete}
 use native.Mathlib.Numerals.{add-one}
@@ -29,53 +28,8 @@ use borrow.Author.Tests.{eqb-true, eq-eqb, ne-eqb}
 use Rattle.wire.specs.Map.{flagsIn, flags, bit, firstFlag, restFlags, Slot, slots}
 use Rattle.wire.specs.TermLines.{Due, dueAt}
 use Rattle.wire.proofs.Map.{bit-odd}
+use Rattle.wire.proofs.Ones.{no-ones, lowest-falls}
 use Rattle.frames.specs.Frames.{runIn, kindsIn, writtenIn, placesIn, Framed, Behind, Advanced, WordFrame, FrameIn, placesDue, frameDue, savedDue}
-
--- ---- the bits of a run
-
-pub no-ones : (m : ℕ) → m ≡ 0 → Count.ones m ≡ 0
-no-ones m e = let none : Count.ones m ≤ 0 = Count.ones-le 0 m (omega arith) in omega arith
-
-some-half : (m : ℕ) → ((m % 2 ≡ 1 → ⊥) → 0 < Count.ones (m / 2)) → 0 < Count.ones m
-some-half m half = go (ℕ-discrete (m % 2) 1)
-  where
-    go : Dec (m % 2 ≡ 1) → 0 < Count.ones m
-    go (yes odd) = omega (arith, Count.ones-step m)
-    go (no even) = omega (arith, Count.ones-step m, half even)
-
-some-below : (b m : ℕ) → m < b → (m ≡ 0 → ⊥) → 0 < Count.ones m
-some-below zero m h d = absurd (omega arith)
-some-below (suc b) m h d = some-half m (λ even. some-below b (m / 2) (omega arith) (λ e. d (omega arith)))
-
--- A map that is not 0 has places.
-pub some-ones : (m : ℕ) → (m ≡ 0 → ⊥) → 0 < Count.ones m
-some-ones m = some-below (suc m) m (omega arith)
-
-twice-ones : (y : ℕ) → Count.ones (y * 2 + 0) ≡ Count.ones y
-twice-ones y =
-    let half : (y * 2 + 0) / 2 ≡ y = omega arith in
-    let even : (y * 2 + 0) % 2 ≡ 0 = omega arith in
-    omega (arith, Count.ones-step (y * 2 + 0), ap Count.ones half)
-
-falls-below : (b m : ℕ) → m < b → 0 < m → Count.ones (bitAnd m (m - 1)) + 1 ≡ Count.ones m
-falls-below zero m h some = absurd (omega arith)
-falls-below (suc b) m h some = go (ℕ-discrete (m % 2) 1) (falls-below b (m / 2) (omega arith))
-  where
-    go : Dec (m % 2 ≡ 1) → (0 < m / 2 → Count.ones (bitAnd (m / 2) (m / 2 - 1)) + 1 ≡ Count.ones (m / 2)) → Count.ones (bitAnd m (m - 1)) + 1 ≡ Count.ones m
-    go (yes odd) ih =
-        let half : (m - 1) / 2 ≡ m / 2 = omega arith in
-        let low : min (m % 2) ((m - 1) % 2) ≡ 0 = omega arith in
-        let same : bitAnd m (m - 1) ≡ m / 2 * 2 + 0 = and-step m (m - 1) ∙ ap₂ (λ y r. y * 2 + r) (ap (bitAnd (m / 2)) half ∙ and-self (m / 2)) low in
-        omega (arith, ap Count.ones same, twice-ones (m / 2), Count.ones-step m)
-    go (no even) ih =
-        let half : (m - 1) / 2 ≡ m / 2 - 1 = omega arith in
-        let low : min (m % 2) ((m - 1) % 2) ≡ 0 = omega arith in
-        let same : bitAnd m (m - 1) ≡ bitAnd (m / 2) (m / 2 - 1) * 2 + 0 = and-step m (m - 1) ∙ ap₂ (λ y r. y * 2 + r) (ap (bitAnd (m / 2)) half) low in
-        omega (arith, ap Count.ones same, twice-ones (bitAnd (m / 2) (m / 2 - 1)), ih (omega arith), Count.ones-step m)
-
--- Without its lowest bit a number has one bit less.
-pub lowest-falls : (m : ℕ) → 0 < m → Count.ones (bitAnd m (m - 1)) + 1 ≡ Count.ones m
-lowest-falls m = falls-below (suc m) m (omega arith)
 
 -- ---- the four numbers
 

@@ -27,7 +27,8 @@ use Rattle.wire.proofs.Theorems.{vocabularies-inverse}
 use Rattle.signature.specs.Tables.{Tables, vocabularyIn}
 use Rattle.frames.specs.Frames.{runIn, writtenIn, placesIn, WordFrame, FrameIn, placesDue, frameDue}
 use Rattle.reader.specs.Nodes.{TablesOf}
-use Rattle.frames.proofs.Frames.{no-ones, some-ones, due-parts, due-bare}
+use Rattle.wire.proofs.Ones.{no-ones, some-ones}
+use Rattle.frames.proofs.Frames.{due-parts, due-bare}
 
 -- ---- kinds that stand in a vocabulary
 

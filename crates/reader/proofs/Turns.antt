@@ -25,7 +25,8 @@ use Rattle.reader.specs.Cursors.{openDue, restRun, Going}
 use Rattle.reader.specs.Full.{NotFull, Passes}
 use Rattle.reader.specs.Terms.{Passed, nodeDue, nodeRun}
 use Rattle.cursors.specs.declared.Cursor.{Cursor}
-use Rattle.frames.proofs.Frames.{no-ones, some-ones, low-within, frame-behind, frame-advanced}
+use Rattle.wire.proofs.Ones.{no-ones, some-ones}
+use Rattle.frames.proofs.Frames.{low-within, frame-behind, frame-advanced}
 use Rattle.reader.proofs.Full.{passes-none, passes-as, FullHere}
 use Rattle.reader.proofs.FullSteps.{FullNode, bare-going, bare-same, bare-path, down-framed, down-going, down-same, down-path}
 use Rattle.reader.proofs.Cursors.{going-onto, going-up, open-place, open-advanced, open-up, run-place, run-advanced, run-up}

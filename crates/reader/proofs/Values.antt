@@ -35,7 +35,8 @@ use Rattle.reader.specs.Full.{NotFull, Passes}
 use Rattle.reader.specs.Terms.{Passed, nodeDue}
 use Rattle.reader.specs.Fillings.{valueDue, FaultAt, ValueEnds, ValueStops}
 use Rattle.cursors.specs.declared.Cursor.{Cursor}
-use Rattle.frames.proofs.Frames.{no-ones, passed-framed, due-done}
+use Rattle.wire.proofs.Ones.{no-ones}
+use Rattle.frames.proofs.Frames.{passed-framed, due-done}
 use Rattle.reader.proofs.Full.{passes-none, passes-as, passes-then, passes-all, passes-stop}
 use Rattle.reader.proofs.FullSteps.{FullNode, bare-going, bare-same, bare-path, down-going, down-same, down-path}
 use Rattle.reader.proofs.Cursors.{open-place}

@@ -1,19 +1,13 @@
--- Accepted: where a vocabulary is accepted, no record stops the reading of its words.
---
---   accepted-words   the words before the first record that is not in order are all words
---   laid-tabled      .. and a table in which their result kinds are laid has them
---
-use mathlib.Core.Path.{_≡_, refl, ap, _∙_, subst}
+-- Accepted: where a vocabulary is accepted, no record stops the reading of its words: those before the first record that is not in
+-- order are all of them.
+use mathlib.Core.Path.{_≡_, subst}
 use mathlib.Core.Bool.{Bool, true, false, cond}
 use mathlib.Core.List.{List, [], _∷_}
-use Prim.Native.Nat.{ℕ, _<_}
-use native.Mathlib.Omega.{arith}
-use lib.ListN.{length, getD, drop, length-map, List·getD-append, List·getD-map}
+use Prim.Native.Nat.{ℕ}
 use Rattle.wire.specs.Parser.{Reading, accept, refuse, Got, got, stop, readWords, line5, readVocabulary}
 use Rattle.wire.specs.Reply.{outside}
-use Rattle.wire.specs.Vocabulary.{Word, Vocabulary, word, noWord, mostKinds, mostWords, HoldsVocabulary}
-use Rattle.wire.specs.VocabularyLines.{byteAt}
-use Rattle.signature.specs.Tables.{wordsUpTo, wordsBefore, resultsOf, laid, Tabled, AcceptedWords}
+use Rattle.wire.specs.Vocabulary.{Word, Vocabulary, mostKinds, mostWords}
+use Rattle.signature.specs.Tables.{wordsUpTo, wordsBefore, AcceptedWords}
 use Rattle.signature.proofs.WordsUpTo.{UpTo, words-up-to}
 
 abbrev SameIn : List Word → Reading Vocabulary → Type 0
@@ -38,18 +32,3 @@ same-vocabulary (k ∷ n ∷ l) =
 
 pub accepted-words : AcceptedWords
 accepted-words v W e = subst (SameIn (wordsBefore v)) e (same-vocabulary v)
-
--- A table in which the result kinds of an accepted vocabulary's words are laid has them.
-pub laid-tabled : (v : List ℕ) (W : Vocabulary) → HoldsVocabulary v W → readVocabulary v ≡ accept W → (words : ℕ) → words ≡ byteAt v 1 →
-    (results blank : List ℕ) → results ≡ laid (resultsOf (wordsBefore v)) blank → Tabled W words results
-laid-tabled v W held read words counted results blank table = record { words = counted ∙ count; result = result-is }
-  where
-    count : byteAt v 1 ≡ length (W .words)
-    count = ap (λ l. getD l 1 0) (held .written)
-
-    result-is : (f : ℕ) → f < words → getD results f 0 ≡ word W f .result
-    result-is f h =
-        let long : length (resultsOf (W .words)) ≡ length (W .words) = length-map (W .words) (λ (w : Word). w .result) in
-        ap (λ r. getD r f 0) (table ∙ ap (λ ws. laid (resultsOf ws) blank) (accepted-words v W read))
-        ∙ List·getD-append (resultsOf (W .words)) (drop (length (resultsOf (W .words))) blank) 0 f (omega (arith, count))
-        ∙ List·getD-map (λ (w : Word). w .result) (W .words) f noWord

@@ -13,3 +13,5 @@ pub mod VocabularyLoaded
 -- What the tables of an accepted vocabulary hold.
 pub mod Accepted
 pub mod Settling
+-- The numbers of places of two vocabularies.
+pub mod CountedExample

@@ -5,7 +5,6 @@ use mathlib.Core.List.{List, [], _∷_}
 use Prim.Native.Nat.{ℕ, zero, suc, _+_, _<_, _≤_}
 use native.Mathlib.Omega.{arith}
 use native.Mathlib.Decide.{ℕ-discrete}
-use lib.Count
 use lib.Dec.{eqb}
 use lib.ListN.{length, getD, take, drop, set, replicate, length-drop, length-set, getD-replicate}
 use lib.Seq.{getD-take, getD-drop, getD-set-same, getD-set-other, length-take-le}
@@ -20,7 +19,6 @@ use Rattle.wire.specs.Map.{mapBytes}
 use Rattle.wire.specs.VocabularyLines.{byteAt}
 use Rattle.signature.specs.declared.Missing.the-variants.{Kind, Nothing}
 use Rattle.signature.specs.Loading.{Marks, Markable, Covers, PlacesInside, PlacesCovered, FirstMissing}
-use Rattle.signature.proofs.RecordBytes.{no-ones}
 
 -- No mark stands for no kind.
 pub marks-none : Marks (replicate 16 0) []
@@ -73,10 +71,8 @@ module _ (v : List ℕ) (at n : ℕ) (inside : at + n ≤ length v) (markable : 
       (rw (part-at i b) (unmarked-occurs marked l marks (byteAt v (at + i)) (markable i b) h)))
 
 -- A word without places.
-pub covers-bare : (v : List ℕ) (o m : ℕ) → PlacesInside v o m → m ≡ 0 → (marked : List ℕ) → PlacesCovered v o m marked true
-covers-bare v o m places e marked =
-    covers-true v (o + (1 + mapBytes)) (Count.ones m) (places .inside) (places .markable) marked
-    (λ j h. absurd (omega (arith, no-ones m e)))
+pub covers-bare : (v : List ℕ) (o k : ℕ) → PlacesInside v o k → k ≡ 0 → (marked : List ℕ) → PlacesCovered v o k marked true
+covers-bare v o k places e marked = covers-true v (o + (1 + mapBytes)) k (places .inside) (places .markable) marked (λ j h. absurd (omega arith))
 
 -- The lowest kind without a mark.
 module _ (kinds : ℕ) (few : kinds ≤ 16) (marked : List ℕ) where

@@ -2,7 +2,7 @@
 --
 --   Moved v n w e marked before after    the first w of n words had their turn
 --
-use mathlib.Core.Path.{_≡_, refl, sym, _∙_, ap}
+use mathlib.Core.Path.{_≡_, refl, _∙_, ap}
 use mathlib.Core.Bool.{Bool, true, false, cond}
 use mathlib.Core.List.{List}
 use Prim.Native.Nat.{ℕ, _+_, _<_, _≤_}
@@ -12,8 +12,8 @@ use lib.ListN.{length, getD, set, length-set}
 use lib.Seq.{getD-set-same, getD-set-other}
 use Rattle.terms.specs.Emptiness.{covered}
 use Rattle.wire.specs.Vocabulary.{noWord}
-use Rattle.signature.specs.Loading.{recordsIn, Filled, Marks, PlacesCovered, MovesWords}
-use Rattle.signature.proofs.Rounds.{entry-covers}
+use Rattle.signature.specs.Loading.{recordsIn, Marks, FilledCounted, PlacesCovered, MovesWords}
+use Rattle.signature.proofs.Rounds.{entry-covers, places-are}
 
 abbrev kindsAt : List ℕ → ℕ → ℕ → List ℕ
 kindsAt v n f = getD (recordsIn v n) f noWord .kinds
@@ -31,10 +31,10 @@ pub moved-all : (v : List ℕ) (n w e : ℕ) (marked before after : List ℕ) �
 moved-all v n w e marked before after m h =
     (m .size, (λ f b. m .behind f (let p = m .passed in omega arith)), λ l k f b. m .done l k f (omega arith))
 
-module _ (v : List ℕ) (n : ℕ) (o r m : List ℕ) (filled : Filled v n o r m) (w e : ℕ) (b : w < n) (marked before after : List ℕ)
-    (moved : Moved v n w e marked before after) (t : Bool) (covers : PlacesCovered v (getD o w 0) (getD m w 0) marked t) where
+module _ (v : List ℕ) (n : ℕ) (o r c : List ℕ) (reach : FilledCounted v n o r c) (w e : ℕ) (b : w < n) (marked before after : List ℕ)
+    (moved : Moved v n w e marked before after) (t : Bool) (covers : PlacesCovered v (getD o w 0) (getD c w 0) marked t) where
   covered-here : (l : List ℕ) → Marks marked l → t ≡ covered (kindsAt v n w) l
-  covered-here l marks = entry-covers v _ _ _ _ (filled .entries w b) marked l t covers marks
+  covered-here l marks = entry-covers v _ _ _ _ _ (reach .filled .entries w b) (places-are v n o r c reach w b) marked l t covers marks
 
   -- Below w nothing changes, and at w it is what the places' kinds say.
   step : (next : List ℕ) → length next ≡ length after → ((f : ℕ) → (f ≡ w → ⊥) → getD next f 0 ≡ getD after f 0) →

@@ -3,7 +3,6 @@ use mathlib.Core.Path.{_≡_, sym, _∙_, ap, subst}
 use mathlib.Core.List.{List, _∷_}
 use Prim.Native.Nat.{ℕ, suc, _+_, _<_, _≤_}
 use native.Mathlib.Omega.{arith}
-use lib.Count
 use lib.ListN.{length, drop, drop-of-length-le}
 use lib.Seq.{drop-cons}
 use borrow.Author.Count.{below-none}
@@ -13,7 +12,6 @@ use Rattle.wire.specs.Map.{flags, ones}
 use Rattle.wire.specs.Vocabulary.{Word, WordInOrder, encodeWord}
 use Rattle.wire.specs.Parser.{Got, got, andThen, readKinds, readWord}
 use Rattle.wire.specs.VocabularyLines.{byteAt}
-use Rattle.wire.proofs.Map.{ones-count}
 use Rattle.wire.proofs.Bytes.{bytes-of}
 use Rattle.wire.proofs.Inverse.{ReadOff}
 use Rattle.wire.proofs.WordsInverse.{word-inverse}
@@ -23,9 +21,6 @@ use Rattle.signature.specs.declared.WordRead.{WordRead}
 use Rattle.signature.specs.declared.WordRead.the-variants.{Whole, Ends, NoSuchKind}
 use Rattle.signature.specs.Loading.{kindsGot, KindsRead, wordGot, RecordRead}
 use Rattle.signature.proofs.KindBytes.{kinds-read-whole}
-
-pub no-ones : (m : ℕ) → m ≡ 0 → Count.ones m ≡ 0
-no-ones m e = rw e (Count.ones-ones 0)
 
 -- The bytes from an offset on, where there are some.
 byte-cons : (v : List ℕ) (i j : ℕ) → suc i ≡ j → i < length v → drop i v ≡ byteAt v i ∷ drop j v
@@ -85,10 +80,10 @@ module _ (v : List ℕ) (at k : ℕ) where
 
     -- The map as it is read.
     module _ (map : ℕ) (is : map ≡ mapAt v (at + 1)) where
-      pub record-kinds : (r : WordRead) → KindsRead v (at + 2) (Count.ones map) k r → RecordRead v at k r
+      pub record-kinds : (r : WordRead) (places : ℕ) → places ≡ ones (flags map) → KindsRead v (at + 2) places k r → RecordRead v at k r
       unfolding n
-      record-kinds r read = behind-map r (rw (is, ones-count (mapAt v (at + 1)) map-small) at read)
+      record-kinds r places counted read = behind-map r (rw (counted, is) at read)
 
       -- A map of no places.
       pub record-bare : map ≡ 0 → RecordRead v at k (Whole 0)
-      record-bare e = record-kinds (Whole 0) (rw (no-ones map e) (kinds-read-whole v (at + 2) k 0 (omega arith) (below-none _)))
+      record-bare e = record-kinds (Whole 0) 0 (sym (ap (λ m. ones (flags m)) e)) (kinds-read-whole v (at + 2) k 0 (omega arith) (below-none _))

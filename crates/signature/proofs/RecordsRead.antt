@@ -1,10 +1,9 @@
 -- RecordsRead: the records that are read so far stand in the tables, and what is left to read decides the rest.
 --
---   Tabled v n w at          w of n records of v are read, up to the offset `at`, into the tables o, r and m; behind
+--   Tabled v n w at          w of n records of v are read, up to the offset `at`, into the tables o, r, m and c; behind
 --                            their entries the tables are as before
 --
 use mathlib.Core.Path.{_≡_, refl, sym, _∙_, ap, subst}
-use mathlib.Core.Bool.{Bool, true, false}
 use mathlib.Core.List.{List, [], _∷_, _++_, map, map-append}
 use Prim.Native.Nat.{ℕ, suc, _+_, _-_, _*_, _<_, _≤_}
 use native.Mathlib.Numerals.{add-one}
@@ -19,19 +18,20 @@ use Rattle.wire.specs.Vocabulary.{Word, noWord, WordInOrder}
 use Rattle.wire.specs.Parser.{got, stop, readWord, readWords}
 use Rattle.wire.specs.Reply.{refused}
 use Rattle.wire.specs.VocabularyLines.{byteAt, placesOf, recordAt}
-use Rattle.wire.proofs.Map.{length-flagsIn}
+use Rattle.wire.proofs.Map.{ones-few}
 use Rattle.wire.proofs.Row.{row-last, row-stopped}
 use Rattle.wire.proofs.Records.{behind, behind-is, places-at, record-behind}
 use Rattle.maps.specs.Reading.{mapAt}
 use Rattle.maps.proofs.Reading.{map-at}
 use Rattle.signature.specs.Answers.{vocabularyRefused}
-use Rattle.signature.specs.Tables.{offsetsOf, resultsOf, mapsOf, Laid}
+use Rattle.signature.specs.Tables.{offsetsOf, resultsOf, mapsOf, placeCount, countsOf, laid, Laid}
 use Rattle.signature.specs.declared.VocabularyRefusal.{VocabularyRefusal}
 use Rattle.signature.specs.declared.VocabularyRefusal.the-variants as R
+use Rattle.signature.specs.declared.VocabularyAnswer.{VocabularyAnswer}
 use Rattle.signature.specs.declared.VocabularyAnswer.the-variants.{Accepted, Refused}
 use Rattle.signature.specs.declared.WordRead.{WordRead}
 use Rattle.signature.specs.declared.WordRead.the-variants.{Whole, Ends, NoSuchKind}
-use Rattle.signature.specs.Loading.{RecordRead, wordAt, recordsIn, checksReply, Entry, Filled, Sized, WordsLoaded}
+use Rattle.signature.specs.Loading.{RecordRead, wordAt, recordsIn, checksReply, Entry, Filled, Sized, WordsLoaded, WordsCounted}
 use Rattle.signature.proofs.Laid.{laid-more, map-range-more}
 use Rattle.signature.proofs.WordsUpTo.{UpTo, words-up-to}
 
@@ -42,8 +42,8 @@ record-as read e d = rw (e, d) at read
 pub whole-inside : {v : List ℕ} {at k : ℕ} {r : WordRead} {p : ℕ} → RecordRead v at k r → r ≡ Whole p → at + 2 + p ≤ length v
 whole-inside read e = record-as read e refl .inside .0
 
--- The tables o₀, r₀ and m₀ were lent.
-pub record Tabled (v : List ℕ) (n w at : ℕ) (o₀ r₀ m₀ o r m : List ℕ) : Type 0 where
+-- The tables o₀, r₀, m₀ and c₀ were lent.
+pub record Tabled (v : List ℕ) (n w at : ℕ) (o₀ r₀ m₀ c₀ o r m c : List ℕ) : Type 0 where
   pub words : List Word
   pub passed : w ≤ n
   pub inside : at ≤ length v
@@ -53,12 +53,14 @@ pub record Tabled (v : List ℕ) (n w at : ℕ) (o₀ r₀ m₀ o r m : List ℕ
   pub read : readWords (byteAt v 0) w (drop 2 v) ≡ got words (drop at v)
   pub entries : (f : ℕ) → f < w → Entry v (getD o f 0) (getD r f 0) (getD m f 0) (getD words f noWord)
   pub holds : Laid v words o₀ r₀ m₀ o r m
+  pub counts : c ≡ laid (countsOf words) c₀
   pub sameOffsets : length o ≡ length o₀
   pub sameResults : length r ≡ length r₀
   pub sameMaps : length m ≡ length m₀
+  pub sameCounts : length c ≡ length c₀
 
-pub tabled-none : (v : List ℕ) (n : ℕ) (o r m : List ℕ) → 2 ≤ length v → Tabled v n 0 2 o r m o r m
-tabled-none v n o r m h = record {
+pub tabled-none : (v : List ℕ) (n : ℕ) (o r m c : List ℕ) → 2 ≤ length v → Tabled v n 0 2 o r m c o r m c
+tabled-none v n o r m c h = record {
   words = [];
   passed = omega arith;
   inside = h;
@@ -68,9 +70,11 @@ tabled-none v n o r m h = record {
   read = refl;
   entries = λ f b. absurd (omega arith);
   holds = record { offsets = refl; results = refl; maps = refl };
+  counts = refl;
   sameOffsets = refl;
   sameResults = refl;
   sameMaps = refl;
+  sameCounts = refl;
 }
 
 -- What loading the records answers.
@@ -90,30 +94,28 @@ module _ {v : List ℕ} {n : ℕ} {o₀ r₀ m₀ o r m : List ℕ} where
     holds = holds;
   }
 
--- A map has eight places at most.
-ones-most : (fs : List Bool) → ones fs ≤ length fs
-ones-most [] = omega arith
-ones-most (true ∷ fs) = omega (arith, ones-most fs)
-ones-most (false ∷ fs) = omega (arith, ones-most fs)
-
 -- The record at an offset, as an entry of the tables.
 module _ (v : List ℕ) (at p : ℕ) (fits : at + 2 + p ≤ length v) (sound : WordInOrder (byteAt v 0) (wordAt v at p)) where
   place-count : length (take p (drop (at + 2) v)) ≡ p
   place-count = length-take-le p (drop (at + 2) v) (rw length-drop (omega arith))
 
   pub places-few : p ≤ 8
-  places-few = omega (arith, place-count, sound .count, ones-most (flags (mapAt v (at + 1))), length-flagsIn 8 (mapAt v (at + 1)))
+  places-few = omega (arith, place-count, sound .count, ones-few (mapAt v (at + 1)))
+
+  -- The word has p places, as many as its map has ones.
+  places-ones : placeCount (wordAt v at p) ≡ p
+  places-ones = sym (sound .count) ∙ place-count
 
   pub places-there : placesOf v at ≡ p
   places-there =
       places-at v at (byteAt v (suc at)) (drop (suc (suc at)) v) (drop-cons v (suc at) 0 (omega arith))
       ∙ ap (λ (i : ℕ). ones (flags (byteAt v i))) (sym (add-one at))
-      ∙ ap (λ (m : ℕ). ones (flags m)) (map-at v (at + 1)) ∙ sym (sound .count) ∙ place-count
+      ∙ ap (λ (m : ℕ). ones (flags m)) (map-at v (at + 1)) ∙ places-ones
 
   entry-at : Entry v at (byteAt v at) (mapAt v (at + 1)) (wordAt v at p)
   entry-at = record { result = refl; placeMap = refl; inside = rw place-count fits; kinds = rw place-count; sound = sound }
 
-module _ (v : List ℕ) (n w at : ℕ) (o₀ r₀ m₀ o r m : List ℕ) (tabled : Tabled v n w at o₀ r₀ m₀ o r m) where
+module _ (v : List ℕ) (n w at : ℕ) (o₀ r₀ m₀ c₀ o r m c : List ℕ) (tabled : Tabled v n w at o₀ r₀ m₀ c₀ o r m c) where
   -- What is to hold of the words up to the first record that is not in order.
   up-to : UpTo (byteAt v 0) w (drop 2 v) (got (tabled .words) (drop at v))
   up-to = subst (UpTo (byteAt v 0) w (drop 2 v)) (tabled .read) (words-up-to (byteAt v 0) w (drop 2 v))
@@ -134,17 +136,28 @@ module _ (v : List ℕ) (n w at : ℕ) (o₀ r₀ m₀ o r m : List ℕ) (tabled
   laid-as : recordsIn v n ≡ tabled .words → Laid v (recordsIn v n) o₀ r₀ m₀ o r m
   laid-as e = rw e (tabled .holds)
 
+  -- What loading the records gives: answer and tables.
+  abbrev RecordsGive : VocabularyAnswer → Type 0
+  RecordsGive a = WordsLoaded v n o₀ r₀ m₀ o r m a × WordsCounted v n c₀ c
+
+  counts-as : recordsIn v n ≡ tabled .words → WordsCounted v n c₀ c
+  counts-as e = rw e (tabled .counts)
+
   ends-reply : (b : w < n) → RecordRead v at (byteAt v 0) Ends → vocabularyRefused (R.Ends (length v)) ≡ checksReply v n
   ends-reply b read = rw (stopped 3 [] b (read .reads)) (ap (refused 3 0) (omega arith))
 
-  pub tabled-ends : w < n → RecordRead v at (byteAt v 0) Ends → WordsLoaded v n o₀ r₀ m₀ o r m (Refused (R.Ends (length v)))
-  tabled-ends b read = loaded-refused (R.Ends (length v)) (ends-reply b read) (laid-as (stopped-words 3 [] b (read .reads)))
+  pub tabled-ends : w < n → RecordRead v at (byteAt v 0) Ends → RecordsGive (Refused (R.Ends (length v)))
+  tabled-ends b read =
+      let words = stopped-words 3 [] b (read .reads) in
+      (loaded-refused (R.Ends (length v)) (ends-reply b read) (laid-as words), counts-as words)
 
   unknown-reply : (q : ℕ) → w < n → RecordRead v at (byteAt v 0) (NoSuchKind q) → vocabularyRefused (R.NoSuchKind q) ≡ checksReply v n
   unknown-reply q b read = rw (stopped 4 (drop q v) b (read .reads)) (ap (refused 4 0) (omega (arith, read .inside, length-drop q v)))
 
-  pub tabled-unknown : (q : ℕ) → w < n → RecordRead v at (byteAt v 0) (NoSuchKind q) → WordsLoaded v n o₀ r₀ m₀ o r m (Refused (R.NoSuchKind q))
-  tabled-unknown q b read = loaded-refused (R.NoSuchKind q) (unknown-reply q b read) (laid-as (stopped-words 4 (drop q v) b (read .reads)))
+  pub tabled-unknown : (q : ℕ) → w < n → RecordRead v at (byteAt v 0) (NoSuchKind q) → RecordsGive (Refused (R.NoSuchKind q))
+  tabled-unknown q b read =
+      let words = stopped-words 4 (drop q v) b (read .reads) in
+      (loaded-refused (R.NoSuchKind q) (unknown-reply q b read) (laid-as words), counts-as words)
 
   module _ (h : n ≤ w) where
     done : w ≡ n
@@ -159,8 +172,8 @@ module _ (v : List ℕ) (n w at : ℕ) (o₀ r₀ m₀ o r m : List ℕ) (tabled
     continues-reply : at < length v → vocabularyRefused (R.Continues at) ≡ checksReply v n
     continues-reply b = rw (all, drop-cons v at 0 b) (ap (refused 5 0) (omega (arith, length-drop (suc at) v)))
 
-    pub tabled-continues : at < length v → WordsLoaded v n o₀ r₀ m₀ o r m (Refused (R.Continues at))
-    tabled-continues b = loaded-refused (R.Continues at) (continues-reply b) (laid-as all-words)
+    pub tabled-continues : at < length v → RecordsGive (Refused (R.Continues at))
+    tabled-continues b = (loaded-refused (R.Continues at) (continues-reply b) (laid-as all-words), counts-as all-words)
 
     filled : length v ≤ at → Filled v n o r m
     filled b = record {
@@ -169,19 +182,20 @@ module _ (v : List ℕ) (n w at : ℕ) (o₀ r₀ m₀ o r m : List ℕ) (tabled
       entries = λ f c. rw all-words (tabled .entries f (omega arith));
     }
 
-    pub tabled-filled : length v ≤ at → WordsLoaded v n o₀ r₀ m₀ o r m Accepted
-    tabled-filled b = loaded-filled (filled b) (laid-as all-words)
+    pub tabled-filled : length v ≤ at → RecordsGive Accepted
+    tabled-filled b = (loaded-filled (filled b) (laid-as all-words), counts-as all-words)
 
   -- The tables have an entry for the next record.
-  pub tabled-room : n ≤ 96 → Sized o₀ r₀ m₀ → w < n → (w < length o) × (w < length r) × (w < length m)
+  pub tabled-room : n ≤ 96 → Sized o₀ r₀ m₀ c₀ → w < n → (w < length o) × (w < length r) × (w < length m) × (w < length c)
   tabled-room few sized b = (
     omega (arith, sized .offsets, tabled .sameOffsets),
     omega (arith, sized .results, tabled .sameResults),
     omega (arith, sized .maps, tabled .sameMaps),
+    omega (arith, sized .counts, tabled .sameCounts),
   )
 
   -- One record more.
-  module _ (few : n ≤ 96) (sized : Sized o₀ r₀ m₀) (b : w < n) (p : ℕ) (read : RecordRead v at (byteAt v 0) (Whole p)) where
+  module _ (few : n ≤ 96) (sized : Sized o₀ r₀ m₀ c₀) (b : w < n) (p : ℕ) (read : RecordRead v at (byteAt v 0) (Whole p)) where
     room : w < 96
     room = omega arith
 
@@ -215,6 +229,11 @@ module _ (v : List ℕ) (n w at : ℕ) (o₀ r₀ m₀ o r m : List ℕ) (tabled
               (omega (arith, room, sized .maps)) (next-column (λ x. x .placeMap));
         }
 
+    next-counts : set c w p ≡ laid (countsOf (tabled .words ++ (wordAt v at p ∷ []))) c₀
+    next-counts =
+        laid-more c₀ c (countsOf (tabled .words)) _ w p (tabled .counts) (column-count placeCount) (omega (arith, room, sized .counts))
+        (ap (λ (k : ℕ). countsOf (tabled .words) ++ (k ∷ [])) (sym (places-ones v at p (read .inside .0) (read .inside .1))) ∙ next-column placeCount)
+
     next-entries : (f : ℕ) → f < w + 1 →
         Entry v (getD (set o w at) f 0) (getD (set r w (byteAt v at)) f 0) (getD (set m w (mapAt v (at + 1))) f 0)
         (getD (tabled .words ++ (wordAt v at p ∷ [])) f noWord)
@@ -244,7 +263,7 @@ module _ (v : List ℕ) (n w at : ℕ) (o₀ r₀ m₀ o r m : List ℕ) (tabled
             )
             (tabled .entries f old)
 
-    tabled-more : Tabled v n (w + 1) (at + 2 + p) o₀ r₀ m₀ (set o w at) (set r w (byteAt v at)) (set m w (mapAt v (at + 1)))
+    tabled-more : Tabled v n (w + 1) (at + 2 + p) o₀ r₀ m₀ c₀ (set o w at) (set r w (byteAt v at)) (set m w (mapAt v (at + 1))) (set c w p)
     tabled-more = record {
       words = tabled .words ++ (wordAt v at p ∷ []);
       passed = omega arith;
@@ -259,11 +278,14 @@ module _ (v : List ℕ) (n w at : ℕ) (o₀ r₀ m₀ o r m : List ℕ) (tabled
           (wordAt v at p) (drop (at + 2 + p) v) (sym (read .reads));
       entries = next-entries;
       holds = next-laid;
+      counts = next-counts;
       sameOffsets = length-set o w at ∙ tabled .sameOffsets;
       sameResults = length-set r w (byteAt v at) ∙ tabled .sameResults;
       sameMaps = length-set m w (mapAt v (at + 1)) ∙ tabled .sameMaps;
+      sameCounts = length-set c w p ∙ tabled .sameCounts;
     }
 
     -- The map as it is read.
-    pub tabled-next : (map : ℕ) → map ≡ mapAt v (at + 1) → Tabled v n (w + 1) (at + 2 + p) o₀ r₀ m₀ (set o w at) (set r w (byteAt v at)) (set m w map)
+    pub tabled-next : (map : ℕ) → map ≡ mapAt v (at + 1) →
+        Tabled v n (w + 1) (at + 2 + p) o₀ r₀ m₀ c₀ (set o w at) (set r w (byteAt v at)) (set m w map) (set c w p)
     tabled-next map e = rw e tabled-more

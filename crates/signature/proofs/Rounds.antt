@@ -10,7 +10,6 @@ use mathlib.Core.Option.{none}
 use Prim.Native.Nat.{ℕ, zero, suc, _+_, _-_, _<_, _≤_}
 use native.Mathlib.Numerals.{add-one}
 use native.Mathlib.Omega.{arith}
-use lib.Count
 use lib.ListN.{length, getD, take, drop, set, replicate, length-map, List·getD-map}
 use lib.Seq.{take-suc, take-all, getD-take, getD-drop}
 use borrow.Author.Tests.{not-false}
@@ -23,35 +22,31 @@ use Rattle.terms.proofs.Inhabited.{reached-mono}
 use Rattle.terms.proofs.Occurs.{missing}
 use Rattle.wire.specs.Vocabulary.{Word, noWord, symbolOf, signature}
 use Rattle.wire.specs.VocabularyLines.{byteAt}
-use Rattle.wire.proofs.Map.{ones-count}
 use Rattle.signature.specs.declared.Missing.{Missing}
 use Rattle.signature.specs.declared.Missing.the-variants.{Kind, Nothing}
-use Rattle.signature.specs.Loading.{recordsIn, vocabularyOf, Entry, Filled, Marks, Markable, PlacesInside, PlacesCovered, symbolsIn, Grows, FirstMissing, signatureIn, Searched}
+use Rattle.signature.specs.Loading.{recordsIn, vocabularyOf, Entry, Filled, Marks, Markable, FilledCounted, PlacesInside, PlacesCovered, symbolsIn, Grows, FirstMissing, signatureIn, Searched}
 use Rattle.signature.specs.Settled.{foundKind}
 use Rattle.signature.proofs.Marking.{marks-none, marks-joined, marks-stay, marks-had}
 
 -- An entry of the tables, as the marking reads it.
-module _ (v : List ℕ) (o r m : ℕ) (w : Word) (entry : Entry v o r m w) where
-  places-counted : Count.ones m ≡ length (w .kinds)
-  places-counted = rw (entry .placeMap) (ones-count (w .placeMap) (entry .sound .placeMap) ∙ sym (entry .sound .count))
-
-  places-inside : o + 2 + Count.ones m ≤ length v
-  places-inside = omega (arith, places-counted, entry .inside)
+module _ (v : List ℕ) (o r m k : ℕ) (w : Word) (entry : Entry v o r m w) (counted : k ≡ length (w .kinds)) where
+  places-inside : o + 2 + k ≤ length v
+  places-inside = omega (arith, counted, entry .inside)
 
   kind-at : (j : ℕ) → j < length (w .kinds) → getD (w .kinds) j 0 ≡ byteAt v (o + 2 + j)
   kind-at j h =
       ap (λ l. getD l j 0) (sym (entry .kinds)) ∙ getD-take (length (w .kinds)) (drop (o + 2) v) j 0 h ∙ getD-drop (o + 2) v j 0
 
-  places-markable : byteAt v 0 ≤ 16 → Markable v (o + 2) (Count.ones m)
+  places-markable : byteAt v 0 ≤ 16 → Markable v (o + 2) k
   places-markable few j h =
-      let b : j < length (w .kinds) = omega (arith, places-counted) in
+      let b : j < length (w .kinds) = omega (arith, counted) in
       omega (arith, kind-at j b, all-at _ 0 (w .kinds) (entry .sound .kinds) j b)
 
   result-markable : byteAt v 0 ≤ 16 → r < 16
   result-markable few = omega (arith, entry .result, entry .sound .result)
 
-  pub entry-covers : (marked l : List ℕ) (t : Bool) → PlacesCovered v o m marked t → Marks marked l → t ≡ covered (w .kinds) l
-  entry-covers marked l t h marks = h l marks ∙ rw (places-counted, entry .kinds)
+  pub entry-covers : (marked l : List ℕ) (t : Bool) → PlacesCovered v o k marked t → Marks marked l → t ≡ covered (w .kinds) l
+  entry-covers marked l t h marks = h l marks ∙ rw (counted, entry .kinds)
 
 grow-append : (ks ls : List Symbol) (l : List ℕ) → grow (ks ++ ls) l ≡ grow ls (grow ks l)
 grow-append [] ls l = refl
@@ -67,7 +62,14 @@ pub record Marked (v : List ℕ) (n w : ℕ) (before after : List ℕ) : Type 0 
 pub marked-none : (v : List ℕ) (n : ℕ) (marked : List ℕ) → Marked v n 0 marked marked
 marked-none v n marked = record { passed = omega arith; marks = λ l h. h }
 
-module _ (v : List ℕ) (n : ℕ) (o r m : List ℕ) (filled : Filled v n o r m) where
+module _ (v : List ℕ) (n : ℕ) (o r c : List ℕ) (reach : FilledCounted v n o r c) where
+  abbrev filled : Filled v n o r (reach .maps)
+  filled = reach .filled
+
+  -- "A word has as many places as its map has ones."
+  pub places-are : (w : ℕ) → w < n → getD c w 0 ≡ length (getD (recordsIn v n) w noWord .kinds)
+  places-are w b = reach .counted .count w b ∙ sym (filled .entries w b .sound .count)
+
   symbol-count : length (symbolsIn v n) ≡ n
   symbol-count = length-map (recordsIn v n) symbolOf ∙ filled .count
 
@@ -80,14 +82,14 @@ module _ (v : List ℕ) (n : ℕ) (o r m : List ℕ) (filled : Filled v n o r m)
 
   -- What the record of the word w asks of the marking.
   module _ (w : ℕ) (b : w < n) where
-    pub turn-inside : byteAt v 0 ≤ 16 → PlacesInside v (getD o w 0) (getD m w 0)
+    pub turn-inside : byteAt v 0 ≤ 16 → PlacesInside v (getD o w 0) (getD c w 0)
     turn-inside few = record {
-      inside = places-inside v _ _ _ _ (filled .entries w b);
-      markable = places-markable v _ _ _ _ (filled .entries w b) few;
+      inside = places-inside v _ _ _ _ _ (filled .entries w b) (places-are w b);
+      markable = places-markable v _ _ _ _ _ (filled .entries w b) (places-are w b) few;
     }
 
     pub turn-result : byteAt v 0 ≤ 16 → getD r w 0 < 16
-    turn-result = result-markable v _ _ _ _ (filled .entries w b)
+    turn-result = result-markable v _ _ _ _ _ (filled .entries w b) (places-are w b)
 
   module _ (w : ℕ) (b : w < n) (before after : List ℕ) (marked : Marked v n w before after) where
     here : Symbol
@@ -108,11 +110,11 @@ module _ (v : List ℕ) (n : ℕ) (o r m : List ℕ) (filled : Filled v n o r m)
               (marks-had after (grow (take w (symbolsIn v n)) l) here (omega (arith, turn-result w b few)) (rw e at had) (marked .marks l h));
         }
 
-    module _ (t : Bool) (covers : PlacesCovered v (getD o w 0) (getD m w 0) after t) where
+    module _ (t : Bool) (covers : PlacesCovered v (getD o w 0) (getD c w 0) after t) where
       is-covered : (l : List ℕ) → Marks before l → t ≡ covered (here .arguments) (grow (take w (symbolsIn v n)) l)
       unfolding here
       is-covered l h =
-          entry-covers v (getD o w 0) (getD r w 0) (getD m w 0) (getD (recordsIn v n) w noWord) (filled .entries w b)
+          entry-covers v (getD o w 0) (getD r w 0) _ (getD c w 0) (getD (recordsIn v n) w noWord) (filled .entries w b) (places-are w b)
           after (grow (take w (symbolsIn v n)) l) t covers (marked .marks l h)
 
       pub marked-joined : t ≡ true → (k : ℕ) → k ≡ getD r w 0 → (next : List ℕ) → next ≡ set after k 1 → Marked v n (w + 1) before next

@@ -2,10 +2,11 @@
 --
 --   tables-filled      the tables of an accepted vocabulary are filled with its records
 --   tables-vocabulary  .. which make it up
+--   tables-counted     .. beside the numbers of their places
 --   tables-limits      .. within its limits
 --   settles-same       no kind is without complete situations: the table is that of the result kinds
 --   settles-moved      a kind is: every word that no complete situation has is moved to it
---   tables-as          tables for a number of words are those for an equal one
+--   tables-as, counted-as    tables for a number of words are those for an equal one
 --   refused-settled, loaded-settled    what loading a vocabulary for a listing gives, by what loading it gives
 --
 use mathlib.Core.Path.{_≡_, refl, sym, _∙_, ap, subst}
@@ -27,14 +28,14 @@ use Rattle.wire.proofs.VocabulariesInverse.{vocabularies-inverse}
 use Rattle.wire.proofs.Settling.{settled-word, settled-same, settled-count}
 use Rattle.wire.specs.CheckComputed.{vocabularyReply}
 use Rattle.signature.specs.Answers.{vocabularyRefused, vocabularyNumbers}
-use Rattle.signature.specs.Tables.{vocabularyIn, Tabled, Tables, LoadedFrom}
+use Rattle.signature.specs.Tables.{vocabularyIn, Tabled, Tables, PlacesCounted, LoadedFrom}
 use Rattle.signature.specs.Settled.{foundKind, Settles, SettledFrom}
 use Rattle.signature.specs.declared.VocabularyRefusal.{VocabularyRefusal}
 use Rattle.signature.specs.declared.VocabularyAnswer.{VocabularyAnswer}
 use Rattle.signature.specs.declared.VocabularyAnswer.the-variants.{Accepted}
 use Rattle.signature.specs.declared.SettledAnswer.{SettledAnswer}
 use Rattle.signature.specs.declared.SettledAnswer.the-variants.{Loaded, Refused}
-use Rattle.signature.specs.Loading.{recordsIn, vocabularyOf, Filled, Marks, Searched, MovesWords}
+use Rattle.signature.specs.Loading.{recordsIn, vocabularyOf, Filled, FilledCounted, Marks, Searched, MovesWords}
 use Rattle.signature.specs.declared.Missing.{Missing}
 use Rattle.signature.specs.declared.Missing.the-variants.{Kind, Nothing}
 use Rattle.signature.proofs.WordsUpTo.{UpTo, words-up-to}
@@ -73,6 +74,9 @@ module _ (v : List ℕ) (bytes : IsBytes v) (n : ℕ) (o r m : List ℕ) (tables
 
   pub tables-vocabulary : vocabularyOf v n ≡ W
   tables-vocabulary = λ i. record { kinds = kinds i; words = records i }
+
+  pub tables-counted : (c : List ℕ) → PlacesCounted W n c → FilledCounted v n o r c
+  tables-counted c counted = record { maps = m; filled = tables-filled; counted = subst (λ U. PlacesCounted U n c) (sym tables-vocabulary) counted }
 
   pub tables-limits : (2 ≤ length v) × (byteAt v 0 ≤ 16) × (n ≤ 96)
   tables-limits = (
@@ -117,6 +121,9 @@ module _ (v : List ℕ) (bytes : IsBytes v) (n : ℕ) (o r m : List ℕ) (tables
 
 pub tables-as : {v o r m : List ℕ} {n n′ : ℕ} → n ≡ n′ → Tables v n′ o r m → Tables v n o r m
 tables-as {v} {o} {r} {m} e tables = subst (λ n. Tables v n o r m) (sym e) tables
+
+pub counted-as : {W : Vocabulary} {c : List ℕ} {n n′ : ℕ} → n ≡ n′ → PlacesCounted W n′ c → PlacesCounted W n c
+counted-as {W} {c} e counted = subst (λ n. PlacesCounted W n c) (sym e) counted
 
 module _ {v o r m s o′ r′ m′ : List ℕ} where
   pub refused-settled : {a : VocabularyAnswer} {why : VocabularyRefusal} → LoadedFrom v o r m o′ r′ m′ a → vocabularyRefused why ≡ vocabularyReply v →

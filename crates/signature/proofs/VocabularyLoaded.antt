@@ -11,12 +11,13 @@ use Rattle.wire.specs.Parser.{accept, refuse, line5, readVocabulary}
 use Rattle.wire.specs.CheckComputed.{replyOf}
 use Rattle.wire.specs.VocabularyLines.{byteAt}
 use Rattle.signature.specs.Answers.{vocabularyRefused}
-use Rattle.signature.specs.Tables.{wordsBefore, Laid, LoadedFrom}
+use Rattle.signature.specs.Tables.{wordsBefore, placeCount, LoadedFrom, CountedFrom}
 use Rattle.signature.specs.declared.VocabularyRefusal.{VocabularyRefusal}
 use Rattle.signature.specs.declared.VocabularyRefusal.the-variants.{Head, WordCount}
 use Rattle.signature.specs.declared.VocabularyAnswer.{VocabularyAnswer}
 use Rattle.signature.specs.declared.VocabularyAnswer.the-variants.{Accepted, Refused}
-use Rattle.signature.specs.Loading.{recordsIn, vocabularyOf, checksIn, WordsLoaded}
+use Rattle.signature.specs.Loading.{recordsIn, vocabularyOf, checksIn, WordsLoaded, WordsCounted}
+use Rattle.signature.proofs.Laid.{laid-at}
 
 -- Lines 1 and 2.
 
@@ -54,23 +55,30 @@ head-rest [] h e d = absurd (omega arith)
 head-rest (k ∷ []) h e d = absurd (omega arith)
 head-rest (k ∷ n ∷ l) h e d = (rw (e, d), rw (e, d))
 
-module _ (v o r m : List ℕ) where
-  refused-head : (n q : ℕ) (why : VocabularyRefusal) → HeadRefused v n q → vocabularyRefused why ≡ refused n 0 q → LoadedFrom v o r m o r m (Refused why)
-  refused-head n q why e h = record {
-    answer = rw (e .0) h;
-    holds = rw (e .1) (record { offsets = refl; results = refl; maps = refl });
-    tables = λ d. absurd (let z : _≡_ {A = ℕ} 0 1 = cc in omega arith);
-  }
+-- What loading v gives: answer and tables.
+abbrev Gives : (v o r m c o′ r′ m′ c′ : List ℕ) → VocabularyAnswer → Type 0
+Gives v o r m c o′ r′ m′ c′ a = LoadedFrom v o r m o′ r′ m′ a × CountedFrom v c c′ a
 
-  pub refused-short : length v < 2 → LoadedFrom v o r m o r m (Refused Head)
+module _ (v o r m c : List ℕ) where
+  refused-head : (n q : ℕ) (why : VocabularyRefusal) → HeadRefused v n q → vocabularyRefused why ≡ refused n 0 q → Gives v o r m c o r m c (Refused why)
+  refused-head n q why e h = (
+    record {
+      answer = rw (e .0) h;
+      holds = rw (e .1) (record { offsets = refl; results = refl; maps = refl });
+      tables = λ d. absurd (let z : _≡_ {A = ℕ} 0 1 = cc in omega arith);
+    },
+    record { holds = rw (e .1) refl; counted = λ d. absurd (let z : _≡_ {A = ℕ} 0 1 = cc in omega arith) },
+  )
+
+  pub refused-short : length v < 2 → Gives v o r m c o r m c (Refused Head)
   refused-short h = refused-head 1 0 Head (head-short v h) refl
 
   module _ (long : 2 ≤ length v) where
-    pub refused-kinds : outside 1 16 (byteAt v 0) ≡ true → LoadedFrom v o r m o r m (Refused Head)
+    pub refused-kinds : outside 1 16 (byteAt v 0) ≡ true → Gives v o r m c o r m c (Refused Head)
     refused-kinds h = refused-head 1 0 Head (head-kinds v long h) refl
 
     module _ (some : 1 ≤ byteAt v 0) (few : byteAt v 0 ≤ 16) (n : ℕ) (number : n ≡ byteAt v 1) where
-      pub refused-words : outside 1 96 n ≡ true → LoadedFrom v o r m o r m (Refused WordCount)
+      pub refused-words : outside 1 96 n ≡ true → Gives v o r m c o r m c (Refused WordCount)
       refused-words h = refused-head 2 1 WordCount (head-words v long (in-range 1 16 (byteAt v 0) some few) (rw number at h)) refl
 
       -- What is left to lines 3 to 5.
@@ -80,27 +88,34 @@ module _ (v o r m : List ℕ) where
             rw number
             (head-rest v long (in-range 1 16 (byteAt v 0) some few) (in-range 1 96 (byteAt v 1) (omega arith) (omega arith)))
 
-        pub loaded-rest : (o′ r′ m′ : List ℕ) (a : VocabularyAnswer) → WordsLoaded v n o r m o′ r′ m′ a → LoadedFrom v o r m o′ r′ m′ a
-        loaded-rest o′ r′ m′ (Refused why) loaded = record {
-          answer = rw (left .0) (loaded .refused why refl);
-          holds = rw (left .1) (loaded .holds);
-          tables = λ d. absurd (let z : _≡_ {A = ℕ} 0 1 = cc in omega arith);
-        }
-        loaded-rest o′ r′ m′ Accepted loaded =
+        pub loaded-rest : (o′ r′ m′ c′ : List ℕ) (a : VocabularyAnswer) → WordsLoaded v n o r m o′ r′ m′ a → WordsCounted v n c c′ →
+            Gives v o r m c o′ r′ m′ c′ a
+        loaded-rest o′ r′ m′ c′ (Refused why) loaded counts = (
+          record {
+            answer = rw (left .0) (loaded .refused why refl);
+            holds = rw (left .1) (loaded .holds);
+            tables = λ d. absurd (let z : _≡_ {A = ℕ} 0 1 = cc in omega arith);
+          },
+          record { holds = rw (left .1) counts; counted = λ d. absurd (let z : _≡_ {A = ℕ} 0 1 = cc in omega arith) },
+        )
+        loaded-rest o′ r′ m′ c′ Accepted loaded counts =
             let filled = loaded .filled refl in
             let whole : readVocabulary v ≡ accept (vocabularyOf v n) = left .0 ∙ ap (line5 v (byteAt v 0)) (filled .read) in
-            record {
-              answer = sym (ap (replyOf 0 (λ W. [])) whole);
-              holds = rw (left .1) (loaded .holds);
-              tables = λ d.
-                  record {
-                    accepted = rw whole;
-                    tabled = record {
-                      words = rw whole (sym number ∙ sym (filled .count));
-                      result = λ f b. rw whole (filled .entries f (omega arith) .result);
+            let number-of : byteAt v 1 ≡ length (recordsIn v n) = sym number ∙ sym (filled .count) in (
+              record {
+                answer = sym (ap (replyOf 0 (λ W. [])) whole);
+                holds = rw (left .1) (loaded .holds);
+                tables = λ d.
+                    record {
+                      accepted = rw whole;
+                      tabled = record { words = rw whole number-of; result = λ f b. rw whole (filled .entries f (omega arith) .result) };
+                      placeMap = λ f b. rw whole (filled .entries f (omega arith) .placeMap);
+                      inside = λ f b. rw whole (filled .entries f (omega arith) .inside);
+                      kinds = λ f b. rw whole (filled .entries f (omega arith) .kinds);
                     };
-                    placeMap = λ f b. rw whole (filled .entries f (omega arith) .placeMap);
-                    inside = λ f b. rw whole (filled .entries f (omega arith) .inside);
-                    kinds = λ f b. rw whole (filled .entries f (omega arith) .kinds);
-                  };
-            }
+              },
+              record {
+                holds = rw (left .1) counts;
+                counted = λ d. record { words = rw whole number-of; count = λ f b. rw whole (laid-at placeCount refl (recordsIn v n) c c′ counts f (omega (arith, number-of))) };
+              },
+            )

@@ -13,13 +13,16 @@
 --   checksReply v n        the reply of these lines
 --   Entry v o r m w        the word w stands in v at the offset o, with result kind r and place map m
 --   Filled v n o r m       the n records of v are in order, end v and stand in the tables o, r and m
---   Sized o r m            the tables o, r and m have 96 entries each
+--   Sized o r m c          the tables o, r, m and c have 96 entries each
 --   WordsLoaded v n        what read_words does: it answers the reply of lines 3 to 5, or fills the tables; they hold the
 --                          words up to the first record that is not in order
+--   WordsCounted v n c c′  read_words leaves the numbers of these words' places in c′
 --   Marks m l              the kinds that are marked in m are those of l
 --   Markable v at n        the n kind bytes from an offset on have a mark
 --   Covers                 what covered answers, for any such l
---   PlacesInside v o m     the places of the record at an offset, whose map is m, lie within v and have a mark
+--   FilledCounted v n o r c    the n records of v stand in the tables o and r, with some table of maps, and c has the numbers of
+--                          their places
+--   PlacesInside v o k     the k places of the record at an offset lie within v and have a mark
 --   PlacesCovered          what places_covered answers of them
 --   symbolsIn v n          the symbols of the first n records
 --   Grows, Round           what mark_round does, for any such l, and what it answers
@@ -27,12 +30,13 @@
 --   signatureIn v n        the signature that v writes
 --   Searched               what empty_kind answers, and where it finds a kind it marks those that are reached
 --   MovesWords             what move_words does
+--   Prepared v n o r c     v is accepted, its records stand in the tables o and r, with some table of maps, and c has the numbers
+--                          of their places
 --
 use mathlib.Core.Path.{_≡_}
 use mathlib.Core.Bool.{Bool, false, not, cond}
 use mathlib.Core.List.{List, [], map}
 use Prim.Native.Nat.{ℕ, _+_, _<_, _≤_}
-use lib.Count
 use lib.Dec.{eqb}
 use lib.ListN.{length, getD, take, drop}
 use Rattle.terms.specs.Lists.{occurs, range, keep}
@@ -46,7 +50,7 @@ use Rattle.wire.specs.Vocabulary.{Word, Vocabulary, signature, noWord, symbolOf
 use Rattle.wire.specs.VocabularyLines.{byteAt}
 use Rattle.maps.specs.Reading.{mapAt}
 use Rattle.signature.specs.Answers.{vocabularyRefused}
-use Rattle.signature.specs.Tables.{wordsUpTo, Laid}
+use Rattle.signature.specs.Tables.{vocabularyIn, wordsUpTo, countsOf, laid, Laid, Tables, PlacesCounted}
 use Rattle.signature.specs.Settled.{foundKind}
 use Rattle.signature.specs.declared.VocabularyRefusal.{VocabularyRefusal}
 use Rattle.signature.specs.declared.VocabularyAnswer.{VocabularyAnswer}
@@ -119,16 +123,21 @@ pub record Filled (v : List ℕ) (n : ℕ) (o r m : List ℕ) : Type 0 where
   pub count : length (recordsIn v n) ≡ n
   pub entries : (f : ℕ) → f < n → Entry v (getD o f 0) (getD r f 0) (getD m f 0) (getD (recordsIn v n) f noWord)
 
-pub record Sized (o r m : List ℕ) : Type 0 where
+pub record Sized (o r m c : List ℕ) : Type 0 where
   pub offsets : length o ≡ mostWords
   pub results : length r ≡ mostWords
   pub maps : length m ≡ mostWords
+  pub counts : length c ≡ mostWords
 
 -- The tables before and after.
 pub record WordsLoaded (v : List ℕ) (n : ℕ) (o r m o′ r′ m′ : List ℕ) (a : VocabularyAnswer) : Type 0 where
   pub refused : (why : VocabularyRefusal) → a ≡ Refused why → vocabularyRefused why ≡ checksReply v n
   pub filled : a ≡ Accepted → Filled v n o′ r′ m′
   pub holds : Laid v (recordsIn v n) o r m o′ r′ m′
+
+-- The table before and after.
+abbrev pub WordsCounted : List ℕ → ℕ → List ℕ → List ℕ → Type 0
+WordsCounted v n c c′ = c′ ≡ laid (countsOf (recordsIn v n)) c
 
 -- covered, places_covered, mark_round, first_missing
 
@@ -143,13 +152,18 @@ Markable v at n = (j : ℕ) → j < n → byteAt v (at + j) < 16
 abbrev pub Covers : List ℕ → ℕ → ℕ → List ℕ → Bool → Type 0
 Covers v at n marked r = (l : List ℕ) → Marks marked l → r ≡ covered (take n (drop at v)) l
 
+pub record FilledCounted (v : List ℕ) (n : ℕ) (o r c : List ℕ) : Type 0 where
+  pub maps : List ℕ
+  pub filled : Filled v n o r maps
+  pub counted : PlacesCounted (vocabularyOf v n) n c
+
 -- A record is its result kind, its map and its places' kinds.
-pub record PlacesInside (v : List ℕ) (o m : ℕ) : Type 0 where
-  pub inside : o + (1 + mapBytes) + Count.ones m ≤ length v
-  pub markable : Markable v (o + (1 + mapBytes)) (Count.ones m)
+pub record PlacesInside (v : List ℕ) (o k : ℕ) : Type 0 where
+  pub inside : o + (1 + mapBytes) + k ≤ length v
+  pub markable : Markable v (o + (1 + mapBytes)) k
 
 abbrev pub PlacesCovered : List ℕ → ℕ → ℕ → List ℕ → Bool → Type 0
-PlacesCovered v o m marked r = Covers v (o + (1 + mapBytes)) (Count.ones m) marked r
+PlacesCovered v o k marked r = Covers v (o + (1 + mapBytes)) k marked r
 
 abbrev pub symbolsIn : List ℕ → ℕ → List Symbol
 symbolsIn v n = map symbolOf (recordsIn v n)
@@ -181,3 +195,10 @@ MovesWords v n e marked before after =
     ((f : ℕ) → n ≤ f → getD after f 0 ≡ getD before f 0) ×
     ((l : List ℕ) → Marks marked l → (f : ℕ) → f < n →
     getD after f 0 ≡ cond (covered (getD (recordsIn v n) f noWord .kinds) l) (getD before f 0) e)
+
+-- settle
+
+pub record Prepared (v : List ℕ) (n : ℕ) (o r c : List ℕ) : Type 0 where
+  pub maps : List ℕ
+  pub tables : Tables v n o r maps
+  pub counted : PlacesCounted (vocabularyIn v) n c

@@ -1,4 +1,4 @@
--- Tables: what loading a vocabulary gives; the contract of `load` cites it.
+-- Tables: what loading a vocabulary gives; the contracts of `load` and `load_counted` cite it.
 --
 --   acceptedIn r        the vocabulary of a reading; one without words where it refuses
 --   vocabularyIn v      the vocabulary that the bytes v write; one without words where they are refused
@@ -9,14 +9,18 @@
 --   offsetsOf v n       the offsets of the first n records of v, in order
 --   resultsOf ws        the words' result kinds, in order
 --   mapsOf ws           the words' place maps, in order
+--   placeCount w        the number of a word's places
+--   countsOf ws         the numbers of the words' places, in order
 --   laid l table        the table with l in front; behind l it is as before
 --   Laid v ws           the tables hold the offsets, result kinds and place maps of v's first words ws in front, and
 --                       are as before behind them
 --   Tabled W n r        W has n words, and the first n entries of the table r are their result kinds
 --   Tables v n o r m    v is accepted, and the first n entries of the tables o, r and m are the records'
 --                       offsets, result kinds and place maps
+--   PlacesCounted W n c    W has n words, and the first n entries of the table c are the numbers of their places
 --   LoadedFrom v        what loading v gives: answer and tables, each for every v; where v is accepted the tables
 --                       serve to read its records
+--   CountedFrom v       what loading v leaves in a table of counts, for every v; where v is accepted these are its words'
 --
 use mathlib.Core.Path.{_≡_}
 use mathlib.Core.Bool.{cond}
@@ -24,7 +28,7 @@ use mathlib.Core.List.{List, [], _∷_, _++_, map}
 use Prim.Native.Nat.{ℕ, zero, suc, _+_, _<_, _≤_}
 use lib.ListN.{length, getD, take, drop}
 use Rattle.terms.specs.Lists.{range}
-use Rattle.wire.specs.Map.{mapBytes}
+use Rattle.wire.specs.Map.{mapBytes, flags, ones}
 use Rattle.wire.specs.Parser.{Reading, accept, refuse, Got, got, stop, readWord, readVocabulary}
 use Rattle.wire.specs.Reply.{outside}
 use Rattle.wire.specs.Vocabulary.{Word, Vocabulary, word, mostKinds, mostWords}
@@ -66,6 +70,14 @@ resultsOf ws = map (λ (w : Word). w .result) ws
 abbrev pub mapsOf : List Word → List ℕ
 mapsOf ws = map (λ (w : Word). w .placeMap) ws
 
+-- Document 01: "A word has as many places as its map has ones." For words in order this is the number of their kinds
+-- (`WordInOrder`, field `count`).
+abbrev pub placeCount : Word → ℕ
+placeCount w = ones (flags (w .placeMap))
+
+abbrev pub countsOf : List Word → List ℕ
+countsOf ws = map placeCount ws
+
 abbrev pub laid : List ℕ → List ℕ → List ℕ
 laid l table = l ++ drop (length l) table
 
@@ -87,7 +99,17 @@ pub record Tables (v : List ℕ) (n : ℕ) (offsets results maps : List ℕ) : T
   pub kinds : (f : ℕ) → f < n →
       take (length (word (vocabularyIn v) f .kinds)) (drop (getD offsets f 0 + (1 + mapBytes)) v) ≡ word (vocabularyIn v) f .kinds
 
+-- Document 02 (v): "a table proved to hold for every word the number of ones in its place map".
+pub record PlacesCounted (W : Vocabulary) (n : ℕ) (counts : List ℕ) : Type 0 where
+  pub words : n ≡ length (W .words)
+  pub count : (f : ℕ) → f < n → getD counts f 0 ≡ placeCount (word W f)
+
 pub record LoadedFrom (v o r m o′ r′ m′ : List ℕ) (a : VocabularyAnswer) : Type 0 where
   pub answer : vocabularyNumbers a ≡ vocabularyReply v
   pub holds : Laid v (wordsBefore v) o r m o′ r′ m′
   pub tables : a ≡ Accepted → Tables v (byteAt v 1) o′ r′ m′
+
+-- The table before and after.
+pub record CountedFrom (v c c′ : List ℕ) (a : VocabularyAnswer) : Type 0 where
+  pub holds : c′ ≡ laid (countsOf (wordsBefore v)) c
+  pub counted : a ≡ Accepted → PlacesCounted (vocabularyIn v) (byteAt v 1) c′

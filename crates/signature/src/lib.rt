@@ -1,15 +1,16 @@
-// Document 01's check of a vocabulary, its records in tables: offsets, result kinds and place maps, and which kinds have complete
-// situations.
+// Document 01's check of a vocabulary, its records in tables: offsets, result kinds, place maps and numbers of places, and which
+// kinds have complete situations.
 ghost use mathlib.Core.Path.{_≡_};
 ghost use Prim.Native.Nat.{_+_, _<_, _≤_};
 ghost use lib.ListN.{length, getD};
+ghost use Rattle.wire.specs.Map.{flags, ones};
 ghost use Rattle.wire.specs.Checking.{VocabularyPromise};
 ghost use Rattle.wire.specs.CheckComputed.{vocabularyReply};
 ghost use Rattle.wire.specs.VocabularyLines.{byteAt};
 ghost use Rattle.signature.specs.Answers.{vocabularyNumbers};
-ghost use Rattle.signature.specs.Tables.{Tables, LoadedFrom};
+ghost use Rattle.signature.specs.Tables.{LoadedFrom, CountedFrom};
 ghost use Rattle.signature.specs.Settled.{Settles, SettledFrom};
-ghost use Rattle.signature.specs.Loading.{KindsRead, RecordRead, Sized, Filled, WordsLoaded, Markable, Covers, PlacesInside, PlacesCovered, Round, FirstMissing, Searched, MovesWords};
+ghost use Rattle.signature.specs.Loading.{KindsRead, RecordRead, Sized, WordsLoaded, WordsCounted, Markable, Covers, FilledCounted, PlacesInside, PlacesCovered, Round, FirstMissing, Searched, MovesWords, Prepared};
 
 // Why a vocabulary is refused, with the place where it is not fixed: document 01, lines 1 to 5.
 pub enum VocabularyRefusal {
@@ -50,6 +51,13 @@ fn wide(b: u8) -> usize
     b as usize
 }
 
+// How many places the word with a place map has.
+fn place_count(map: u8) -> u32
+    ensures { λ r. ⌜ r ≡ ones (flags map) ⌝ }
+{
+    u8::count_ones(map)
+}
+
 // Reads n kind bytes from an offset on.
 fn read_kinds(v: &[u8], at: usize, n: usize, kinds: u8) -> WordRead
     requires { ⌜ at ≤ length (now v) ⌝ }
@@ -68,7 +76,7 @@ fn read_kinds(v: &[u8], at: usize, n: usize, kinds: u8) -> WordRead
     WordRead::Whole(n)
 }
 
-// Reads the record at an offset. A word has as many places as its map has ones.
+// Reads the record at an offset.
 fn read_word(v: &[u8], at: usize, kinds: u8) -> WordRead
     requires { ⌜ at ≤ length (now v) ⌝ }
     ensures { λ r. ⌜ RecordRead (now (v .entry)) at kinds r ⌝ }
@@ -86,12 +94,12 @@ fn read_word(v: &[u8], at: usize, kinds: u8) -> WordRead
     if map == 0 {
         return WordRead::Whole(0);
     }
-    let places = u8::count_ones(map);
+    let places = place_count(map);
     read_kinds(v, at + maps::NODE, places as usize, kinds)
 }
 
-// Reads all records into the tables, and sees that nothing follows the last. An array that is lent on as a slice is
-// known by its length.
+// Reads all records into the tables, and sees that nothing follows the last. An array that is lent on as a slice is known by
+// its length.
 fn read_words(
     v: &[u8],
     words: usize,
@@ -99,12 +107,14 @@ fn read_words(
     offsets: &mut [u16],
     results: &mut [u8],
     maps: &mut [u8],
+    counts: &mut [u8],
 ) -> VocabularyAnswer
     requires { ⌜ 2 ≤ length (now v) ⌝ }
     requires { ⌜ kinds ≡ byteAt (now v) 0 ⌝ }
     requires { ⌜ words ≤ 96 ⌝ }
-    requires { ⌜ Sized (now offsets) (now results) (now maps) ⌝ }
+    requires { ⌜ Sized (now offsets) (now results) (now maps) (now counts) ⌝ }
     ensures { λ r. ⌜ WordsLoaded (now (v .entry)) words (now (offsets .entry)) (now (results .entry)) (now (maps .entry)) (now (offsets .exit)) (now (results .exit)) (now (maps .exit)) r ⌝ }
+    ensures { λ r. ⌜ WordsCounted (now (v .entry)) words (now (counts .entry)) (now (counts .exit)) ⌝ }
 {
     let mut at = 2;
     let mut w = 0;
@@ -114,6 +124,7 @@ fn read_words(
                 offsets[w] = at as u16;
                 results[w] = v[at];
                 maps[w] = maps::read(v, at + 1);
+                counts[w] = places as u8;
                 at = at + maps::NODE + places;
                 w += 1;
             }
@@ -147,24 +158,23 @@ fn covered(v: &[u8], at: usize, n: usize, marked: &[u8; 16]) -> bool
     true
 }
 
-// Whether the kind of each place of a word is marked. A word without places needs no count.
+// Whether the kind of each place of a word is marked. A word without places needs no look at its record.
 fn places_covered<'a>(
     v: &[u8],
     w: usize,
     offsets: &'a [u16; 96],
-    maps: &'a [u8; 96],
+    counts: &'a [u8; 96],
     marked: &[u8; 16],
 ) -> bool
     requires { ⌜ w < 96 ⌝ }
-    requires { ⌜ PlacesInside (now v) (getD (now offsets) w 0) (getD (now maps) w 0) ⌝ }
-    ensures { λ r. ⌜ PlacesCovered (now (v .entry)) (getD (now (offsets .entry)) w 0) (getD (now (maps .entry)) w 0) (now (marked .entry)) r ⌝ }
+    requires { ⌜ PlacesInside (now v) (getD (now offsets) w 0) (getD (now counts) w 0) ⌝ }
+    ensures { λ r. ⌜ PlacesCovered (now (v .entry)) (getD (now (offsets .entry)) w 0) (getD (now (counts .entry)) w 0) (now (marked .entry)) r ⌝ }
 {
-    let map = maps[w];
-    if map == 0 {
+    let n = counts[w];
+    if n == 0 {
         return true;
     }
     let at = offsets[w] as usize;
-    let n = u8::count_ones(map);
     covered(v, at + maps::NODE, n as usize, marked)
 }
 
@@ -175,12 +185,12 @@ fn mark_round<'a>(
     words: usize,
     offsets: &'a [u16; 96],
     results: &'a [u8; 96],
-    maps: &'a [u8; 96],
+    counts: &'a [u8; 96],
     marked: &mut [u8; 16],
 ) -> bool
     requires { ⌜ words ≤ 96 ⌝ }
     requires { ⌜ byteAt (now v) 0 ≤ 16 ⌝ }
-    requires { ⌜ Filled (now v) words (now offsets) (now results) (now maps) ⌝ }
+    requires { ⌜ FilledCounted (now v) words (now offsets) (now results) (now counts) ⌝ }
     ensures { λ r. ⌜ Round (now (v .entry)) words (now (marked .entry)) (now (marked .exit)) r ⌝ }
 {
     let mut changed = false;
@@ -188,7 +198,7 @@ fn mark_round<'a>(
     while w < words {
         let kind = wide(results[w]);
         if marked[kind] == 0 {
-            if places_covered(v, w, offsets, maps, marked) {
+            if places_covered(v, w, offsets, counts, marked) {
                 marked[kind] = 1;
                 changed = true;
             }
@@ -221,19 +231,19 @@ fn empty_kind<'a>(
     words: usize,
     offsets: &'a [u16; 96],
     results: &'a [u8; 96],
-    maps: &'a [u8; 96],
+    counts: &'a [u8; 96],
     marked: &mut [u8; 16],
 ) -> Missing
     requires { ⌜ words ≤ 96 ⌝ }
     requires { ⌜ kinds ≤ 16 ⌝ }
     requires { ⌜ kinds ≡ byteAt (now v) 0 ⌝ }
-    requires { ⌜ Filled (now v) words (now offsets) (now results) (now maps) ⌝ }
+    requires { ⌜ FilledCounted (now v) words (now offsets) (now results) (now counts) ⌝ }
     ensures { λ r. ⌜ Searched (now (v .entry)) words (now (marked .exit)) r ⌝ }
 {
     *marked = [0u8; 16];
     let mut round = 0;
     while round < kinds {
-        let changed = mark_round(v, words, offsets, results, maps, marked);
+        let changed = mark_round(v, words, offsets, results, counts, marked);
         match first_missing(kinds, marked) {
             Missing::Nothing => {
                 return Missing::Nothing;
@@ -255,19 +265,19 @@ fn move_words<'a>(
     words: usize,
     e: u8,
     offsets: &'a [u16; 96],
-    maps: &'a [u8; 96],
+    counts: &'a [u8; 96],
     marked: &[u8; 16],
     settled: &mut [u8],
 )
     requires { ⌜ length (now settled) ≡ 96 ⌝ }
     requires { ⌜ words ≤ 96 ⌝ }
     requires { ⌜ byteAt (now v) 0 ≤ 16 ⌝ }
-    requires { ⌜ Filled (now v) words (now offsets) (now settled) (now maps) ⌝ }
+    requires { ⌜ FilledCounted (now v) words (now offsets) (now settled) (now counts) ⌝ }
     ensures { λ _. ⌜ MovesWords (now (v .entry)) words e (now (marked .entry)) (now (settled .entry)) (now (settled .exit)) ⌝ }
 {
     let mut w = 0;
     while w < words {
-        if !places_covered(v, w, offsets, maps, marked) {
+        if !places_covered(v, w, offsets, counts, marked) {
             settled[w] = e;
         }
         w += 1;
@@ -282,35 +292,37 @@ fn settle<'a>(
     words: usize,
     offsets: &'a [u16; 96],
     results: &'a [u8; 96],
-    maps: &'a [u8; 96],
+    counts: &'a [u8; 96],
     settled: &mut [u8; 96],
 ) -> Missing
     requires { ⌜ words ≤ 96 ⌝ }
     requires { ⌜ kinds ≤ 16 ⌝ }
     requires { ⌜ kinds ≡ byteAt (now v) 0 ⌝ }
-    requires { ⌜ Tables (now v) words (now offsets) (now results) (now maps) ⌝ }
+    requires { ⌜ Prepared (now v) words (now offsets) (now results) (now counts) ⌝ }
     ensures { λ r. ⌜ Settles (now (v .entry)) words (now (results .entry)) (now (settled .exit)) r ⌝ }
 {
     let mut marked = [0u8; 16];
     *settled = *results;
-    match empty_kind(v, kinds, words, offsets, results, maps, &mut marked) {
+    match empty_kind(v, kinds, words, offsets, results, counts, &mut marked) {
         Missing::Nothing => Missing::Nothing,
         Missing::Kind(e) => {
-            move_words(v, words, e as u8, offsets, maps, &marked, settled);
+            move_words(v, words, e as u8, offsets, counts, &marked, settled);
             Missing::Kind(e)
         }
     }
 }
 
-// Reads a vocabulary into the lent tables, or says why it is refused. Each word whose record is in order has its
-// entry, up to the first that is not; the entries behind are left as they were.
-pub fn load(
+// Reads a vocabulary into the lent tables, one of which has the number of each word's places, or says why it is refused. Each
+// word whose record is in order has its entry, up to the first that is not; the entries behind are left as they were.
+fn load_counted(
     v: &[u8],
     offsets: &mut [u16; 96],
     results: &mut [u8; 96],
     maps: &mut [u8; 96],
+    counts: &mut [u8; 96],
 ) -> VocabularyAnswer
     ensures { λ r. ⌜ LoadedFrom (now (v .entry)) (now (offsets .entry)) (now (results .entry)) (now (maps .entry)) (now (offsets .exit)) (now (results .exit)) (now (maps .exit)) r ⌝ }
+    ensures { λ r. ⌜ CountedFrom (now (v .entry)) (now (counts .entry)) (now (counts .exit)) r ⌝ }
 {
     if v.len() < 2 {
         return VocabularyAnswer::Refused(VocabularyRefusal::Head);
@@ -329,12 +341,25 @@ pub fn load(
     if 96 < words {
         return VocabularyAnswer::Refused(VocabularyRefusal::WordCount);
     }
-    read_words(v, words, kinds, offsets, results, maps)
+    read_words(v, words, kinds, offsets, results, maps, counts)
+}
+
+// Reads a vocabulary into the lent tables, for calls that list nothing.
+pub fn load(
+    v: &[u8],
+    offsets: &mut [u16; 96],
+    results: &mut [u8; 96],
+    maps: &mut [u8; 96],
+) -> VocabularyAnswer
+    ensures { λ r. ⌜ LoadedFrom (now (v .entry)) (now (offsets .entry)) (now (results .entry)) (now (maps .entry)) (now (offsets .exit)) (now (results .exit)) (now (maps .exit)) r ⌝ }
+{
+    let mut counts = [0u8; 96];
+    load_counted(v, offsets, results, maps, &mut counts)
 }
 
 // Reads a vocabulary into the lent tables, works out which of its kinds have complete situations, and fills the table by which
 // listings go: the words' result kinds, but that every word which no complete situation has is given the lowest kind without
-// any. A refusal leaves that table as it was.
+// any. A refusal leaves that table as it was. Each word's places are counted once, as its record is read.
 pub fn load_settled(
     v: &[u8],
     offsets: &mut [u16; 96],
@@ -344,7 +369,8 @@ pub fn load_settled(
 ) -> SettledAnswer
     ensures { λ r. ⌜ SettledFrom (now (v .entry)) (now (offsets .entry)) (now (results .entry)) (now (maps .entry)) (now (settled .entry)) (now (offsets .exit)) (now (results .exit)) (now (maps .exit)) (now (settled .exit)) r ⌝ }
 {
-    match load(v, offsets, results, maps) {
+    let mut counts = [0u8; 96];
+    match load_counted(v, offsets, results, maps, &mut counts) {
         VocabularyAnswer::Refused(why) => SettledAnswer::Refused(why),
         VocabularyAnswer::Accepted => SettledAnswer::Loaded(settle(
             v,
@@ -352,7 +378,7 @@ pub fn load_settled(
             wide(v[1]),
             offsets,
             results,
-            maps,
+            &counts,
             settled,
         )),
     }

@@ -2,13 +2,14 @@
 --
 --   length-cut                                so many entries are cut off as are asked for
 --   due-none, due-name, due-last, due-word    the count, a byte or a word a turn
+--   due-more                                  some terms, and then the others
 --   due-within, entry-within                  it never goes past the end
 --   written ts, map-ones                      how many terms are written, by the written map
 --   due-at, due-all, due-root, entry-size     it ends where what is written does
 --   cut-entries                               whole patterns one behind the other are cut into these patterns
 --
 use mathlib.Core.Path.{_≡_, refl, ap, ap₂, subst, _∙_}
-use mathlib.Core.Bool.{Bool, true, false, not}
+use mathlib.Core.Bool.{Bool, true, false, not, cond}
 use mathlib.Core.List.{List, [], _∷_, _++_, map, append-assoc}
 use Prim.Native.Nat.{ℕ, zero, suc, _+_, _<_, _≤_}
 use native.Mathlib.Omega.{arith}
@@ -48,6 +49,30 @@ due-last b k = choice (λ n. suc n ≡ 1) (ltb b firstNameByte) 0 0 (λ e. refl)
 
 pub due-word : (b m : ℕ) (l : List ℕ) (k : ℕ) → b < firstNameByte → dueSize (b ∷ m ∷ l) (suc k) ≡ 1 + mapBytes + dueSize l (ones (flags m) + k)
 due-word b m l k h = ap suc (cond-true (ltb b firstNameByte) _ _ (lt-ltb b firstNameByte h)) ∙ omega arith
+
+-- Some terms, and behind them the others.
+more-in : (skip : ℕ) (l : List ℕ) (j k : ℕ) → dueIn skip l (j + k) ≡ dueIn skip l j + dueIn zero (drop (dueIn skip l j) l) k
+more-in skip [] j k = refl
+more-in (suc skip) (b ∷ l) j k = omega (arith, more-in skip l j k)
+more-in zero (b ∷ l) zero k = ap (dueIn zero (b ∷ l)) (let e : 0 + k ≡ k = omega arith in e) ∙ omega arith
+more-in zero (b ∷ l) (suc j) k =
+    ap (dueIn zero (b ∷ l)) (let e : suc j + k ≡ suc (j + k) = omega arith in e)
+    ∙ go (ltb b firstNameByte)
+    (ap (dueIn mapBytes l) (let e : dueBy (readMap l) + (j + k) ≡ dueBy (readMap l) + j + k = omega arith in e) ∙ more-in mapBytes l (dueBy (readMap l) + j) k)
+    (more-in zero l j k)
+  where
+    terms : Bool → ℕ → ℕ
+    terms t n = cond t (dueIn mapBytes l (dueBy (readMap l) + n)) (dueIn zero l n)
+
+    Then : Bool → Type 0
+    Then t = terms t (j + k) ≡ terms t j + dueIn zero (drop (terms t j) l) k
+
+    go : (t : Bool) → Then true → Then false → suc (terms t (j + k)) ≡ suc (terms t j) + dueIn zero (drop (terms t j) l) k
+    go true below behind = omega (arith, below)
+    go false below behind = omega (arith, behind)
+
+pub due-more : (l : List ℕ) (j k : ℕ) → dueSize l (j + k) ≡ dueSize l j + dueSize (drop (dueSize l j) l) k
+due-more = more-in zero
 
 -- It never goes past the end.
 pub due-within : (skip : ℕ) (l : List ℕ) (k : ℕ) → dueIn skip l k ≤ length l

@@ -5,6 +5,7 @@ pub mod Outside
 pub mod Refusals
 -- On maps, names and words.
 pub mod Map
+pub mod Ones
 pub mod Seen
 pub mod Words
 -- On vocabularies: where their records stand, how they are read and refused.

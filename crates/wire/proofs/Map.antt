@@ -1,6 +1,6 @@
 -- Map: the laws of maps: their bits, their bytes, and what they tell of the terms at a word's places.
 --
---   bit-odd .. ones-count     the bits of a number
+--   bit-odd .. ones-few, ones-count     the bits of a number
 --   read-write-map .. read-map-lt    the bytes of a map
 --   length-written, within-written, flags-written    the written bits of terms
 --   sorts, Marked, sorts-slots, marked-written, written-marked    slots
@@ -9,7 +9,7 @@ use mathlib.Core.Path.{_≡_, refl, sym, ap, ap₂, subst, _∙_}
 use mathlib.Core.Bool.{Bool, true, false, not, cond, false≢true}
 use mathlib.Core.List.{List, [], _∷_, _++_, map}
 use mathlib.Core.Logic.{_⊎_, inl, inr}
-use Prim.Native.Nat.{ℕ, zero, suc, _+_, _*_, _/_, _%_, _^_, _<_}
+use Prim.Native.Nat.{ℕ, zero, suc, _+_, _*_, _/_, _%_, _^_, _<_, _≤_}
 use native.Mathlib.Nat.{pow-suc}
 use native.Mathlib.Omega.{arith}
 use lib.Count
@@ -67,6 +67,15 @@ ones-countIn zero m h = ap Count.ones (let e : m ≡ 0 = omega arith in e)
 ones-countIn (suc d) m h =
     let ih = ones-countIn d (m / 2) (omega (arith, pow-suc 2 d)) in
     Count.ones-step m ∙ ap₂ _+_ (sym (bit-odd m)) ih
+
+-- A map has eight places at most.
+ones-most : (fs : List Bool) → ones fs ≤ length fs
+ones-most [] = omega arith
+ones-most (true ∷ fs) = omega (arith, ones-most fs)
+ones-most (false ∷ fs) = omega (arith, ones-most fs)
+
+pub ones-few : (m : ℕ) → ones (flags m) ≤ mapBits
+ones-few m = omega (arith, ones-most (flags m), length-flagsIn mapBits m)
 
 pub ones-count : (m : ℕ) → m < 256 → Count.ones m ≡ ones (flags m)
 ones-count m h = ones-countIn mapBits m h

@@ -2,16 +2,17 @@
 use mathlib.Core.Path.{_≡_, refl, ap, _∙_}
 use mathlib.Core.Bool.{Bool, true, false, cond}
 use mathlib.Core.List.{List, [], _∷_, _++_}
-use Prim.Native.Nat.{ℕ, zero, suc, _+_, _*_, _/_, _%_, _<_, _≤_}
+use Prim.Native.Nat.{ℕ, _+_, _*_, _<_, _≤_}
 use native.Mathlib.Omega.{arith}
-use lib.Dec.{eqb, ltb}
+use lib.Dec.{ltb}
 use lib.ListN.{length, length-append}
 use borrow.Author.Tests.{ltb-true, ltb-false}
 use Rattle.wire.specs.Parser.{Reading, accept, refuse, Got, got, stop, andThen, offset, readKind, readKinds, readWord, readWords, line5, readVocabulary}
 use Rattle.wire.specs.Reply.{outside}
-use Rattle.wire.specs.Map.{mapBits, flagsIn, flags, bit, ones}
+use Rattle.wire.specs.Map.{mapBits, flags, ones}
 use Rattle.wire.specs.Vocabulary.{Word, Vocabulary, mostKinds, mostWords}
 use Rattle.wire.specs.Laws.{mostVocabulary, AcceptedIsShort}
+use Rattle.wire.proofs.Map.{ones-few}
 use Rattle.wire.proofs.Row.{Same, then-same, row-same}
 use Rattle.wire.proofs.VocabulariesInverse.{vocabularies-inverse}
 use Rattle.wire.proofs.Outside.{outside-false}
@@ -29,19 +30,11 @@ kind-same k j (b ∷ l) x h = go (ltb b k)
 kinds-same : (k n j : ℕ) (l x : List ℕ) → n + j ≤ length l → Same j x (readKinds k n l) (readKinds k n (l ++ x))
 kinds-same k n j l x h = row-same (λ s. readKind k) (λ s a. s) 1 x (λ s j l. kind-same k j l x) tt n j l (omega arith)
 
-ones-few : (d m : ℕ) → ones (flagsIn d m) ≤ d
-ones-few zero m = omega arith
-ones-few (suc d) m = go (eqb (m % 2) 1) (ones-few d (m / 2))
-  where
-    go : (b : Bool) → ones (flagsIn d (m / 2)) ≤ d → bit b + ones (flagsIn d (m / 2)) ≤ suc d
-    go true h = omega arith
-    go false h = omega arith
-
 -- A record has at most ten bytes: its result kind, its map and eight kinds.
 word-same : (k j : ℕ) (l x : List ℕ) → 10 + j ≤ length l → Same j x (readWord k l) (readWord k (l ++ x))
 word-same k j [] x h = absurd (omega arith)
 word-same k j (b ∷ []) x h = absurd (omega arith)
-word-same k j (b ∷ m ∷ l) x h = go (ltb b k) (ones (flags m)) (ones-few mapBits m)
+word-same k j (b ∷ m ∷ l) x h = go (ltb b k) (ones (flags m)) (ones-few m)
   where
     read : ℕ → List ℕ → Got Word
     read p l = andThen (readKinds k p l) (λ ks r. got (record { result = b; placeMap = m; kinds = ks }) r)

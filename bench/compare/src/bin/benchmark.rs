@@ -1,12 +1,16 @@
 //! Times the archive beside the reference, in turns within one run, and prints markdown tables.
 //!
-//! Argument: print only the rows whose name has this word in it.
+//! Argument: print only the rows whose name has this word in it. Where an archive before is linked (feature `before`),
+//! it takes its turns too, and a last table has both.
 
+#[cfg(feature = "before")]
+use compare::before;
 use compare::terms::{self, Term};
 use compare::timing::{turns, Timed};
 use compare::{archive, books, sorted_entries};
 use reference::Reply;
 use std::hint::black_box;
+use std::sync::Mutex;
 
 /// The reference's calls, kept out of the loops that time them as the archive's are.
 mod plain {
@@ -65,6 +69,55 @@ fn copies(from: &[u8], lengths: &[u16], out: &mut [u8]) -> u64 {
     at as u64
 }
 
+/// The archive before beside this one: case, both times, and this one's to the one before.
+static CHANGES: Mutex<Vec<(String, f64, f64, f64)>> = Mutex::new(Vec::new());
+
+/// A call that takes its turns.
+type Call<'a> = &'a mut dyn FnMut() -> u64;
+
+/// A call of the archive before, if one is linked.
+#[cfg(feature = "before")]
+macro_rules! older {
+    ($call:expr) => {
+        Some(&mut $call)
+    };
+}
+
+#[cfg(not(feature = "before"))]
+macro_rules! older {
+    ($call:expr) => {
+        None
+    };
+}
+
+/// Lets the contenders take turns, with the archive before as the last of them where there is one.
+fn with_before<'a>(name: String, mut calls: Vec<Call<'a>>, before: Option<Call<'a>>) -> Timed {
+    let Some(before) = before else {
+        return turns(&mut calls);
+    };
+    assert_eq!(before(), calls[0](), "{name}");
+    calls.push(before);
+    let timed = turns(&mut calls);
+    let last = calls.len() - 1;
+    let row = (name, timed.median[last], timed.median[0], timed.ratio[last]);
+    CHANGES.lock().unwrap().push(row);
+    timed
+}
+
+/// What changed, if an archive before took its turns.
+fn changes() {
+    let rows = CHANGES.lock().unwrap();
+    if rows.is_empty() {
+        return;
+    }
+    println!("\n### Before and after\n");
+    println!("| case | before, ns | after, ns | after to before |");
+    println!("|---|---:|---:|---:|");
+    for (name, before, after, ratio) in rows.iter() {
+        println!("| {name} | {before:.1} | {after:.1} | {ratio:.3} |");
+    }
+}
+
 struct Bench {
     only: Option<String>,
     table: Vec<u16>,
@@ -102,11 +155,16 @@ impl Bench {
             archive::check_vocabulary(v),
             plain::check_vocabulary(v),
         );
-        let timed = turns(&mut [
-            &mut || archive::check_vocabulary(black_box(v))[0],
-            &mut || plain::check_vocabulary(black_box(v))[0],
-        ]);
-        Self::row(&format!("{name} ({} bytes)", v.len()), &timed);
+        let name = format!("{name} ({} bytes)", v.len());
+        let timed = with_before(
+            name.clone(),
+            vec![
+                &mut || archive::check_vocabulary(black_box(v))[0],
+                &mut || plain::check_vocabulary(black_box(v))[0],
+            ],
+            older!(|| before::check_vocabulary(black_box(v))[0]),
+        );
+        Self::row(&name, &timed);
     }
 
     fn term(&self, name: &str, v: &[u8], t: &[u8]) -> Option<Timed> {
@@ -114,10 +172,14 @@ impl Bench {
             return None;
         }
         Self::same(name, archive::check_term(v, t), plain::check_term(v, t));
-        Some(turns(&mut [
-            &mut || archive::check_term(black_box(v), black_box(t))[1],
-            &mut || plain::check_term(black_box(v), black_box(t))[1],
-        ]))
+        Some(with_before(
+            format!("{name} ({} bytes)", t.len()),
+            vec![
+                &mut || archive::check_term(black_box(v), black_box(t))[1],
+                &mut || plain::check_term(black_box(v), black_box(t))[1],
+            ],
+            older!(|| before::check_term(black_box(v), black_box(t))[1]),
+        ))
     }
 
     fn term_row(&self, name: &str, v: &[u8], t: &[u8]) {
@@ -134,11 +196,23 @@ impl Bench {
         let reply = archive::match_pattern(v, p, s, &mut self.table);
         assert_eq!(reply[..2], [0, yes], "{name}");
         Self::same(name, reply, plain::match_pattern(v, p, s, &mut other));
-        let table = &mut self.table[..];
-        Some(turns(&mut [
-            &mut || archive::match_pattern(black_box(v), black_box(p), black_box(s), table)[1],
-            &mut || plain::match_pattern(black_box(v), black_box(p), black_box(s), &mut other)[1],
-        ]))
+        let table = std::cell::RefCell::new(&mut self.table[..]);
+        Some(with_before(
+            format!("{name} ({} and {} bytes)", p.len(), s.len()),
+            vec![
+                &mut || {
+                    let mut table = table.borrow_mut();
+                    archive::match_pattern(black_box(v), black_box(p), black_box(s), &mut table)[1]
+                },
+                &mut || {
+                    plain::match_pattern(black_box(v), black_box(p), black_box(s), &mut other)[1]
+                },
+            ],
+            older!(|| {
+                let mut table = table.borrow_mut();
+                before::match_pattern(black_box(v), black_box(p), black_box(s), &mut table)[1]
+            }),
+        ))
     }
 
     fn match_row(&mut self, name: &str, v: &[u8], p: &[u8], s: &[u8], yes: u64) {
@@ -159,14 +233,18 @@ impl Bench {
             archive::part(v, p, s, number),
             plain::part(v, p, s, number),
         );
-        let timed = turns(&mut [
-            &mut || archive::part(black_box(v), black_box(p), black_box(s), black_box(number))[1],
-            &mut || plain::part(black_box(v), black_box(p), black_box(s), black_box(number))[1],
-        ]);
-        Self::row(
-            &format!("{name} ({} and {} bytes)", p.len(), s.len()),
-            &timed,
+        let name = format!("{name} ({} and {} bytes)", p.len(), s.len());
+        let timed = with_before(
+            name.clone(),
+            vec![
+                &mut || {
+                    archive::part(black_box(v), black_box(p), black_box(s), black_box(number))[1]
+                },
+                &mut || plain::part(black_box(v), black_box(p), black_box(s), black_box(number))[1],
+            ],
+            older!(|| before::part(black_box(v), black_box(p), black_box(s), black_box(number))[1]),
         );
+        Self::row(&name, &timed);
     }
 
     /// A listing into a slice of just the length that it needs.
@@ -193,17 +271,27 @@ impl Bench {
         assert_eq!(lengths.len() as u64, reply[1]);
         // Each call takes the slice anew, so that all three write to the same memory.
         let out = std::cell::RefCell::new(out);
-        let timed = turns(&mut [
-            &mut || archive::list(black_box(v), black_box(p), black_box(&mut out.borrow_mut()))[2],
-            &mut || plain::list(black_box(v), black_box(p), black_box(&mut out.borrow_mut()))[2],
-            &mut || {
-                copies(
-                    black_box(p),
-                    black_box(&lengths),
-                    black_box(&mut out.borrow_mut()),
-                )
-            },
-        ]);
+        let timed = with_before(
+            format!("{name} ({} bytes)", p.len()),
+            vec![
+                &mut || {
+                    archive::list(black_box(v), black_box(p), black_box(&mut out.borrow_mut()))[2]
+                },
+                &mut || {
+                    plain::list(black_box(v), black_box(p), black_box(&mut out.borrow_mut()))[2]
+                },
+                &mut || {
+                    copies(
+                        black_box(p),
+                        black_box(&lengths),
+                        black_box(&mut out.borrow_mut()),
+                    )
+                },
+            ],
+            older!(|| {
+                before::list(black_box(v), black_box(p), black_box(&mut out.borrow_mut()))[2]
+            }),
+        );
         Some((reply, timed))
     }
 
@@ -237,10 +325,20 @@ impl Bench {
         assert_eq!(reply[0], number, "{name}");
         Self::same(name, reply, plain::list(v, p, &mut out));
         let out = std::cell::RefCell::new(out);
-        let timed = turns(&mut [
-            &mut || archive::list(black_box(v), black_box(p), black_box(&mut out.borrow_mut()))[2],
-            &mut || plain::list(black_box(v), black_box(p), black_box(&mut out.borrow_mut()))[2],
-        ]);
+        let timed = with_before(
+            format!("{name} ({} bytes)", p.len()),
+            vec![
+                &mut || {
+                    archive::list(black_box(v), black_box(p), black_box(&mut out.borrow_mut()))[2]
+                },
+                &mut || {
+                    plain::list(black_box(v), black_box(p), black_box(&mut out.borrow_mut()))[2]
+                },
+            ],
+            older!(|| {
+                before::list(black_box(v), black_box(p), black_box(&mut out.borrow_mut()))[2]
+            }),
+        );
         Self::row(&format!("{name} ({} bytes)", p.len()), &timed);
     }
 
@@ -269,10 +367,14 @@ impl Bench {
         // Each call takes the slice anew, so that both write to the same memory.
         let out = std::cell::RefCell::new(out);
         let [v, p, f] = [v, p, f].map(|bytes| move || black_box(bytes));
-        let timed = turns(&mut [
-            &mut || archive::fill(v(), p(), f(), black_box(&mut out.borrow_mut()))[1],
-            &mut || plain::fill(v(), p(), f(), black_box(&mut out.borrow_mut()))[1],
-        ]);
+        let timed = with_before(
+            format!("{name} ({} and {} bytes)", p().len(), f().len()),
+            vec![
+                &mut || archive::fill(v(), p(), f(), black_box(&mut out.borrow_mut()))[1],
+                &mut || plain::fill(v(), p(), f(), black_box(&mut out.borrow_mut()))[1],
+            ],
+            older!(|| before::fill(v(), p(), f(), black_box(&mut out.borrow_mut()))[1]),
+        );
         Some((reply, timed))
     }
 
@@ -331,18 +433,27 @@ impl Bench {
         }
         // Each call takes the slice anew, so that both write to the same memory.
         let out = std::cell::RefCell::new(out);
-        let timed = turns(&mut [
-            &mut || {
-                archive::list_book(black_box(v), black_box(b), black_box(&mut out.borrow_mut()))[2]
-            },
-            &mut || {
-                plain::list_book(black_box(v), black_box(b), black_box(&mut out.borrow_mut()))[2]
-            },
-            &mut || {
+        let timed = with_before(
+            format!("{name} ({} bytes)", b.len()),
+            vec![
+                &mut || {
+                    let mut out = out.borrow_mut();
+                    archive::list_book(black_box(v), black_box(b), black_box(&mut out))[2]
+                },
+                &mut || {
+                    let mut out = out.borrow_mut();
+                    plain::list_book(black_box(v), black_box(b), black_box(&mut out))[2]
+                },
+                &mut || {
+                    let mut out = out.borrow_mut();
+                    plain::list_book_entrywise(black_box(v), black_box(b), black_box(&mut out))[2]
+                },
+            ],
+            older!(|| {
                 let mut out = out.borrow_mut();
-                plain::list_book_entrywise(black_box(v), black_box(b), black_box(&mut out))[2]
-            },
-        ]);
+                before::list_book(black_box(v), black_box(b), black_box(&mut out))[2]
+            }),
+        );
         Some((reply, timed))
     }
 
@@ -752,4 +863,5 @@ fn main() {
     fills(&mut bench);
     list_books(&mut bench);
     growth(&mut bench);
+    changes();
 }

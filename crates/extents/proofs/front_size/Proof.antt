@@ -1,89 +1,102 @@
--- `extents::front_size` meets its contract. The loop's invariant: the terms that are due from `at` on end where the term does. The measure is the number of bytes left.
+-- `extents::front_size` meets its contract. The loop's invariant: the terms that are due from `at` on end where the term does. The measure
+-- is the number of bytes left.
 use borrow.Author.Needs.{needs}
-use mathlib.Core.Path.{_≡_, sym, _∙_}
-use mathlib.Core.List.{List}
-use lib.ListN.{length, getD}
-use lib.Count
 use denote.Ref.{now}
-use Prim.Native.Nat.{ℕ, _+_, _-_, _<_, _≤_}
+use mathlib.Core.Path.{subst, _∙_}
+use mathlib.Core.List.{List}
+use Prim.Native.Nat.{ℕ, _+_, _-_, _<_}
 use native.Mathlib.Omega.{arith}
-use Rattle.maps.proofs.Reading.{map-at}
-use Rattle.extents.proofs.Counting.{Counting, counting-begins, counting-none, counting-ends, counting-name, counting-last, counting-word}
+use lib.Count
+use lib.ListN.{length}
+use Rattle.wire.specs.EntryCut.{dueSize}
+use Rattle.wire.proofs.Ones.{no-ones}
+use Rattle.extents.proofs.Nodes.{DueFrom, from-begins, from-none, from-ends, from-node, from-below, beside-ones, joined-ones, bare-ones}
 use Rattle.extents.proofs.front_size.Statement.{statement}
 use Rattle.extents.proofs.front_size.Tie as tie
 
 abbrev Inv-loop : tie.InvT-loop
-Inv-loop bytes at₀ due₀ at due = Counting bytes at due
+Inv-loop bytes at₀ due₀ at due = DueFrom bytes (dueSize bytes 1) at (Count.ones due)
 
 abbrev μ-loop : tie.MeasureT-loop
 μ-loop bytes at₀ due₀ at due = length bytes - at
 
 loop-holds : tie.Need-loop-holds Inv-loop μ-loop
-loop-holds c = counting-begins _
+loop-holds c = from-begins _
 
 returns : tie.Need-returns Inv-loop μ-loop
-returns c = counting-none (c .before .before .loop .inv) (c .if1 .taken)
+returns c = from-none (c .before .before .loop .inv) (no-ones _ (c .if1 .taken))
 
-shared-slice-read-b : tie.Need-shared-slice-read-b Inv-loop μ-loop
-shared-slice-read-b c = search needs
+node-at-requires : tie.Need-node-at-requires Inv-loop μ-loop
+node-at-requires c κs = search needs
 
-add-at : tie.Need-add-at Inv-loop μ-loop
-add-at c = search needs
+passed-requires : tie.Need-passed-requires Inv-loop μ-loop
+passed-requires c κs = search needs
 
-sub-due : tie.Need-sub-due Inv-loop μ-loop
-sub-due c = search needs
-
-read-requires : tie.Need-read-requires Inv-loop μ-loop
-read-requires c κs = search needs
-
-module _ (c : tie.After-read Inv-loop μ-loop) where
+-- Behind a node: the terms of its map, and those that are due besides.
+module _ (c : tie.After-passed Inv-loop μ-loop) where
   abbrev at-loop : tie.At-loop Inv-loop μ-loop
-  at-loop = c .before .before .before .before .before .before
+  at-loop = c .before .before .before .before
 
   abbrev bytes : List ℕ
   bytes = now (at-loop .before .before .args .bytes)
 
-  -- The map is the byte behind the word.
-  behind : c .read .result ≡ getD bytes (at-loop .loop .at + 1) 0
-  behind = c .read .ensures ∙ sym (map-at bytes (at-loop .loop .at + 1))
+  behind : DueFrom bytes (dueSize bytes 1) (c .before .node-at .result .end) (Count.ones (c .before .node-at .result .map) + Count.ones (c .passed .result))
+  behind = from-node (at-loop .loop .inv) (c .before .node-at .ensures) _ (c .passed .ensures)
 
-  small : c .read .result < 256
-  small = rw behind (c .before .before .before .shared-slice-known2 .given (at-loop .loop .at + 1) .fits)
+  forth : length bytes - c .before .node-at .result .end < length bytes - at-loop .loop .at
+  forth = omega (arith, c .before .node-at .ensures .forth, c .before .node-at .ensures .inside)
 
-  few-ones : Count.ones (c .read .result) ≤ 8
-  few-ones = Count.ones-le 8 (c .read .result) small
-
-add-at-2 : tie.Need-add-at-2 Inv-loop μ-loop
-add-at-2 c = search needs
-
+-- The lowest byte is free, and the map goes there.
 cast-due : tie.Need-cast-due Inv-loop μ-loop
-cast-due c = omega (arith, few-ones c)
+cast-due c = search needs
 
 add-due : tie.Need-add-due Inv-loop μ-loop
-add-due c = let f = at-loop c .loop .inv .few in omega (arith, few-ones c)
+add-due c = omega (arith, c .before .before .before .node-at .ensures .small)
 
 loop-less : tie.Need-loop-less Inv-loop μ-loop
-loop-less c = search needs
+loop-less c = forth (c .before .before)
 
 loop-again : tie.Need-loop-again Inv-loop μ-loop
-loop-again c =
-    counting-word (at-loop c .loop .inv) (c .before .before .before .before .before .loop-test .taken) (omega arith) (behind c) (small c) (c .before .before .if2 .taken)
-    (c .before .if3 .taken)
+loop-again c = subst (DueFrom _ _ _) (beside-ones _ _ (c .if3 .taken) (c .before .before .before .node-at .ensures .small)) (behind (c .before .before))
 
-loop-less-2 : tie.Need-loop-less-2 Inv-loop μ-loop
-loop-less-2 c = search needs
+-- There is no room: the terms below this word, then those that are due behind them.
+cast-pass-terms : tie.Need-cast-pass-terms Inv-loop μ-loop
+cast-pass-terms c = search needs
 
-loop-again-2 : tie.Need-loop-again-2 Inv-loop μ-loop
-loop-again-2 c = counting-last (c .before .before .before .before .before .loop .inv) (c .before .before .before .before .loop-test .taken) (omega arith) (c .if3 .left)
+pass-terms-requires : tie.Need-pass-terms-requires Inv-loop μ-loop
+pass-terms-requires c κs = c .before .before .before .before .node-at .ensures .inside
 
-loop-less-3 : tie.Need-loop-less-3 Inv-loop μ-loop
-loop-less-3 c = search needs
-
-loop-again-3 : tie.Need-loop-again-3 Inv-loop μ-loop
-loop-again-3 c = counting-name (c .before .before .before .before .loop .inv) (c .before .before .before .loop-test .taken) (omega arith) (c .if2 .left)
+pass-terms-requires-2 : tie.Need-pass-terms-requires-2 Inv-loop μ-loop
+pass-terms-requires-2 c κs = from-below _ _ (behind (c .before .before .before .before)) (c .pass-terms .ensures) .inside
 
 returns-2 : tie.Need-returns-2 Inv-loop μ-loop
-returns-2 c = counting-ends (c .before .loop .inv) (c .loop-test .left)
+returns-2 c = c .pass-terms2 .ensures ∙ from-below _ _ (behind (c .before .before .before .before .before)) (c .before .pass-terms .ensures) .left
+
+-- What is due moves up, and the map goes below it.
+mul-due : tie.Need-mul-due Inv-loop μ-loop
+mul-due c = search needs
+
+cast-due-2 : tie.Need-cast-due-2 Inv-loop μ-loop
+cast-due-2 c = search needs
+
+add-due-2 : tie.Need-add-due-2 Inv-loop μ-loop
+add-due-2 c = omega (arith, c .before .before .before .before .node-at .ensures .small)
+
+loop-less-2 : tie.Need-loop-less-2 Inv-loop μ-loop
+loop-less-2 c = forth (c .before .before .before)
+
+loop-again-2 : tie.Need-loop-again-2 Inv-loop μ-loop
+loop-again-2 c = subst (DueFrom _ _ _) (joined-ones _ _ (c .before .before .before .before .node-at .ensures .small)) (behind (c .before .before .before))
+
+-- No term is below.
+loop-less-3 : tie.Need-loop-less-3 Inv-loop μ-loop
+loop-less-3 c = forth (c .before)
+
+loop-again-3 : tie.Need-loop-again-3 Inv-loop μ-loop
+loop-again-3 c = subst (DueFrom _ _ _) (bare-ones _ _ (c .if2 .left)) (behind (c .before))
+
+returns-3 : tie.Need-returns-3 Inv-loop μ-loop
+returns-3 c = from-ends (c .before .loop .inv) (c .loop-test .left)
 
 pub front-size-spec : {M : Type 1} → statement M
 front-size-spec =
@@ -93,17 +106,21 @@ front-size-spec =
     μ-loop
     loop-holds
     returns
-    shared-slice-read-b
-    add-at
-    sub-due
-    read-requires
-    add-at-2
+    node-at-requires
+    passed-requires
     cast-due
     add-due
     loop-less
     loop-again
+    cast-pass-terms
+    pass-terms-requires
+    pass-terms-requires-2
+    returns-2
+    mul-due
+    cast-due-2
+    add-due-2
     loop-less-2
     loop-again-2
     loop-less-3
     loop-again-3
-    returns-2)
+    returns-3)

@@ -19,9 +19,7 @@ slice-aggregate-front-size c =
     sym (length-take-le (c .before .least .result) (now (c .before .before .before .args .bytes)) (omega (arith, c .before .least .ensures)))
 
 front-size-requires : tie.Need-front-size-requires
-front-size-requires c κs =
-    let end = c .before .least .ensures in
-    omega (arith, length-take-le (c .before .least .result) (now (c .before .before .before .args .bytes)) (omega arith))
+front-size-requires c κs = search needs
 
 returns : tie.Need-returns
 returns c =

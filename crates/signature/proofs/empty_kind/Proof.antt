@@ -10,10 +10,10 @@ use Rattle.signature.proofs.empty_kind.Statement.{statement}
 use Rattle.signature.proofs.empty_kind.Tie as tie
 
 abbrev Inv-loop : tie.InvT-loop
-Inv-loop v kinds words offsets results maps marked₀ round₀ marked round = Reached v words kinds round marked
+Inv-loop v kinds words offsets results counts marked₀ round₀ marked round = Reached v words kinds round marked
 
 abbrev μ-loop : tie.MeasureT-loop
-μ-loop v kinds words offsets results maps marked₀ round₀ marked round = kinds - round
+μ-loop v kinds words offsets results counts marked₀ round₀ marked round = kinds - round
 
 loop-holds : tie.Need-loop-holds Inv-loop μ-loop
 loop-holds c = reached-none _ _ _

@@ -10,10 +10,10 @@ use Rattle.signature.proofs.mark_round.Statement.{statement}
 use Rattle.signature.proofs.mark_round.Tie as tie
 
 abbrev Inv-loop : tie.InvT-loop
-Inv-loop v words offsets results maps marked₀ changed₀ w₀ marked changed w = Marked v words w marked₀ marked × (changed ≡ false → marked ≡ marked₀)
+Inv-loop v words offsets results counts marked₀ changed₀ w₀ marked changed w = Marked v words w marked₀ marked × (changed ≡ false → marked ≡ marked₀)
 
 abbrev μ-loop : tie.MeasureT-loop
-μ-loop v words offsets results maps marked₀ changed₀ w₀ marked changed w = words - w
+μ-loop v words offsets results counts marked₀ changed₀ w₀ marked changed w = words - w
 
 loop-holds : tie.Need-loop-holds Inv-loop μ-loop
 loop-holds c = (marked-none _ _ _, λ e. refl)

@@ -10,10 +10,10 @@ use Rattle.signature.proofs.move_words.Statement.{statement}
 use Rattle.signature.proofs.move_words.Tie as tie
 
 abbrev Inv-loop : tie.InvT-loop
-Inv-loop v words e offsets maps marked settled₀ w₀ settled w = Moved v words w e marked settled₀ settled
+Inv-loop v words e offsets counts marked settled₀ w₀ settled w = Moved v words w e marked settled₀ settled
 
 abbrev μ-loop : tie.MeasureT-loop
-μ-loop v words e offsets maps marked settled₀ w₀ settled w = words - w
+μ-loop v words e offsets counts marked settled₀ w₀ settled w = words - w
 
 loop-holds : tie.Need-loop-holds Inv-loop μ-loop
 loop-holds c = moved-none _ _ _ _ _

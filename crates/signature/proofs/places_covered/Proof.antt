@@ -5,8 +5,8 @@ use Rattle.signature.proofs.Marking.{covers-bare}
 use Rattle.signature.proofs.places_covered.Statement.{statement}
 use Rattle.signature.proofs.places_covered.Tie as tie
 
-element-copy-out-map : tie.Need-element-copy-out-map
-element-copy-out-map c = search needs
+element-copy-out-n : tie.Need-element-copy-out-n
+element-copy-out-n c = search needs
 
 returns : tie.Need-returns
 returns c =
@@ -40,7 +40,7 @@ pub places-covered-spec : {M : Type 1} → statement M
 places-covered-spec =
     tie.close
     (tie.spec
-    element-copy-out-map
+    element-copy-out-n
     returns
     mul-at
     element-copy-out-at

@@ -1,20 +1,10 @@
 -- `signature::read_word` meets its contract: each case of its answer is one of `readWord`.
-use mathlib.Core.Path.{sym, _∙_}
-use Prim.Native.Nat.{_+_, _<_}
 use native.Mathlib.Omega.{arith}
-use denote.Ref.{now}
-use lib.Count.{ones-le}
 use borrow.Author.Needs.{needs}
-use Rattle.maps.proofs.Reading.{map-at}
+use Rattle.wire.proofs.Map.{ones-few}
 use Rattle.signature.proofs.RecordBytes.{record-missing, record-unknown, record-short, record-bare, record-kinds}
 use Rattle.signature.proofs.read_word.Statement.{statement}
 use Rattle.signature.proofs.read_word.Tie as tie
-
--- The map is a byte.
-small : (c : tie.After-read) → c .read .result < 256
-small c =
-    let a = c .before .before .before .before .before .before .args in
-    rw (c .read .ensures ∙ sym (map-at (now (a .v)) (a .at + 1))) (c .before .before .before .shared-slice-known2 .given _ .fits)
 
 returns : tie.Need-returns
 returns c = record-missing _ _ _ (c .if1 .taken)
@@ -43,20 +33,24 @@ returns-4 c =
     let known = read .before .before .before in
     record-bare _ _ _ (λ i. known .shared-slice-known2 .given i .fits) (omega arith) (read .before .before .if2 .left) _ (read .read .ensures) (c .if4 .taken)
 
+place-count-requires : tie.Need-place-count-requires
+place-count-requires c κs = search needs
+
 add-read-kinds : tie.Need-add-read-kinds
 add-read-kinds c = search needs
 
 cast-read-kinds : tie.Need-cast-read-kinds
-cast-read-kinds c = omega (arith, ones-le 8 (c .before .read .result) (small (c .before)))
+cast-read-kinds c = omega (arith, c .place-count .ensures, ones-few (c .before .before .read .result))
 
 read-kinds-requires : tie.Need-read-kinds-requires
 read-kinds-requires c κs = search needs
 
 returns-5 : tie.Need-returns-5
 returns-5 c =
-    let read = c .before .before in
+    let read = c .before .before .before in
     let known = read .before .before .before in
-    record-kinds _ _ _ (λ i. known .shared-slice-known2 .given i .fits) (omega arith) (read .before .before .if2 .left) _ (read .read .ensures) _ (c .read-kinds .ensures)
+    record-kinds _ _ _ (λ i. known .shared-slice-known2 .given i .fits) (omega arith) (read .before .before .if2 .left) _ (read .read .ensures) _ _
+    (c .before .place-count .ensures) (c .read-kinds .ensures)
 
 pub read-word-spec : {M : Type 1} → statement M
 read-word-spec =
@@ -70,6 +64,7 @@ read-word-spec =
     add-read
     read-requires
     returns-4
+    place-count-requires
     add-read-kinds
     cast-read-kinds
     read-kinds-requires

@@ -4,7 +4,7 @@ use native.Mathlib.Omega.{arith}
 use borrow.Author.Needs.{needs}
 use Rattle.wire.proofs.Bytes.{bytes-of}
 use Rattle.signature.proofs.Rounds.{searched-below}
-use Rattle.signature.proofs.Settling.{tables-filled, settles-same, settles-moved}
+use Rattle.signature.proofs.Settling.{tables-counted, settles-same, settles-moved}
 use Rattle.signature.proofs.settle.Statement.{statement}
 use Rattle.signature.proofs.settle.Tie as tie
 
@@ -12,7 +12,7 @@ empty-kind-requires : tie.Need-empty-kind-requires
 empty-kind-requires c κs =
     let start = c .before .before .before in
     let pre = start .pre in
-    (pre .0, (pre .1 .0, (pre .1 .1 .0, tables-filled _ (bytes-of (now (start .args .v)) (λ i. c .before .before .shared-slice-known .given i .fits)) _ _ _ _ (pre .1 .1 .1))))
+    (pre .0, (pre .1 .0, (pre .1 .1 .0, tables-counted _ (bytes-of (now (start .args .v)) (λ i. c .before .before .shared-slice-known .given i .fits)) _ _ _ _ (pre .1 .1 .1 .tables) _ (pre .1 .1 .1 .counted))))
 
 enum-told : tie.Need-enum-told
 enum-told c = search needs
@@ -32,14 +32,14 @@ move-words-requires c κs =
     let start = known .before in
     let pre = start .pre in (
       c .move-words-arg .given .0 .1,
-      (pre .0, (omega arith, tables-filled _ (bytes-of (now (start .args .v)) (λ i. known .shared-slice-known .given i .fits)) _ _ _ _ (pre .1 .1 .1))),
+      (pre .0, (omega arith, tables-counted _ (bytes-of (now (start .args .v)) (λ i. known .shared-slice-known .given i .fits)) _ _ _ _ (pre .1 .1 .1 .tables) _ (pre .1 .1 .1 .counted))),
     )
 
 returns : tie.Need-returns
 returns c =
     let called = c .before .before in
     let start = called .before .before .before .before in
-    settles-same _ (bytes-of (now (start .args .v)) (λ i. called .before .before .before .shared-slice-known .given i .fits)) _ _ _ _ (start .pre .1 .1 .1) _ _
+    settles-same _ (bytes-of (now (start .args .v)) (λ i. called .before .before .before .shared-slice-known .given i .fits)) _ _ _ _ (start .pre .1 .1 .1 .tables) _ _
     (called .empty-kind .ensures) (c .enum-told .given .1)
 
 returns-2 : tie.Need-returns-2
@@ -47,7 +47,7 @@ returns-2 c =
     let known = c .before .before .before .before in
     let called = known .before .before in
     let start = called .before .before .before .before in
-    settles-moved _ (bytes-of (now (start .args .v)) (λ i. called .before .before .before .shared-slice-known .given i .fits)) _ _ _ _ (start .pre .1 .1 .1) _ _ (called .empty-kind .ensures) _ (known .e .given .1) _
+    settles-moved _ (bytes-of (now (start .args .v)) (λ i. called .before .before .before .shared-slice-known .given i .fits)) _ _ _ _ (start .pre .1 .1 .1 .tables) _ _ (called .empty-kind .ensures) _ (known .e .given .1) _
     (c .move-words .ensures)
 
 pub settle-spec : {M : Type 1} → statement M
