@@ -36,7 +36,7 @@
  *     took at most 13,224 bytes, pheasantry_part 4,680 and the others at most 4,616, of which the dynamic
  *     linker takes some 2,800 where it has to look up a function of the C library during the call.
  *   - For pheasantry_list_book 160 KiB are enough: it works on two listings of its own. On books of 64
- *     patterns of 32 levels it took at most 154,928 bytes, of which its areas are 90,112.
+ *     patterns of 32 levels it took at most 155,440 bytes, of which its areas are 90,112.
  *
  * Threads
  *   There is no global state. Calls may run at the same time, as long as nothing writes the memory
