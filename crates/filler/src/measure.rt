@@ -2,7 +2,6 @@
 ghost use mathlib.Core.Path.{_≡_};
 ghost use mathlib.Core.List.{List};
 ghost use Prim.Native.Nat.{ℕ, _<_};
-ghost use Rattle.wire.specs.Map.{flags, ones};
 ghost use Rattle.wire.specs.TermBytes.{mostLevels};
 ghost use Rattle.filler.specs.Ready.{Measurable, measured};
 
@@ -13,13 +12,6 @@ fn wide(b: u8) -> usize
     ensures { λ r. ⌜ (r ≡ b) × (r < 256) ⌝ }
 {
     b as usize
-}
-
-// How many bits of a map stand.
-fn count(map: u8) -> u8
-    ensures { λ r. ⌜ r ≡ ones (flags map) ⌝ }
-{
-    u8::count_ones(map) as u8
 }
 
 // The length of the result, by its bytes alone: for one that is no deeper than 32 levels.
@@ -79,7 +71,7 @@ fn measure_levels(p: &[u8], starts: &[usize; 65], depths: &[u8; 64]) -> usize
                 if map != 0 {
                     due[depth] = left;
                     depth += 1;
-                    left = count(map);
+                    left = maps::count(map) as u8;
                 }
             } else {
                 i += 1;

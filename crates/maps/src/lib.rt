@@ -1,5 +1,6 @@
-// The width of place maps and written maps: the code has it here and nowhere else.
+// The width of place maps and written maps in bytes, which the code has here and nowhere else, and how many bits of a map stand.
 ghost use mathlib.Core.Path.{_≡_};
+ghost use Rattle.wire.specs.Map.{flags, ones};
 ghost use Rattle.maps.specs.Reading.{mapAt};
 ghost use Rattle.maps.specs.Writing.{mapPut};
 
@@ -18,6 +19,13 @@ pub fn read(bytes: &[u8], at: usize) -> u8
     }
     let map = bytes[at];
     map
+}
+
+// How many bits of a map stand. A word has so many places.
+pub fn count(map: u8) -> u32
+    ensures { λ r. ⌜ r ≡ ones (flags map) ⌝ }
+{
+    u8::count_ones(map)
 }
 
 // Writes a map at an offset. Where a byte of it has no room the bytes are left as they were.

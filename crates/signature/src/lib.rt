@@ -3,7 +3,6 @@
 ghost use mathlib.Core.Path.{_≡_};
 ghost use Prim.Native.Nat.{_+_, _<_, _≤_};
 ghost use lib.ListN.{length, getD};
-ghost use Rattle.wire.specs.Map.{flags, ones};
 ghost use Rattle.wire.specs.Checking.{VocabularyPromise};
 ghost use Rattle.wire.specs.CheckComputed.{vocabularyReply};
 ghost use Rattle.wire.specs.VocabularyLines.{byteAt};
@@ -51,13 +50,6 @@ fn wide(b: u8) -> usize
     b as usize
 }
 
-// How many places the word with a place map has.
-fn place_count(map: u8) -> u32
-    ensures { λ r. ⌜ r ≡ ones (flags map) ⌝ }
-{
-    u8::count_ones(map)
-}
-
 // Reads n kind bytes from an offset on.
 fn read_kinds(v: &[u8], at: usize, n: usize, kinds: u8) -> WordRead
     requires { ⌜ at ≤ length (now v) ⌝ }
@@ -76,7 +68,7 @@ fn read_kinds(v: &[u8], at: usize, n: usize, kinds: u8) -> WordRead
     WordRead::Whole(n)
 }
 
-// Reads the record at an offset.
+// Reads the record at an offset. Here a word's places are counted.
 fn read_word(v: &[u8], at: usize, kinds: u8) -> WordRead
     requires { ⌜ at ≤ length (now v) ⌝ }
     ensures { λ r. ⌜ RecordRead (now (v .entry)) at kinds r ⌝ }
@@ -94,7 +86,7 @@ fn read_word(v: &[u8], at: usize, kinds: u8) -> WordRead
     if map == 0 {
         return WordRead::Whole(0);
     }
-    let places = place_count(map);
+    let places = maps::count(map);
     read_kinds(v, at + maps::NODE, places as usize, kinds)
 }
 

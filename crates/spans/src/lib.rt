@@ -47,7 +47,7 @@ fn map_at(t: &[u8], at: usize) -> u8
 fn count(map: u8) -> usize
     ensures { λ r. ⌜ (r ≡ ones map) × (r ≤ 8) ⌝ }
 {
-    u8::count_ones(map) as usize
+    maps::count(map) as usize
 }
 
 // How many bits of four maps stand.

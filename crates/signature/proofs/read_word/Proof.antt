@@ -33,14 +33,14 @@ returns-4 c =
     let known = read .before .before .before in
     record-bare _ _ _ (λ i. known .shared-slice-known2 .given i .fits) (omega arith) (read .before .before .if2 .left) _ (read .read .ensures) (c .if4 .taken)
 
-place-count-requires : tie.Need-place-count-requires
-place-count-requires c κs = search needs
+count-requires : tie.Need-count-requires
+count-requires c κs = search needs
 
 add-read-kinds : tie.Need-add-read-kinds
 add-read-kinds c = search needs
 
 cast-read-kinds : tie.Need-cast-read-kinds
-cast-read-kinds c = omega (arith, c .place-count .ensures, ones-few (c .before .before .read .result))
+cast-read-kinds c = omega (arith, c .count .ensures, ones-few (c .before .before .read .result))
 
 read-kinds-requires : tie.Need-read-kinds-requires
 read-kinds-requires c κs = search needs
@@ -50,7 +50,7 @@ returns-5 c =
     let read = c .before .before .before in
     let known = read .before .before .before in
     record-kinds _ _ _ (λ i. known .shared-slice-known2 .given i .fits) (omega arith) (read .before .before .if2 .left) _ (read .read .ensures) _ _
-    (c .before .place-count .ensures) (c .read-kinds .ensures)
+    (c .before .count .ensures) (c .read-kinds .ensures)
 
 pub read-word-spec : {M : Type 1} → statement M
 read-word-spec =
@@ -64,7 +64,7 @@ read-word-spec =
     add-read
     read-requires
     returns-4
-    place-count-requires
+    count-requires
     add-read-kinds
     cast-read-kinds
     read-kinds-requires

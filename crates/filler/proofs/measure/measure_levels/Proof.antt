@@ -19,6 +19,7 @@ use Rattle.filler.proofs.Starts.{starts-up}
 use Rattle.filler.proofs.Counting.{short}
 use Rattle.filler.proofs.Measuring.{Measuring, measuring-none, measuring-above, measuring-pop, measuring-low, measuring-leaf, measuring-word, measuring-large, measuring-deep, measuring-name, measuring-byte, measuring-long, measuring-all}
 use Rattle.wire.specs.Map.{flags, ones}
+use Rattle.wire.proofs.Map.{ones-few}
 use Rattle.filler.proofs.measure.measure_levels.Statement.{statement}
 use Rattle.filler.proofs.measure.measure_levels.Tie as tie
 
@@ -102,6 +103,9 @@ add-depth c =
 
 count-requires : tie.Need-count-requires Inv-loop μ-loop
 count-requires c κs = search needs
+
+cast-left : tie.Need-cast-left Inv-loop μ-loop
+cast-left c = omega (arith, c .count .ensures, ones-few (c .before .before .read .result))
 
 loop-less-2 : tie.Need-loop-less-2 Inv-loop μ-loop
 loop-less-2 c =
@@ -264,6 +268,7 @@ measure-levels-spec =
     array-write-due
     add-depth
     count-requires
+    cast-left
     loop-less-2
     loop-again-2
     loop-less-3
