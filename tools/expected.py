@@ -1,17 +1,19 @@
 #!/usr/bin/env python3
-"""Makes what the programs `examples`, `families` and `leftovers` must write, by a second implementation of document 01
-and of the requests to it.
+"""Makes what the programs `examples`, `families`, `leftovers` and `desk` must write, by a second implementation of
+document 01 and of the requests to it.
 
   python3 tools/expected.py examples > crates/examples/stdout
   python3 tools/expected.py families > crates/families/stdout
   python3 tools/expected.py long-input > crates/leftovers/stdin
   python3 tools/expected.py leftovers > crates/leftovers/stdout
+  python3 tools/expected.py desk < examples/bench.step
 
 The cases of `examples` stand in crates/examples/stdin; crates/examples/src/cases.rt says how a line is
 written. The calls below are a second reading of document 01's sentences. They share no code with the
 crates, but they were written with the crates' code in view, so they are no blind second opinion. Values
 worked out by hand stand in the functions whose names end in `by_hand`, which run first.
 """
+import re
 import sys
 from dataclasses import dataclass, field
 from itertools import combinations, product
@@ -621,6 +623,293 @@ def printed(data):
     return f"leftovers {entries}\n" + "".join(lines)
 
 
+# ---------------------------------------------------------------- texts in the engineers' own words
+
+
+MOST_KINDS, MOST_WORDS, MOST_PLACES, MOST_NAMES = 16, 96, 8, 64
+LONGEST_NAME = 32
+LONGEST_TEXT = 65535
+LISTING_SPACE = 65536
+PAGE = 1048576
+
+# "Tab, line feed, carriage return and space", and a # up to the end of its line. A token is a name, a ? with or without a
+# name behind it, or one other byte; the last one of a text is empty.
+NAMES = rb"A-Za-z0-9_\-\x80-\xff"
+BLANKS = re.compile(rb"(?:[ \t\n\r]|#[^\n]*)*")
+TOKEN = re.compile(rb"[?" + NAMES + rb"][" + NAMES + rb"]*|.|\Z", re.DOTALL)
+IDENTIFIER = re.compile(rb"(?!(?:_|kind)\Z)[" + NAMES + rb"]+\Z")
+VARIABLE = re.compile(rb"\?[" + NAMES + rb"]+\Z")
+
+LONG_NAME = b"32 bytes are the most for a name, and this one has more"
+NO_KIND = b"the name of a kind is due here"
+
+# What an answer has beside patterns and entries.
+LEFTOVERS, END_OF_LEFTOVERS, END_OF_PATTERNS = b"# %d leftovers:", b"# end of %d leftovers", b"# end of %d patterns"
+NOT_LISTED = b"leftovers not listed, as the list has %d bytes and 65536 are the most"
+TOO_LONG = b"the answer has more than 1048576 bytes, which are the most: ask for fewer patterns at a time\n"
+
+
+class Faulty(Exception):
+    """A fault of a text: what is wrong, and the offset at which it stands."""
+
+    def __init__(self, why, at):
+        super().__init__(why, at)
+        self.why, self.at = why, at
+
+
+@dataclass
+class Phrase:
+    """A pattern of a text. Its variables are numbered as they stand; without a label this is empty."""
+
+    label: bytes
+    kind: int
+    tree: Written
+    variables: list
+
+
+class Text:
+    """A text in order: the names of its kinds and words, the vocabulary, where the patterns begin, and the patterns; Faulty
+    where it is none."""
+
+    def __init__(self, data):
+        if len(data) > LONGEST_TEXT:
+            raise Faulty(b"65535 bytes are the most for a text, and this one has more", LONGEST_TEXT)
+        self.lexemes, at = [], 0
+        while not self.lexemes or self.token(-1) != b"":
+            start = BLANKS.match(data, at).end()
+            at = TOKEN.match(data, start).end()
+            self.lexemes.append((data[start:at], start))
+        self.kinds, self.words, self.records = [], [], []
+        # "The names of the kinds come first, since a kind may be used before it is declared."
+        for self.next in range(1, len(self.lexemes)):
+            if self.token(self.next - 1) == b"kind":
+                self.kinds.append(self.new_name("kind", self.kinds, MOST_KINDS, b"a name is due here, for the kind"))
+        self.next = 0
+        self.declarations()
+        self.start = self.lexemes[self.next][1]
+        self.vocabulary = Vocabulary(len(self.kinds), self.records, kinds_with_situations(self.records))
+        self.phrases = []
+        while self.token() != b"":
+            self.phrases.append(self.phrase())
+
+    def token(self, number=None):
+        """A token, or the next one."""
+        return self.lexemes[self.next if number is None else number][0]
+
+    def fault(self, why):
+        raise Faulty(why, self.lexemes[self.next][1])
+
+    def taken(self, mark):
+        """Whether the next token is such a mark, which is then behind us."""
+        found = self.token() == mark
+        self.next += found
+        return found
+
+    # ---- kinds and words
+
+    def new_name(self, what, others, most, due):
+        """The next token as the name of one more kind or word."""
+        name, what = self.token(), what.encode()
+        if not IDENTIFIER.match(name):
+            self.fault(due)
+        if len(name) > LONGEST_NAME:
+            self.fault(LONG_NAME)
+        if name in others:
+            self.fault(b"%b %b is declared twice" % (what, name))
+        if len(others) == most:
+            self.fault(b"%d %bs are the most, and this is one more" % (most, what))
+        return name
+
+    def declarations(self):
+        if self.token() != b"kind":
+            self.fault(b"`kind` is due here, as a text begins with its kinds")
+        kind = 0
+        while self.taken(b"kind"):
+            self.next += 1
+            mark = b"="
+            while self.taken(mark):
+                self.word(kind)
+                mark = b"|"
+            kind += 1
+        if not self.words:
+            self.fault(b"no kind has a word")
+
+    def word(self, kind):
+        """A word with the kinds of its places."""
+        self.words.append(self.new_name("word", self.words, MOST_WORDS, b"a name is due here, for a word"))
+        self.next += 1
+        places = {}
+        if self.taken(b"("):
+            places[0] = self.place(0)
+            while not self.taken(b")"):
+                if not self.taken(b","):
+                    self.fault(b"a , or a ) is due here")
+                places[len(places)] = self.place(len(places))
+        self.records.append(Word(kind, places))
+
+    def place(self, number):
+        kind = self.known_kind()
+        if number == MOST_PLACES:
+            self.fault(b"8 places are the most, and this is one more")
+        self.next += 1
+        return kind
+
+    def known_kind(self):
+        """The number of the kind that the next token names."""
+        if not IDENTIFIER.match(self.token()):
+            self.fault(NO_KIND)
+        if self.token() not in self.kinds:
+            self.fault(b"kind %b is used and not declared" % self.token())
+        return self.kinds.index(self.token())
+
+    # ---- patterns
+
+    def phrase(self):
+        label = b""
+        if IDENTIFIER.match(self.token()) and self.token(self.next + 1) == b":":
+            label = self.token()
+            if len(label) > LONGEST_NAME:
+                self.fault(LONG_NAME)
+            self.next += 2
+        # The kind takes a byte.
+        self.size, self.variables = 1, []
+        token = self.token()
+        if token == b"_" or VARIABLE.match(token):
+            tree = self.term(None, 1) or Anything()
+            if not self.taken(b":"):
+                self.fault(b"a : and a kind are due here, as in _: step")
+            kind = self.known_kind()
+            self.next += 1
+        elif IDENTIFIER.match(token):
+            kind = self.records[self.words.index(token)].result if token in self.words else None
+            tree = self.term(kind, 1)
+        else:
+            self.fault(b"a pattern is due here")
+        return Phrase(label, kind, tree, self.variables)
+
+    def term(self, kind, level):
+        """A term of a kind; None for an open place."""
+        token = self.token()
+        if self.taken(b"_"):
+            return None
+        if VARIABLE.match(token):
+            return self.variable(level)
+        if not IDENTIFIER.match(token):
+            self.fault(self.due(kind))
+        if token not in self.words:
+            self.fault(b"no word %b in this vocabulary" % token)
+        node = Node(self.words.index(token))
+        if self.records[node.word].result != kind:
+            self.fault(self.due(kind))
+        self.not_too_deep(level)
+        self.not_too_long(2)
+        self.next += 1
+        places = self.records[node.word].places
+        for bit, below in places.items():
+            self.mark_of(node.word, b"," if bit else b"(")
+            term = self.term(below, level + 1)
+            if term is not None:
+                node.written[bit] = term
+        if places:
+            self.mark_of(node.word, b")")
+        return node
+
+    def variable(self, level):
+        token = self.token()
+        if len(token) > 1 + LONGEST_NAME:
+            self.fault(LONG_NAME)
+        if token in self.variables:
+            self.fault(b"%b stands twice in this pattern" % token)
+        self.not_too_deep(level)
+        if len(self.variables) == MOST_NAMES:
+            self.fault(b"64 names are the most in a pattern, and this is one more")
+        self.not_too_long(1)
+        self.next += 1
+        self.variables.append(token)
+        return Name(len(self.variables) - 1)
+
+    def not_too_deep(self, level):
+        if level > DEEPEST_LEVEL:
+            self.fault(b"32 levels are the most, and this is one more")
+
+    def not_too_long(self, more):
+        if self.size + more > MOST_BYTES:
+            self.fault(b"4096 bytes are the most for a pattern, and this one has more")
+        self.size += more
+
+    def mark_of(self, word, mark):
+        """A mark that a word's places need."""
+        if not self.taken(mark):
+            written = {b",": b"and no , is due here", b")": b"and no ) is due here"}.get(self.token(), b"in ( and ) with a , between them")
+            self.fault(b"%b takes %d places, %b" % (self.words[word], len(self.records[word].places), written))
+
+    def due(self, kind):
+        words = b" or ".join(name for name, word in zip(self.words, self.records) if word.result == kind)
+        return self.kinds[kind] + b" is due here" + (b": " + words if words else b"")
+
+    # ---- leftovers
+
+    def in_words(self, kind, tree, variables):
+        """A pattern or an entry in words."""
+
+        def said(tree):
+            if tree is None:
+                return b"_"
+            if isinstance(tree, Name):
+                return variables[tree.number]
+            places = [said(tree.written.get(bit)) for bit in self.records[tree.word].places]
+            return self.words[tree.word] + (b"(%b)" % b", ".join(places) if places else b"")
+
+        if isinstance(tree, Node):
+            return said(tree)
+        return (b"_" if isinstance(tree, Anything) else said(tree)) + b": " + self.kinds[kind]
+
+    def entries(self, phrase):
+        return listing(self.vocabulary, phrase.kind, phrase.tree)
+
+    def answer_to(self, phrase):
+        """The pattern as it was read, and its leftovers."""
+        number = size = 0
+        for entry in self.entries(phrase):
+            number, size = number + 1, size + len(entry)
+        yield b"# " + (phrase.label + b": " if phrase.label else b"") + self.in_words(phrase.kind, phrase.tree, phrase.variables)
+        if size > LISTING_SPACE:
+            yield NOT_LISTED % size
+        else:
+            yield LEFTOVERS % number
+            for entry in self.entries(phrase):
+                yield self.in_words(*read_term(self.vocabulary, entry), phrase.variables)
+            yield END_OF_LEFTOVERS % number
+        yield b""
+
+    def answer(self):
+        for phrase in self.phrases:
+            yield from self.answer_to(phrase)
+        yield END_OF_PATTERNS % len(self.phrases)
+
+
+def complaint(data, fault):
+    """Line, column and reason, the line, and a mark under the place."""
+    before = data[: fault.at]
+    start = before.rfind(b"\n") + 1
+    end = data.find(b"\n", start)
+    # Bytes 128 to 191 go on with a character.
+    passed = [byte for byte in before[start:] if not 128 <= byte <= 191]
+    yield b"line %d, column %d: %b" % (before.count(b"\n") + 1, len(passed) + 1, fault.why)
+    yield re.sub(rb"[^\t -~\x80-\xff]", b"?", data[start : len(data) if end < 0 else end])
+    yield b"".join(b"\t" if byte == 9 else b" " for byte in passed) + b"^"
+
+
+def desk(data):
+    """What the program `desk` prints for a text."""
+    try:
+        lines = Text(data).answer()
+    except Faulty as fault:
+        lines = complaint(data, fault)
+    text = b"".join(line + b"\n" for line in lines)
+    return text if len(text) <= PAGE else TOO_LONG
+
+
 # ---------------------------------------------------------------- the cases of `examples`
 
 
@@ -789,8 +1078,41 @@ def reply_to_digest(vocabulary, data):
     return f"{len(text)} bytes, sum {sum_of(text)}"
 
 
+def reply_to_answer(vocabulary, data):
+    leftovers_come_back(data)
+    return desk(data).decode().removesuffix("\n")
+
+
+def reply_to_gauge(vocabulary, data):
+    leftovers_come_back(data)
+    text = desk(data)
+    return f"{len(text)} bytes, sum {sum_of(text)}"
+
+
+def leftovers_come_back(data):
+    """The answer for a text in order, behind the text's kinds, is a text whose patterns are the leftovers, in their order."""
+    try:
+        text = Text(data)
+    except Faulty:
+        return
+    answer = desk(data)
+    if answer == TOO_LONG or text.start + len(answer) > LONGEST_TEXT:
+        return
+    listings = [list(text.entries(phrase)) for phrase in text.phrases]
+    if all(sum(map(len, entries)) <= LISTING_SPACE for entries in listings):
+        read = [bytes([phrase.kind]) + writing(phrase.tree) for phrase in Text(data[: text.start] + answer).phrases]
+        assert read == [entry for entries in listings for entry in entries]
+
+
 # What tells the reply to a line, by its first word; the later ones take the number before the label.
-PLAIN = {"vocabulary": reply_to_vocabulary, "term": reply_to_term, "report": reply_to_report, "digest": reply_to_digest}
+PLAIN = {
+    "vocabulary": reply_to_vocabulary,
+    "term": reply_to_term,
+    "report": reply_to_report,
+    "digest": reply_to_digest,
+    "answer": reply_to_answer,
+    "gauge": reply_to_gauge,
+}
 NUMBERED = {
     "match": reply_to_match,
     "part": reply_to_part,
@@ -1479,6 +1801,141 @@ def printed_by_hand():
     assert printed(LONG_INPUT) == "leftovers 15\n" + "".join(f"{i} {front}{5 + i:02x}00\n" for i in range(1, 16))
 
 
+def desk_by_hand():
+    """The answers for the files of examples/, and faults with line, column and mark counted on paper."""
+    steps = Path(__file__).parent.parent / "examples"
+
+    def lines(*given):
+        return "".join(line + "\n" for line in given)
+
+    def file(name):
+        return desk((steps / name).read_bytes()).decode()
+
+    def told(*given):
+        """The answer for the lines of a text."""
+        return desk("\n".join(given).encode()).decode()
+
+    def block(head, *entries):
+        """The lines for a pattern."""
+        return lines(f"# {head}", f"# {len(entries)} leftovers:", *entries, f"# end of {len(entries)} leftovers", "")
+
+    def whole(*blocks):
+        return "".join(blocks) + f"# end of {len(blocks)} patterns\n"
+
+    kinds = ("kind step = wait(button, queue) | done", "kind button = up | down", "kind queue = free | full")
+    bench = ("# 3 leftovers:", "done", "wait(down, _)", "wait(up, full)", "# end of 3 leftovers", "", "# end of 1 patterns")
+    assert file("bench.step") == told(*kinds, "go: wait(up, free)", "") == lines("# go: wait(up, free)", *bench)
+    # The words print(.) and jammed(.) have no situations, and so wait(., jammed(.)) fits none.
+    assert file("no-printer.step") == whole(
+        block("go: wait(up, free)", "done", "wait(down, _)", "wait(held(_), _)", "wait(up, full)"),
+        block("release: wait(held(green), free)", "done", "wait(up, _)", "wait(down, _)", "wait(held(red), _)", "wait(held(green), full)"),
+        block("jam: wait(_, jammed(_))", "_: step"),
+        block("_: queue"),
+    )
+    # Lower places as in the pattern, ?colour with them, and higher ones open.
+    seen = "watch(eye(lit(?colour), clear), "
+    below = ("watch(covered, _)", "watch(eye(dark, _), _)", "watch(eye(lit(?colour), dim), _)", f"{seen}empty)", f"{seen}holds(used))")
+    assert file("eye.step") == whole(block(f"measure: {seen}holds(fresh))", "rinse(_)", "done", *below))
+    # Blanks and comments change nothing; the pattern is printed with a space behind each comma and colon.
+    assert told("kind a=b(a,a)|c#", "go :b (c,#)", "\t_ ) ?n:\ta") == whole(block("go: b(c, _)", "c", "b(b(_, _), _)"), block("?n: a"))
+    assert told(*kinds) == whole()
+
+    # The fourth line has u at 10 behind `go: wait(`, the comma at 12 and the second place at 14.
+    def fault(place, why, line, *more):
+        """Asserts what is said of the pattern line of a text, with the mark so many columns behind the line's front."""
+        assert told(*kinds, line, *more) == f"line 4, column {place + 1}: {why}\n{line}\n{' ' * place}^\n"
+
+    fault(13, "queue is due here: free or full", "go: wait(up, up)", "go: wait(free, up)")
+    fault(13, "queue is due here: free or full", "go: wait(up, )")
+    fault(9, "button is due here: up or down", "go: wait(free, up)")
+    fault(9, "button is due here: up or down", "go: wait(?, up)")
+    fault(9, "no word held in this vocabulary", "go: wait(held, free)")
+    fault(4, "no word held in this vocabulary", "go: held(up)")
+    fault(0, "no word go in this vocabulary", "go wait(up, free)")
+    fault(17, "wait takes 2 places, and no , is due here", "go: wait(up, free, full)")
+    fault(11, "wait takes 2 places, and no ) is due here", "go: wait(up)")
+    fault(12, "wait takes 2 places, in ( and ) with a , between them", "go: wait(up free)")
+    fault(18, "wait takes 2 places, in ( and ) with a , between them", "go: wait(up, free ")
+    fault(9, "?n stands twice in this pattern", "wait(?n, ?n)")
+    fault(2, "a : and a kind are due here, as in _: step", "_ step")
+    fault(3, "kind lamp is used and not declared", "_: lamp")
+    fault(4, "the name of a kind is due here", "?n: ?m")
+    fault(4, "a pattern is due here", "done() wait(up, free)")
+    fault(5, "a pattern is due here", "done kind lamp = red", "done")
+    fault(13, "a name is due here, for the kind", "wait(up, kind)")
+    # At the end of the text, which may be a line of its own.
+    assert told(*kinds, "go:", "") == "line 5, column 1: a pattern is due here\n\n^\n"
+    assert told("") == "line 1, column 1: `kind` is due here, as a text begins with its kinds\n\n^\n"
+    # A name is the second thing behind `kind `, and a word that behind ` = `.
+    assert told("# none", "step = done") == "line 2, column 1: `kind` is due here, as a text begins with its kinds\nstep = done\n^\n"
+    assert told("kind = done") == "line 1, column 6: a name is due here, for the kind\nkind = done\n     ^\n"
+    assert told("kind a = ") == "line 1, column 10: a name is due here, for a word\nkind a = \n         ^\n"
+    assert told("kind a = b", " kind a") == "line 2, column 7: kind a is declared twice\n kind a\n      ^\n"
+    assert told("kind a = b | b") == "line 1, column 14: word b is declared twice\nkind a = b | b\n             ^\n"
+    assert told("kind a", "") == "line 2, column 1: no kind has a word\n\n^\n"
+    assert told("kind a = b(lamp)") == "line 1, column 12: kind lamp is used and not declared\nkind a = b(lamp)\n           ^\n"
+    assert told("kind a = b()") == "line 1, column 12: the name of a kind is due here\nkind a = b()\n           ^\n"
+    assert told("kind a = b(a a)") == "line 1, column 14: a , or a ) is due here\nkind a = b(a a)\n             ^\n"
+    # The names of kinds are read before all else.
+    assert told("kind a = ", "kind a") == "line 2, column 6: kind a is declared twice\nkind a\n     ^\n"
+    # A character beyond ASCII is one column, and so is a tab, which stays one below; a carriage return is shown as ?.
+    assert told("kind ä = ö", "\tö ü(ö)\r") == "line 2, column 4: no word ü in this vocabulary\n\tö ü(ö)?\n\t  ^\n"
+    assert desk(b"kind a = b\n\0") == b"line 2, column 1: a pattern is due here\n?\n^\n"
+
+    # Limits met, and passed by one: names of 32 bytes, 16 kinds, 96 words, 8 places, 64 names and 32 levels.
+    name, nothing, one_more = "n" * 32, whole(), "are the most, and this is one more"
+    assert told(f"kind {name} = {name}") == nothing
+    for line, at in [(f"kind {name}n", 6), (f"kind a = {name}n", 10), (f"kind a = b {name}n: b", 12), (f"kind a = b ?{name}n: a", 12)]:
+        mark = " " * (at - 1) + "^"
+        assert told(line) == lines(f"line 1, column {at}: 32 bytes are the most for a name, and this one has more", line, mark)
+    many = [f"kind k{n:02} = w{n:02}" for n in range(17)]
+    assert told(*many[:16]) == nothing
+    assert told(*many) == lines(f"line 17, column 6: 16 kinds {one_more}", "kind k16 = w16", "     ^")
+    many = "kind a = " + " | ".join(f"w{n:02}" for n in range(97))
+    assert told(many[:-6]) == nothing
+    assert told(many) == lines(f"line 1, column {10 + 6 * 96}: 96 words {one_more}", many, " " * (9 + 6 * 96) + "^")
+    assert told(f"kind a = b(a{',a' * 7})") == nothing
+    many = f"kind a = b(a{',a' * 8})"
+    assert told(many) == lines(f"line 1, column 28: 8 places {one_more}", many, " " * 27 + "^")
+    # Eight words of eight variables each; `(` or a comma and ?nn are four bytes, w two more at the front and ) one behind.
+    deep = ("kind a = w(a, a, a, a, a, a, a, a) | b(a) | c",)
+    eights = [f"w({','.join(f'?{8 * n + i:02}' for i in range(8))})" for n in range(8)]
+    assert told(*deep, f"w({','.join(eights)})").startswith("# w(w(?00, ")
+    many = f"w({','.join(eights[:7])},w({','.join(['b(?56)', *(f'?{n}' for n in range(57, 63)), 'w(?63,?64,_,_,_,_,_,_)'])}))"
+    at = 2 + 7 * 35 + 2 + 7 + 6 * 4 + 2 + 4
+    assert told(*deep, many) == lines(f"line 2, column {at + 1}: 64 names are the most in a pattern, and this is one more", many, " " * at + "^")
+    for end in ("c", "?n"):
+        assert told(*deep, "b(" * 31 + end + ")" * 31).startswith("# b(b(")
+        many = "b(" * 32 + end + ")" * 32
+        assert told(*deep, many) == lines(f"line 2, column 65: 32 levels {one_more}", many, " " * 64 + "^")
+    assert told(*deep, "b(" * 32 + "_" + ")" * 32).startswith("# b(b(")
+    # The full tree of 11 levels has 1,023 times `p(`, `,` and `)` and 1,024 leaves, the last before ten times `)`.
+    pairs, pair = ("kind a = b | c | p(a, a)",), "b"
+    for _ in range(10):
+        pair = f"p({pair},{pair})"
+    assert len(pair) == 1023 * 4 + 1024 == 5105 + 1 + 10
+    # 4,095 bytes, and 4,096 with p(?n, _) for the last leaf: not refused. A word more has 4,097, and so has a variable.
+    list_size = 2 * (2047 * 2047 + 2 * 2047)
+    assert f"\nleftovers not listed, as the list has {list_size} bytes and 65536 are the most\n\n# p" in told(*pairs, pair, pair)
+    assert told(*pairs, pair[:5105] + "p(?n,_)" + ")" * 10).startswith("# p(p(")
+    for leaf, at in [("p(b,_)", 5107), ("p(?n,?m)", 5110)]:
+        many = pair[:5105] + leaf + ")" * 10
+        why = "4096 bytes are the most for a pattern, and this one has more"
+        assert told(*pairs, many) == lines(f"line 2, column {at + 1}: {why}", many, " " * at + "^")
+    # 96 words of 32 bytes: the pattern's line 35, 16 and 22 before and behind 95 entries of 33, and an empty line. 326 such
+    # patterns and the last line of 22 lack 2,420: 71 labels of 32 bytes with colon and space, and one of 4.
+    names = [f"{n:032}" for n in range(96)]
+    words = "kind a = " + " | ".join(names)
+    assert len(told(words, names[0])) == 35 + 16 + 95 * 33 + 22 + 1 + len("# end of 1 patterns\n")
+    full = [*[f"{name}: {names[95]}"] * 71, *[names[95]] * 254]
+    assert len(told(words, *full, f"abcd: {names[95]}")) == 326 * 3209 + 22 + 71 * 34 + 6 == 1048576
+    too_long = "the answer has more than 1048576 bytes, which are the most: ask for fewer patterns at a time\n"
+    assert told(words, *full, f"abcde: {names[95]}") == too_long
+    # A text may have 65,535 bytes. Byte 65,535 is the 65,526th end of a line here, which is that of line 65,526.
+    assert told("kind a = b" + "\n" * 65525) == nothing
+    assert told("kind a = b" + "\n" * 65526) == "line 65526, column 1: 65535 bytes are the most for a text, and this one has more\n\n^\n"
+
+
 FULL_TREE = "00 02 03 [1,18] 00 00 [21,2] [19,6] [17,14] [15,30] [13,62] [11,126] [9,254] [7,510] [5,1022] [3,2046]"
 
 FULL_FILLING = "02 03 [8,18] 00 00 [28,2] [26,6] [24,14] [22,30] [20,62] [18,126] [16,254] [14,510] [12,1022] [10,2046]"
@@ -1492,8 +1949,9 @@ def main():
         "leftovers": lambda: printed((crates / "leftovers" / "stdin").read_bytes()).splitlines(),
     }
     wanted = sys.argv[1] if len(sys.argv) > 1 else None
-    if wanted != "long-input" and wanted not in programs:
-        print("usage: python3 tools/expected.py examples | families | long-input | leftovers", file=sys.stderr)
+    others = {"long-input": lambda: LONG_INPUT, "desk": lambda: desk(sys.stdin.buffer.read())}
+    if wanted not in programs and wanted not in others:
+        print("usage: python3 tools/expected.py examples | families | long-input | leftovers | desk", file=sys.stderr)
         sys.exit(2)
     by_hand()
     gaps_by_hand()
@@ -1503,14 +1961,15 @@ def main():
     booked_by_hand()
     empty_kinds_by_hand()
     printed_by_hand()
+    desk_by_hand()
     listings_divide()
     books_divide()
     empty_kinds_divide()
-    if wanted == "long-input":
-        sys.stdout.buffer.write(LONG_INPUT)
+    if wanted in others:
+        sys.stdout.buffer.write(others[wanted]())
         return
     lines = list(programs[wanted]())
-    sys.stdout.write("".join(line + "\n" for line in lines))
+    sys.stdout.buffer.write("".join(line + "\n" for line in lines).encode())
 
 
 if __name__ == "__main__":

@@ -14,8 +14,11 @@
 //   write LENGTH LABEL: PATTERN / FILLING         fill, into so many bytes; tells them
 //   report LABEL: INPUT                           the text of the program `leftovers`
 //   digest LABEL: INPUT                           the same; tells its length and a sum of its bytes
+//   answer LABEL: TEXT                            the answer of the program `desk`
+//   gauge LABEL: TEXT                             the same; tells its length and a sum of its bytes
 //
 // A line is printed up to its colon, and then the reply. Every other line is passed over.
+use crate::desk_line;
 use crate::match_line;
 use crate::notation;
 use crate::report_line;
@@ -123,6 +126,10 @@ fn call(key: u8, number: usize, vocabulary: &[u8], one: &[u8], other: &[u8]) {
     }
     if of_report(key) {
         report_line::printed(key, one);
+        return;
+    }
+    if desk_line::asked(key) {
+        desk_line::answered(key, one);
         return;
     }
     slice_line::called(key, vocabulary, one, other, number);

@@ -2,6 +2,7 @@
 // reply in document 01's numbers. The file `stdin` beside src/ has the cases; tools/expected.py says what they give.
 mod book_line;
 mod cases;
+mod desk_line;
 mod lent;
 mod match_line;
 mod notation;

@@ -3,9 +3,17 @@ use crate::notation;
 use crate::say;
 use crate::slice_line;
 
-// Tells the whole text, or its length and a sum of its bytes.
-fn told(key: u8, text: &[u8]) {
+// Whether a line asks for a text's length and sum.
+fn brief(key: u8) -> bool {
     if key == b'd' {
+        return true;
+    }
+    key == b'g'
+}
+
+// Tells the whole text, or its length and a sum of its bytes.
+pub(crate) fn told(key: u8, text: &[u8]) {
+    if brief(key) {
         say::count(text.len(), say::BYTES);
         say::count(slice_line::sum(text), say::END);
         return;

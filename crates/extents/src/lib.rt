@@ -3,7 +3,7 @@ ghost use mathlib.Core.Path.{_≡_};
 ghost use Prim.Native.Nat.{_+_, _<_, _≤_, min};
 ghost use lib.Count.{ones};
 ghost use lib.ListN.{length, drop};
-ghost use Rattle.wire.specs.EntryCut.{dueSize};
+ghost use Rattle.wire.specs.EntryCut.{dueSize, entrySize};
 ghost use Rattle.maps.specs.Reading.{mapAt};
 ghost use Rattle.extents.specs.Bytes.{termByte, Small};
 ghost use Rattle.extents.specs.Extents.{termSize};
@@ -128,4 +128,14 @@ pub fn term_size(bytes: &[u8]) -> usize
 {
     let end = least(bytes.len(), 65536);
     front_size(&bytes[..end])
+}
+
+// How many bytes the entry at the front of a listing takes: its kind, and the term behind it.
+pub fn entry_size(listing: &[u8]) -> usize
+    ensures { λ r. ⌜ r ≡ entrySize (now (listing .entry)) ⌝ }
+{
+    if listing.len() == 0 {
+        return 0;
+    }
+    1 + front_size(&listing[1..])
 }

@@ -1,15 +1,13 @@
 // Document 01's program `leftovers`: takes the first 65,536 bytes of standard input, and prints the text for them.
 // An input that cannot be read, or a text that cannot be written whole, is told in a line on the error output.
-mod input;
-
-use input::Taken;
+use intake::Taken;
 use libc::STDERR_FILENO;
 use libc::STDIN_FILENO;
 use libc::STDOUT_FILENO;
 
 fn main() {
     let mut bytes = io::large_buffer();
-    let Taken::Bytes(n) = input::take(STDIN_FILENO, &mut bytes) else {
+    let Taken::Bytes(n) = intake::take(STDIN_FILENO, &mut bytes) else {
         io::write_all(STDERR_FILENO, b"leftovers: the input could not be read\n");
         return;
     };

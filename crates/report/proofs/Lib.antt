@@ -1,8 +1,6 @@
 -- The laws behind the proofs of report. Bytes put into a text, and numbers as text.
 pub mod Putting
 pub mod Digits
--- Where an entry of the listing ends.
-pub mod Sized
 -- The lines, and the whole text: it is the one that is printed, and it has room.
 pub mod Lines
 pub mod Replies

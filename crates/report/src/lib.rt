@@ -6,7 +6,7 @@ ghost use lib.ListN.{length, take};
 ghost use Rattle.wire.specs.Text.{decimal, hexadecimal};
 ghost use Rattle.wire.specs.Printing.{entryLines, refusalText, entryLine};
 ghost use Rattle.wire.specs.PrintComputed.{printedFrom, printed};
-ghost use Rattle.wire.specs.EntryCut.{entrySize, cutEntries};
+ghost use Rattle.wire.specs.EntryCut.{cutEntries};
 ghost use Rattle.complement.specs.Answers.{listNumbers};
 ghost use Rattle.report.specs.Prints.{Prints};
 ghost use Rattle.report.specs.Putting.{Put, cutText, answerText, TextFits};
@@ -65,17 +65,6 @@ fn put_line(number: u64, entry: &[u8], text: &mut [u8], at: usize) -> usize
     put(b"\n", text, written)
 }
 
-// How many bytes the entry at the front of a listing has: its kind, and the term behind it.
-fn entry_size(listing: &[u8]) -> usize
-    requires { ⌜ length (now listing) ≤ 65536 ⌝ }
-    ensures { λ r. ⌜ r ≡ entrySize (now (listing .entry)) ⌝ }
-{
-    if listing.len() == 0 {
-        return 0;
-    }
-    1 + extents::term_size(&listing[1..])
-}
-
 // Puts a line for each of the n entries that stand at the front of a listing.
 fn put_lines(listing: &[u8], n: u64, text: &mut [u8], at: usize) -> usize
     requires { ⌜ length (now listing) ≤ 65536 ⌝ }
@@ -86,7 +75,7 @@ fn put_lines(listing: &[u8], n: u64, text: &mut [u8], at: usize) -> usize
     let mut from = 0;
     let mut next = at;
     while i < n {
-        let to = from + entry_size(&listing[from..]);
+        let to = from + extents::entry_size(&listing[from..]);
         next = put_line(i + 1, &listing[from..to], text, next);
         from = to;
         i += 1;

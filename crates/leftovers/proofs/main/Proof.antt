@@ -2,7 +2,7 @@
 use borrow.Author.Needs.{needs}
 use mathlib.Core.Path.{subst}
 use native.Mathlib.Omega.{arith}
-use Rattle.leftovers.specs.Input.{Within}
+use Rattle.intake.specs.Input.{Within}
 use Rattle.leftovers.proofs.main.Statement.{statement}
 use Rattle.leftovers.proofs.main.Tie as tie
 

@@ -3,7 +3,6 @@ use borrow.Author.Needs.{needs}
 use Prim.Native.Nat.{_-_}
 use native.Mathlib.Omega.{arith}
 use denote.Ref.{now}
-use Rattle.pieces.proofs.Parts.{part-length}
 use Rattle.report.proofs.Lines.{Lines, lines-none, lines-length, lines-all, entry-inside, line-room, lines-turn}
 use Rattle.report.proofs.put_lines.Statement.{statement}
 use Rattle.report.proofs.put_lines.Tie as tie
@@ -27,9 +26,7 @@ part-entry-size-end : tie.Need-part-entry-size-end Inv-loop μ-loop
 part-entry-size-end c = search needs
 
 entry-size-requires : tie.Need-entry-size-requires Inv-loop μ-loop
-entry-size-requires c κs =
-    let start = c .before .before .before .before .before in
-    let k = start .pre .0 in omega (arith, part-length (c .before .before .loop .from) (now (start .args .listing)))
+entry-size-requires c κs = search needs
 
 add-to : tie.Need-add-to Inv-loop μ-loop
 add-to c =

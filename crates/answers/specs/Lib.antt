@@ -1,0 +1,2 @@
+-- What the contracts of answers cite beside the promise in texts.
+pub mod Asked

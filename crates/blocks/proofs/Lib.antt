@@ -1,0 +1,2 @@
+-- The laws behind the proofs of blocks.
+pub mod Blocks

@@ -1,0 +1,1 @@
+-- What the contracts of blocks cite is in texts and pages.

@@ -1,0 +1,2 @@
+-- What reading terms in words promises.
+pub mod Reading

@@ -1,0 +1,30 @@
+-- Putting: pieces are put one behind the other, turn by turn.
+--
+--   Left a i b j rest whole     with the rest put behind what page b holds, the whole is put behind what page a held
+--   left-all, left-turn, left-end      the beginning, a turn and the end of a loop that puts pieces
+--   row-turn                    the next byte of a row
+--
+use mathlib.Core.Path.{_≡_, sym, ap}
+use mathlib.Core.List.{List, [], _++_}
+use Prim.Native.Nat.{ℕ, _+_, _<_}
+use lib.ListN.{length, getD, drop}
+use Rattle.wire.specs.Row.{writeRow}
+use Rattle.pages.specs.Pages.{Adds}
+use Rattle.pages.proofs.Pages.{adds-nothing, adds-is, adds-then}
+use Rattle.lexer.proofs.Turns.{here}
+
+abbrev pub Left : List ℕ → ℕ → List ℕ → ℕ → List ℕ → List ℕ → Type 0
+Left a i b j rest whole = (c : List ℕ) (k : ℕ) → Adds b j c k rest → Adds a i c k whole
+
+pub left-all : (a : List ℕ) (i : ℕ) {x whole : List ℕ} → x ≡ whole → Left a i a i x whole
+left-all a i e c k h = adds-is e h
+
+module _ {a : List ℕ} {i : ℕ} {b : List ℕ} {j : ℕ} {x whole : List ℕ} (left : Left a i b j x whole) where
+  pub left-turn : {c : List ℕ} {k : ℕ} {piece rest : List ℕ} → x ≡ piece ++ rest → Adds b j c k piece → Left a i c k rest whole
+  left-turn e h d m l = left d m (adds-is (sym e) (adds-then h l))
+
+  pub left-end : x ≡ [] → Adds a i b j whole
+  left-end e = left b j (adds-is (sym e) (adds-nothing b j))
+
+pub row-turn : (write : ℕ → List ℕ) (l : List ℕ) (i : ℕ) → i < length l → writeRow write (drop i l) ≡ write (getD l i 0) ++ writeRow write (drop (i + 1) l)
+row-turn write l i h = ap (writeRow write) (here l i h)

@@ -1,0 +1,2 @@
+-- What the contracts of writing a vocabulary's bytes cite.
+pub mod Encoded

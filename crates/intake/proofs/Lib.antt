@@ -1,0 +1,1 @@
+-- Nothing is needed beside the proof of each function.

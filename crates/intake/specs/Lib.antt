@@ -1,0 +1,2 @@
+-- What the contract of taking an input cites.
+pub mod Input

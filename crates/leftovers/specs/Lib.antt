@@ -1,2 +1,0 @@
--- What the contract of taking the input cites.
-pub mod Input

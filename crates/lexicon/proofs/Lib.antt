@@ -1,0 +1,8 @@
+-- What the proofs of the functions rest on.
+pub mod Whys
+pub mod Fronts
+pub mod Names
+pub mod Rows
+pub mod Steps
+pub mod Begun
+pub mod Reading

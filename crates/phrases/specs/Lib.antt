@@ -1,0 +1,2 @@
+-- What reading patterns in words promises.
+pub mod Phrases

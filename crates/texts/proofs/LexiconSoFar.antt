@@ -1,0 +1,377 @@
+-- LexiconSoFar: what was read of a vocabulary without a fault is the beginning of a sound one.
+--
+--   KindsLeft, WordsLeft, PlacesLeft, PlaceLeft     what some tokens stand for, by what may come next, behind the words N; Ks are the kinds
+--   Outcome p Ks N us           one of these, by the phase
+--   no-words, no-places         nothing of a thing
+--   one-place, one-word, one-kind      one thing more
+--   bare Ks                     kinds without words
+--   new-word                    a word more, and the kinds that are left without words
+--   new-kind                    a kind with such a word
+--   complete                    what may follow at once, by the phase
+--   coming p us                 the names of kinds that follow in the phase p
+--   follow, so-far              what may follow tokens that were read
+--
+use mathlib.Core.Path.{_≡_, refl, sym, _∙_, ap, subst}
+use mathlib.Core.Bool.{Bool, true, false, cond}
+use mathlib.Core.List.{List, [], _∷_, _++_, map, append-nil, append-assoc, map-append}
+use Prim.Native.Nat.{ℕ, zero, suc, _-_, _<_, _≤_}
+use native.Mathlib.Omega.{arith}
+use lib.ListN.{length, length-append}
+use Rattle.terms.specs.Lists.{All}
+use Rattle.terms.proofs.All.{all-append}
+use Rattle.wire.specs.Vocabulary.{mostWords}
+use Rattle.wire.proofs.Cond.{cond-true, cond-false}
+use Rattle.texts.specs.Lexemes.{Token}
+use Rattle.texts.specs.Names.{same, kindWord, mark, comma, bar, equals, opening, closing, IsIdentifier, indexIn, nameAt, Distinct}
+use Rattle.texts.specs.Lexicon.{WordText, Lexicon, kindNames, wordsOf, wordNames, placesTokens, bracketed, wordsTokens, kindsTokens}
+use Rattle.texts.specs.Faults.{kindDue, placeEnd}
+use Rattle.texts.specs.LexiconReading.{wordNameWhy, placeWhy, Row, Phase, atStart, atKind, behindKind, atWord, behindWord, atPlace, behindPlace, behindPlaces, Declaring, beginning, Stepped, on, over, fails, goTo, stepWord, placesLast, grown, stepPlace, stepOn}
+use Rattle.texts.specs.Laws.{SoundWord, namesBehind}
+use Rattle.texts.proofs.Lookups.{same-eq, identifier-no-kind, at-index, distinct-more}
+use Rattle.texts.proofs.KindNames.{NameFits, name-fits, Tokened, identifier, mark-no-kind}
+use Rattle.texts.proofs.LexiconsRead.{state, name, andOn, walk}
+use Rattle.texts.proofs.LexiconsExact.{PlaceFits, place-fits, Fine}
+use Rattle.texts.proofs.FreshNames.{fresh}
+
+abbrev pub bare : List Token → Lexicon
+bare [] = []
+bare (u ∷ Ks) = record { name = u; words = [] } ∷ bare Ks
+
+bare-names : (Ks : List Token) → kindNames (bare Ks) ≡ Ks
+bare-names [] = refl
+bare-names (u ∷ Ks) = ap (λ (t : List Token). u ∷ t) (bare-names Ks)
+
+bare-words : (Ks : List Token) → wordsOf (bare Ks) ≡ []
+bare-words [] = refl
+bare-words (u ∷ Ks) = bare-words Ks
+
+module _ (K : List Token) where
+  pub record KindsLeft (Ks N us : List Token) : Type 0 where
+    pub kinds : Lexicon
+    pub tokens : us ≡ kindsTokens K kinds
+    pub names : kindNames kinds ≡ Ks
+    pub words : All (SoundWord (length K)) (wordsOf kinds)
+    pub different : Distinct (N ++ wordNames kinds)
+    pub some : 1 ≤ length (N ++ wordNames kinds)
+
+  record WordsLeft (c : ℕ) (Ks N us : List Token) : Type 0 where
+    words : List WordText
+    behind : List Token
+    tokens : us ≡ wordsTokens K c words ++ behind
+    sound : All (SoundWord (length K)) words
+    left : KindsLeft Ks (N ++ map name words) behind
+
+  record PlacesLeft (spell : List ℕ → List Token) (Ks N us : List Token) : Type 0 where
+    places : List ℕ
+    behind : List Token
+    tokens : us ≡ spell places ++ behind
+    sound : All (λ k. k < length K) places
+    left : WordsLeft bar Ks N behind
+
+  record PlaceLeft (Ks N us : List Token) : Type 0 where
+    place : ℕ
+    behind : List Token
+    tokens : us ≡ nameAt K place ∷ behind
+    below : place < length K
+    left : PlacesLeft (placesTokens K comma) Ks N behind
+
+  abbrev spelt : List ℕ → List Token
+  spelt ps = bracketed ps (placesTokens K opening ps)
+
+  abbrev Outcome : Phase → List Token → List Token → List Token → Type 0
+  Outcome atStart Ks N us = KindsLeft Ks N us
+  Outcome atKind Ks N us = KindsLeft Ks N (kindWord ∷ us)
+  Outcome behindKind Ks N us = WordsLeft equals Ks N us
+  Outcome atWord Ks N us = (c : ℕ) → WordsLeft c Ks N (mark c ∷ us)
+  Outcome behindWord Ks N us = PlacesLeft spelt Ks N us
+  Outcome atPlace Ks N us = PlaceLeft Ks N us
+  Outcome behindPlace Ks N us = PlacesLeft (placesTokens K comma) Ks N us
+  Outcome behindPlaces Ks N us = WordsLeft bar Ks N us
+
+  no-words : (c : ℕ) (Ks N us : List Token) → KindsLeft Ks N us → WordsLeft c Ks N us
+  no-words c Ks N us k = record {
+    words = [];
+    behind = us;
+    tokens = refl;
+    sound = tt;
+    left = subst (λ (M : List Token). KindsLeft Ks M us) (sym (append-nil N)) k;
+  }
+
+  no-places : (spell : List ℕ → List Token) (Ks N us vs : List Token) → us ≡ spell [] ++ vs → WordsLeft bar Ks N vs → PlacesLeft spell Ks N us
+  no-places spell Ks N us vs e w = record { places = []; behind = vs; tokens = e; sound = tt; left = w }
+
+  one-place : (spell : List ℕ → List Token) (c : ℕ) (Ks N us : List Token) →
+      ((p : ℕ) (ps : List ℕ) → spell (p ∷ ps) ≡ placesTokens K c (p ∷ ps)) → PlaceLeft Ks N us → PlacesLeft spell Ks N (mark c ∷ us)
+  one-place spell c Ks N us h p =
+      let q = p .left in
+      record {
+        places = p .place ∷ q .places;
+        behind = q .behind;
+        tokens =
+            ap (λ (t : List Token). mark c ∷ t) (p .tokens ∙ ap (λ (t : List Token). nameAt K (p .place) ∷ t) (q .tokens)) ∙
+            ap (λ (t : List Token). t ++ q .behind) (sym (h (p .place) (q .places)));
+        sound = (p .below, q .sound);
+        left = q .left;
+      }
+
+  one-word : (c : ℕ) (Ks N : List Token) (u : Token) (us : List Token) → IsIdentifier u → PlacesLeft spelt Ks (N ++ (u ∷ [])) us →
+      WordsLeft c Ks N (mark c ∷ u ∷ us)
+  one-word c Ks N u us i q =
+      let m = q .left in
+      let own : List Token = spelt (q .places) in
+      record {
+        words = record { name = u; places = q .places } ∷ m .words;
+        behind = m .behind;
+        tokens =
+            ap (λ (t : List Token). mark c ∷ u ∷ t)
+            (q .tokens ∙ ap (λ (t : List Token). own ++ t) (m .tokens) ∙ sym (append-assoc own (wordsTokens K bar (m .words)) (m .behind)));
+        sound = (record { name = i; places = q .sound }, m .sound);
+        left = subst (λ (M : List Token). KindsLeft Ks M (m .behind)) (append-assoc N (u ∷ []) (map name (m .words))) (m .left);
+      }
+
+  one-kind : (Ks N : List Token) (u : Token) (us : List Token) → WordsLeft equals Ks N us → KindsLeft (u ∷ Ks) N (kindWord ∷ u ∷ us)
+  one-kind Ks N u us w =
+      let k = w .left in
+      let own : List Token = wordsTokens K equals (w .words) in
+      let names : (N ++ map name (w .words)) ++ wordNames (k .kinds) ≡ N ++ map name (w .words ++ wordsOf (k .kinds)) =
+      append-assoc N (map name (w .words)) (wordNames (k .kinds)) ∙
+      ap (λ (t : List Token). N ++ t) (sym (map-append name (w .words) (wordsOf (k .kinds)))) in
+      record {
+        kinds = record { name = u; words = w .words } ∷ k .kinds;
+        tokens = ap (λ (t : List Token). kindWord ∷ u ∷ t) (w .tokens ∙ ap (λ (t : List Token). own ++ t) (k .tokens));
+        names = ap (λ (t : List Token). u ∷ t) (k .names);
+        words = all-append (SoundWord (length K)) (w .words) (wordsOf (k .kinds)) (w .sound) (k .words);
+        different = subst Distinct names (k .different);
+        some = subst (λ (M : List Token). 1 ≤ length M) names (k .some);
+      }
+
+  -- ---- what may follow
+
+  bare-left : (Ks N : List Token) → Distinct N → 1 ≤ length N → KindsLeft Ks N (kindsTokens K (bare Ks))
+  bare-left Ks N d s =
+      let none : N ≡ N ++ wordNames (bare Ks) =
+      sym (append-nil N) ∙ ap (λ (ws : List WordText). N ++ map name ws) (sym (bare-words Ks)) in
+      record {
+        kinds = bare Ks;
+        tokens = refl;
+        names = bare-names Ks;
+        words = subst (All (SoundWord (length K))) (sym (bare-words Ks)) tt;
+        different = subst Distinct none d;
+        some = subst (λ (M : List Token). 1 ≤ length M) none s;
+      }
+
+  new-word : (Ks N : List Token) → Fine N → (us : List Token) × ((c : ℕ) → WordsLeft c Ks N (mark c ∷ us))
+  new-word Ks N f =
+      let u = fresh N (f .few) in
+      let rest : List Token = kindsTokens K (bare Ks) in
+      let M : List Token = N ++ (u .name ∷ []) in
+      let left : KindsLeft Ks M rest =
+      bare-left Ks M (distinct-more (u .name) N (f .different) (u .new)) (omega (arith, length-append N (u .name ∷ []))) in (
+        u .name ∷ rest,
+        λ c. one-word c Ks N (u .name) rest (u .identifier) (no-places spelt Ks M rest rest refl (no-words bar Ks M rest left)),
+      )
+
+  abbrev Due : Phase → List Token → Type 0
+  Due atStart Ks = 1 ≤ length Ks
+  Due atKind Ks = 1 ≤ length Ks
+  Due behindKind Ks = Unit {0}
+  Due atWord Ks = Unit {0}
+  Due behindWord Ks = Unit {0}
+  Due atPlace Ks = Unit {0}
+  Due behindPlace Ks = Unit {0}
+  Due behindPlaces Ks = Unit {0}
+
+  pub new-kind : (Ks N : List Token) → Fine N → 1 ≤ length Ks → (us : List Token) × KindsLeft Ks N (kindWord ∷ us)
+  new-kind [] N f h = absurd (omega arith)
+  new-kind (u ∷ Ks) N f h =
+      let w = new-word Ks N f in (u ∷ mark equals ∷ w .0, one-kind Ks N u (mark equals ∷ w .0) (w .1 equals))
+
+  complete : 1 ≤ length K → (p : Phase) (Ks N : List Token) → Fine N → Due p Ks → (us : List Token) × Outcome p Ks N us
+  complete s atStart Ks N f d = let w = new-kind Ks N f d in (kindWord ∷ w .0, w .1)
+  complete s atKind Ks N f d = new-kind Ks N f d
+  complete s behindKind Ks N f d = let w = new-word Ks N f in (mark equals ∷ w .0, w .1 equals)
+  complete s atWord Ks N f d = new-word Ks N f
+  complete s behindWord Ks N f d =
+      let w = new-word Ks N f in (mark bar ∷ w .0, no-places spelt Ks N (mark bar ∷ w .0) (mark bar ∷ w .0) refl (w .1 bar))
+  complete s atPlace Ks N f d =
+      let w = new-word Ks N f in
+      let us : List Token = mark closing ∷ mark bar ∷ w .0 in (
+        nameAt K 0 ∷ us,
+        record {
+          place = 0;
+          behind = us;
+          tokens = refl;
+          below = omega arith;
+          left = no-places (placesTokens K comma) Ks N us (mark bar ∷ w .0) refl (w .1 bar);
+        },
+      )
+  complete s behindPlace Ks N f d =
+      let w = new-word Ks N f in
+      let us : List Token = mark closing ∷ mark bar ∷ w .0 in
+      (us, no-places (placesTokens K comma) Ks N us (mark bar ∷ w .0) refl (w .1 bar))
+  complete s behindPlaces Ks N f d = let w = new-word Ks N f in (mark bar ∷ w .0, w .1 bar)
+
+-- ---- what was read
+
+-- The names of the kinds that are still to come in the phase p before the tokens us.
+abbrev coming : Phase → List Token → List Token
+coming atStart us = namesBehind us
+coming atKind us = nameAt us 0 ∷ namesBehind us
+coming behindKind us = namesBehind us
+coming atWord us = namesBehind us
+coming behindWord us = namesBehind us
+coming atPlace us = namesBehind us
+coming behindPlace us = namesBehind us
+coming behindPlaces us = namesBehind us
+
+-- The tokens vs stand behind those that are read.
+module _ (K : List Token) (some : 1 ≤ length K) (vs : List Token) (y : Declaring) where
+  abbrev More : List Token → Type 0
+  More us =
+      (p : Phase) (n : ℕ) (N : List Token) (D L : List Row) (Ks : List Token) → Fine N → All IsIdentifier Ks → All Tokened us →
+      Ks ≡ coming p (us ++ vs) → Due K p Ks → walk K (state p n N D L) us ≡ on y → (m : List Token) × Outcome K p Ks N (us ++ m)
+
+  module _ (u : Token) (us : List Token) (more : More us) (n : ℕ) (N : List Token) (fine : Fine N) (D L : List Row) (Ks : List Token)
+      (identifiers : All IsIdentifier Ks) (tokens : All Tokened (u ∷ us)) where
+    abbrev Follows : Stepped → Type 0
+    Follows s = andOn s (λ z. walk K z us) ≡ on y
+
+    fails-not : {A : Type 0} (why : ℕ) → Follows (fails why) → A
+    fails-not why e = let z : _≡_ {A = ℕ} 0 1 = cc in absurd (omega arith)
+
+    over-not : {A : Type 0} → Follows over → A
+    over-not e = let z : _≡_ {A = ℕ} 0 1 = cc in absurd (omega arith)
+
+    skip : same u kindWord ≡ false → Ks ≡ namesBehind (u ∷ (us ++ vs)) → Ks ≡ namesBehind (us ++ vs)
+    skip h e = e ∙ cond-false (same u kindWord) _ _ h
+
+    skip-mark : (c : ℕ) → u ≡ mark c → Ks ≡ namesBehind (u ∷ (us ++ vs)) → Ks ≡ namesBehind (us ++ vs)
+    skip-mark c h e = skip (ap (λ t. same t kindWord) h ∙ mark-no-kind c) e
+
+    -- A `kind`, where nothing else may stand.
+    kind-or : (t : Stepped) → Ks ≡ namesBehind (u ∷ (us ++ vs)) → (Follows t → ⊥) →
+        Follows (cond (same u kindWord) (on (state atKind n N D L)) t) → (m : List Token) × KindsLeft K Ks N (u ∷ (us ++ m))
+    kind-or t e other f = go (same u kindWord) refl f
+      where
+        go : (b : Bool) → same u kindWord ≡ b → Follows (cond b (on (state atKind n N D L)) t) → (m : List Token) × KindsLeft K Ks N (u ∷ (us ++ m))
+        go false h f = absurd (other f)
+        go true h f =
+            let q : Ks ≡ coming atKind (us ++ vs) = e ∙ cond-true (same u kindWord) _ _ h in
+            let r = more atKind n N D L Ks fine identifiers (tokens .1) q (subst (λ (M : List Token). 1 ≤ length M) (sym q) (omega arith)) f in
+            (r .0, subst (λ t. KindsLeft K Ks N (t ∷ (us ++ r .0))) (sym (same-eq u kindWord h)) (r .1))
+
+    -- The mark c and a word, or none.
+    word-or : (p : Phase) (c : ℕ) → Ks ≡ namesBehind (u ∷ (us ++ vs)) →
+        Follows (cond (same u (mark c)) (goTo atWord (state p n N D L)) (stepOn (state p n N D L) u)) →
+        (m : List Token) × WordsLeft K c Ks N (u ∷ (us ++ m))
+    word-or p c e f = go (same u (mark c)) refl f
+      where
+        go : (b : Bool) → same u (mark c) ≡ b → Follows (cond b (goTo atWord (state p n N D L)) (stepOn (state p n N D L) u)) →
+            (m : List Token) × WordsLeft K c Ks N (u ∷ (us ++ m))
+        go false h f = let r = kind-or over e over-not f in (r .0, no-words K c Ks N (u ∷ (us ++ r .0)) (r .1))
+        go true h f =
+            let q : u ≡ mark c = same-eq u (mark c) h in
+            let r = more atWord n N D L Ks fine identifiers (tokens .1) (skip-mark c q e) tt f in
+            (r .0, subst (λ t. WordsLeft K c Ks N (t ∷ (us ++ r .0))) (sym q) (r .1 c))
+
+    -- The mark c and a place, or what comes where c does not stand.
+    place-or : (p : Phase) (spell : List ℕ → List Token) (c : ℕ) (t : Stepped) →
+        ((p : ℕ) (ps : List ℕ) → spell (p ∷ ps) ≡ placesTokens K c (p ∷ ps)) → Ks ≡ namesBehind (u ∷ (us ++ vs)) →
+        (Follows t → (m : List Token) × PlacesLeft K spell Ks N (u ∷ (us ++ m))) →
+        Follows (cond (same u (mark c)) (goTo atPlace (state p n N D L)) t) → (m : List Token) × PlacesLeft K spell Ks N (u ∷ (us ++ m))
+    place-or p spell c t spells e other f = go (same u (mark c)) refl f
+      where
+        go : (b : Bool) → same u (mark c) ≡ b → Follows (cond b (goTo atPlace (state p n N D L)) t) →
+            (m : List Token) × PlacesLeft K spell Ks N (u ∷ (us ++ m))
+        go false h f = other f
+        go true h f =
+            let q : u ≡ mark c = same-eq u (mark c) h in
+            let r = more atPlace n N D L Ks fine identifiers (tokens .1) (skip-mark c q e) tt f in
+            (r .0, subst (λ t. PlacesLeft K spell Ks N (t ∷ (us ++ r .0))) (sym q) (one-place K spell c Ks N (us ++ r .0) spells (r .1)))
+
+    closing-or : (p : Phase) → Ks ≡ namesBehind (u ∷ (us ++ vs)) →
+        Follows (cond (same u (mark closing)) (goTo behindPlaces (state p n N D L)) (fails placeEnd)) →
+        (m : List Token) × PlacesLeft K (placesTokens K comma) Ks N (u ∷ (us ++ m))
+    closing-or p e f = go (same u (mark closing)) refl f
+      where
+        go : (b : Bool) → same u (mark closing) ≡ b → Follows (cond b (goTo behindPlaces (state p n N D L)) (fails placeEnd)) →
+            (m : List Token) × PlacesLeft K (placesTokens K comma) Ks N (u ∷ (us ++ m))
+        go false h f = fails-not placeEnd f
+        go true h f =
+            let q : u ≡ mark closing = same-eq u (mark closing) h in
+            let r = more behindPlaces n N D L Ks fine identifiers (tokens .1) (skip-mark closing q e) tt f in (
+              r .0,
+              no-places K (placesTokens K comma) Ks N (u ∷ (us ++ r .0)) (us ++ r .0) (ap (λ (t : Token). t ∷ (us ++ r .0)) q) (r .1),
+            )
+
+    named-kind : Ks ≡ u ∷ namesBehind (u ∷ (us ++ vs)) → Follows (on (state behindKind (suc n) N D L)) →
+        (m : List Token) × KindsLeft K Ks N (kindWord ∷ u ∷ (us ++ m))
+    named-kind e f =
+        let i : IsIdentifier u = subst (All IsIdentifier) e identifiers .0 in
+        let q : Ks ≡ u ∷ namesBehind (us ++ vs) =
+        e ∙ ap (λ (t : List Token). u ∷ t) (cond-false (same u kindWord) _ _ (identifier-no-kind u (i .identifier))) in
+        let r =
+        more behindKind (suc n) N D L (namesBehind (us ++ vs)) fine (subst (All IsIdentifier) q identifiers .1) (tokens .1) refl tt f in (
+          r .0,
+          subst (λ (M : List Token). KindsLeft K M N (kindWord ∷ u ∷ (us ++ r .0))) (sym q)
+              (one-kind K (namesBehind (us ++ vs)) N u (us ++ r .0) (r .1)),
+        )
+
+    named-word : (why : ℕ) → wordNameWhy N u ≡ why → Ks ≡ namesBehind (u ∷ (us ++ vs)) → Follows (stepWord (state atWord n N D L) u why) →
+        (m : List Token) × ((c : ℕ) → WordsLeft K c Ks N (mark c ∷ u ∷ (us ++ m)))
+    named-word (suc why) h e f = fails-not (suc why) f
+    named-word zero h e f =
+        let t : NameFits mostWords N u = name-fits 5 6 7 mostWords N u h in
+        let r =
+        more behindWord n (N ++ (u ∷ [])) (D ++ L) (record { kind = n - 1; places = [] } ∷ []) Ks
+        (record {
+          different = distinct-more u N (fine .different) (t .new);
+          few = omega (arith, t .room, length-append N (u ∷ []));
+        })
+        identifiers (tokens .1) (skip (identifier-no-kind u (t .identifier)) e) tt f in
+        (r .0, λ c. one-word K c Ks N u (us ++ r .0) (identifier u (tokens .0) (t .identifier) (t .short)) (r .1))
+
+    named-place : (why : ℕ) → placeWhy K (placesLast L) u ≡ why → Ks ≡ namesBehind (u ∷ (us ++ vs)) →
+        Follows (stepPlace (state atPlace n N D L) (indexIn u K) why) → (m : List Token) × PlaceLeft K Ks N (u ∷ (us ++ m))
+    named-place (suc why) h e f = fails-not (suc why) f
+    named-place zero h e f =
+        let t : PlaceFits K (placesLast L) u = place-fits K (placesLast L) u h in
+        let r =
+        more behindPlace n N D (map (grown (indexIn u K)) L) Ks fine identifiers (tokens .1) (skip (identifier-no-kind u (t .identifier)) e) tt f in (
+          r .0,
+          record {
+            place = indexIn u K;
+            behind = us ++ r .0;
+            tokens = ap (λ (t : Token). t ∷ (us ++ r .0)) (sym (at-index u K (t .declared)));
+            below = t .declared;
+            left = r .1;
+          },
+        )
+
+  follow : (us : List Token) → More us
+  follow [] p n N D L Ks fine ids tokens e due f = complete K some p Ks N fine due
+  follow (u ∷ us) atStart n N D L Ks fine ids tokens e due f =
+      kind-or u us (follow us) n N fine D L Ks ids tokens (fails kindDue) e
+      (λ g. fails-not u us (follow us) n N fine D L Ks ids tokens kindDue g) f
+  follow (u ∷ us) atKind n N D L Ks fine ids tokens e due f = named-kind u us (follow us) n N fine D L Ks ids tokens e f
+  follow (u ∷ us) behindKind n N D L Ks fine ids tokens e due f =
+      word-or u us (follow us) n N fine D L Ks ids tokens behindKind equals e f
+  follow (u ∷ us) atWord n N D L Ks fine ids tokens e due f =
+      named-word u us (follow us) n N fine D L Ks ids tokens (wordNameWhy N u) refl e f
+  follow (u ∷ us) behindWord n N D L Ks fine ids tokens e due f =
+      place-or u us (follow us) n N fine D L Ks ids tokens behindWord (spelt K) opening _ (λ p ps. refl) e
+      (λ f.
+      let r = word-or u us (follow us) n N fine D L Ks ids tokens behindWord bar e f in
+      (r .0, no-places K (spelt K) Ks N (u ∷ (us ++ r .0)) (u ∷ (us ++ r .0)) refl (r .1)))
+      f
+  follow (u ∷ us) atPlace n N D L Ks fine ids tokens e due f =
+      named-place u us (follow us) n N fine D L Ks ids tokens (placeWhy K (placesLast L) u) refl e f
+  follow (u ∷ us) behindPlace n N D L Ks fine ids tokens e due f =
+      place-or u us (follow us) n N fine D L Ks ids tokens behindPlace (placesTokens K comma) comma _ (λ p ps. refl) e
+      (closing-or u us (follow us) n N fine D L Ks ids tokens behindPlace e) f
+  follow (u ∷ us) behindPlaces n N D L Ks fine ids tokens e due f =
+      word-or u us (follow us) n N fine D L Ks ids tokens behindPlaces bar e f
+
+  pub so-far : (us : List Token) → All IsIdentifier K → All Tokened us → K ≡ namesBehind (us ++ vs) → walk K beginning us ≡ on y →
+      (m : List Token) × KindsLeft K K [] (us ++ m)
+  so-far us ids tokens e f = follow us atStart 0 [] [] [] K (record { different = tt; few = omega arith }) ids tokens e some f

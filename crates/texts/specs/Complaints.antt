@@ -1,0 +1,173 @@
+-- Complaints: a fault of a text, told to people: line and column, what is wrong, the line, and a mark under the place.
+--
+--   Known                    what complaints need of a vocabulary
+--   reasons, endings         what is said of each reason, before and behind the token at fault
+--   tokenThen u l            the token u and l behind it; nothing where l is empty
+--   alternatives T s n i c   those of the n words from word i on that are of kind s: c before the first, and `or` between them
+--   dueText T s              the kind s is due, with its words
+--   placesText T f u         how many places the word f takes, and what is not due where u stands
+--   reasonText T x u         what is wrong
+--   newlines l               how many lines end in l
+--   lineStartFrom, lineStart l   where the last line of l begins
+--   follows b                the byte b goes on with a character that began before it
+--   columns l                how many characters l has
+--   shown b, padding b       a byte of the line as it is shown, and what stands below it before the mark
+--   lineSize l               how many bytes l has up to the end of its line
+--   complaint b T x          the text for the fault x of the text b
+--
+use mathlib.Core.Bool.{Bool, true, false, not, _||_, _&&_, cond}
+use mathlib.Core.List.{List, [], _∷_, _++_}
+use Prim.Native.Nat.{ℕ, zero, suc, _+_}
+use lib.Dec.{eqb, ltb}
+use lib.ListN.{length, getD, take, drop}
+use Rattle.wire.specs.Reply.{outside}
+use Rattle.wire.specs.Row.{writeRow}
+use Rattle.wire.specs.Text.{ascii, newline, decimal}
+use Rattle.texts.specs.Lexemes.{Token, tokenAt}
+use Rattle.texts.specs.Names.{same, mark, comma, closing, nameAt}
+use Rattle.texts.specs.Faults.{Fault, termDue, otherKind, placesWrong}
+
+-- What complaints need of a vocabulary: the names of kinds and words, the words' kinds, and how many places each takes.
+pub record Known : Type 0 where
+  pub kinds : List Token
+  pub words : List Token
+  pub results : List ℕ
+  pub places : List ℕ
+
+-- What is said of each reason, by its number (Faults): first what stands before the token at fault ..
+abbrev pub reasons : List (List ℕ)
+reasons =
+    []
+    ∷ ascii "`kind` is due here, as a text begins with its kinds"
+    ∷ ascii "a name is due here, for the kind"
+    ∷ ascii "32 bytes are the most for a name, and this one has more"
+    ∷ ascii "kind "
+    ∷ ascii "16 kinds are the most, and this is one more"
+    ∷ ascii "a name is due here, for a word"
+    ∷ ascii "word "
+    ∷ ascii "96 words are the most, and this is one more"
+    ∷ ascii "the name of a kind is due here"
+    ∷ ascii "kind "
+    ∷ ascii "8 places are the most, and this is one more"
+    ∷ ascii "a , or a ) is due here"
+    ∷ ascii "no kind has a word"
+    ∷ ascii "a pattern is due here"
+    ∷ []
+    ∷ ascii "no word "
+    ∷ []
+    ∷ []
+    ∷ ascii "32 levels are the most, and this is one more"
+    ∷ ascii "4096 bytes are the most for a pattern, and this one has more"
+    ∷ []
+    ∷ ascii "64 names are the most in a pattern, and this is one more"
+    ∷ ascii "a : and a kind are due here, as in _: step"
+    ∷ ascii "65535 bytes are the most for a text, and this one has more"
+    ∷ []
+
+-- .. and then what stands behind it. Where there is nothing the token is not named: it stands in the line that is shown.
+abbrev pub endings : List (List ℕ)
+endings =
+    []
+    ∷ []
+    ∷ []
+    ∷ []
+    ∷ ascii " is declared twice"
+    ∷ []
+    ∷ []
+    ∷ ascii " is declared twice"
+    ∷ []
+    ∷ []
+    ∷ ascii " is used and not declared"
+    ∷ []
+    ∷ []
+    ∷ []
+    ∷ []
+    ∷ []
+    ∷ ascii " in this vocabulary"
+    ∷ []
+    ∷ []
+    ∷ []
+    ∷ []
+    ∷ ascii " stands twice in this pattern"
+    ∷ []
+    ∷ []
+    ∷ []
+    ∷ []
+
+abbrev pub tokenThen : Token → List ℕ → List ℕ
+tokenThen u [] = []
+tokenThen u (b ∷ l) = u ++ (b ∷ l)
+
+-- `free or full`: the words of kind s, from word i on, where n are left to look at.
+abbrev pub alternatives : Known → ℕ → ℕ → ℕ → List ℕ → List ℕ
+alternatives T s zero i c = []
+alternatives T s (suc n) i c =
+    cond (eqb (getD (T .results) i 0) s) (c ++ (nameAt (T .words) i ++ alternatives T s n (suc i) (ascii " or ")))
+    (alternatives T s n (suc i) c)
+
+-- `queue is due here: free or full`
+abbrev pub dueText : Known → ℕ → List ℕ
+dueText T s = nameAt (T .kinds) s ++ (ascii " is due here" ++ alternatives T s (length (T .words)) 0 (ascii ": "))
+
+-- `wait takes 2 places, and no , is due here`: more are written, or a ( is missing.
+abbrev pub placesText : Known → ℕ → Token → List ℕ
+placesText T f u =
+    nameAt (T .words) f
+    ++ (ascii " takes "
+    ++ (decimal (getD (T .places) f 0)
+    ++ (ascii " places"
+    ++ cond (same u (mark comma)) (ascii ", and no , is due here")
+    (cond (same u (mark closing)) (ascii ", and no ) is due here") (ascii ", in ( and ) with a , between them")))))
+
+abbrev pub reasonText : Known → Fault → Token → List ℕ
+reasonText T x u =
+    cond (eqb (x .why) termDue || eqb (x .why) otherKind) (dueText T (x .of))
+    (cond (eqb (x .why) placesWrong) (placesText T (x .of) u)
+    (getD reasons (x .why) [] ++ tokenThen u (getD endings (x .why) [])))
+
+abbrev pub newlines : List ℕ → ℕ
+newlines [] = 0
+newlines (b ∷ l) = cond (eqb b 10) (suc (newlines l)) (newlines l)
+
+-- The offset behind the last end of a line in l; the bytes l begin at offset at, and the line before them at offset s.
+abbrev pub lineStartFrom : ℕ → ℕ → List ℕ → ℕ
+lineStartFrom at s [] = s
+lineStartFrom at s (b ∷ l) = lineStartFrom (suc at) (cond (eqb b 10) (suc at) s) l
+
+abbrev pub lineStart : List ℕ → ℕ
+lineStart l = lineStartFrom 0 0 l
+
+-- A character beyond ASCII has bytes 128 to 191 behind its first.
+abbrev pub follows : ℕ → Bool
+follows b = not (outside 128 191 b)
+
+abbrev pub columns : List ℕ → ℕ
+columns [] = 0
+columns (b ∷ l) = cond (follows b) (columns l) (suc (columns l))
+
+-- Bytes that a screen would not show as a character are shown as ?, and a tab as it is.
+abbrev pub shown : ℕ → List ℕ
+shown b = cond ((ltb b 32 && not (eqb b 9)) || eqb b 127) (ascii "?") (b ∷ [])
+
+abbrev pub padding : ℕ → List ℕ
+padding b = cond (follows b) [] (cond (eqb b 9) (b ∷ []) (ascii " "))
+
+abbrev pub lineSize : List ℕ → ℕ
+lineSize [] = 0
+lineSize (b ∷ l) = cond (eqb b 10) 0 (suc (lineSize l))
+
+-- `line 3, column 12: queue is due here: free or full`, the line, and ^ below the place.
+abbrev pub complaint : List ℕ → Known → Fault → List ℕ
+complaint b T x =
+    let before : List ℕ = take (x .at) b in
+    let s : ℕ = lineStart before in
+    let line : List ℕ = drop s b in
+    ascii "line "
+    ++ (decimal (suc (newlines before))
+    ++ (ascii ", column "
+    ++ (decimal (suc (columns (drop s before)))
+    ++ (ascii ": "
+    ++ (reasonText T x (tokenAt b (x .at))
+    ++ (newline
+    ++ (writeRow shown (take (lineSize line) line)
+    ++ (newline ++ (writeRow padding (drop s before) ++ (ascii "^" ++ newline))))))))))

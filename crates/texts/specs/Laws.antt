@@ -1,0 +1,354 @@
+-- Laws: what is proved of texts.
+--
+--   tokensOf l              the tokens of the lexemes l
+--   SpellingIsExact         the tokens of a text are those that it spells
+--   Sayable X vs s t        t is a term of kind s in the words of X, with variables among vs: a pattern or an entry
+--   TermsAreSpelled         a pattern or entry in words spells its tokens
+--   PhrasesAreSpelled       .. and so does a good pattern
+--   PhrasesRead             the tokens of a good pattern are read as that pattern
+--   PhrasesExact            what is read is a good pattern, and its tokens are those that were read
+--   Stops l                 no declaration goes on with the lexemes l, and no `kind` is among them
+--   rowsFrom k X            the words of X as they are read, where the first kind of X has the number k
+--   lexiconRead X           what is read of X
+--   LexiconsRead            the tokens of a good vocabulary are read as that vocabulary
+--   Closes l                the last of the lexemes l is empty, as that of a text is
+--   LexiconsExact           what is read is a good vocabulary, and its tokens are those that were read
+--   FirstFault Good l q     of the lexemes l the one at offset q is the first at fault
+--   beginsLabel l           the lexemes l begin with a label
+--   PhraseFirst X c us      the tokens us begin with a good pattern, which may have a label where c is true
+--   PhraseFaultsAreFirst    a fault of a pattern is at the first byte at fault
+--   BlocksAreAnswers        what is printed by bytes is what Answers says
+--   entriesTokens X p l     the tokens of the entries l of the pattern p
+--   BlocksSpellLeftovers    what is printed for a pattern spells its leftovers and nothing else
+--   EntriesArePhrases       each leftover is a good pattern
+--   FilesAreRead, FilesAreExact     a text is accepted exactly where it is a text of a file, and read as that file
+--   VocabulariesAreRead     the vocabulary that is read is the one that the lexicon stands for
+--   SaysTerms               the walk over the bytes of a pattern or entry says it in words
+--   SaysPhrases             .. of a good pattern
+--   FirstFaultIn Sound Good l q     as FirstFault, where less is asked of what begins with the tokens before the fault
+--   SoundWord, SoundLexicon X       as GoodWord and GoodLexicon, without the limits on how many places and words there are
+--   LexiconFirst Fine K us  the tokens us begin with a vocabulary that is Fine, whose kinds are K
+--   LexiconFaultsAreFirst   a fault of a vocabulary whose kinds are named well is at the first byte at fault, but for too many words and places
+--   namesBehind us          the tokens behind each `kind` of us
+--   KindNameFault l q       of the names behind each `kind` of l the one at offset q is the first that may not stand there
+--   KindNameFaultsAreFirst  a fault of a kind's name is at the first one that may not stand there
+--   LexiconsAreSpelled      a vocabulary in words spells its tokens
+--   LexiconIsOne            two good vocabularies with the same tokens are one
+--   TextIsOne               a text is a text of one file alone
+--   PrintedAlike            two good patterns that are printed alike are one
+--   EntriesPrintedAlike     .. and so are two leftovers of one pattern
+--   NamesAreNoWords         no variable is a word, a kind or a label
+--   leftoversTokens X ps ls     the tokens of all leftovers of the patterns ps, one behind the other
+--   ListingsFit X ps ls     each list of leftovers is short enough to be printed
+--   DeskSpellsLeftovers     the whole answer spells the leftovers and nothing else
+--
+use mathlib.Core.Path.{_≡_}
+use mathlib.Core.Bool.{Bool, true, false, _&&_, cond}
+use mathlib.Core.List.{List, [], _∷_, _++_, map}
+use mathlib.Core.Logic.{_⊎_, _↔_}
+use Prim.Native.Nat.{ℕ, suc, _<_, _≤_}
+use lib.ListN.{length, take, drop}
+use Rattle.terms.specs.Lists.{All}
+use Rattle.terms.specs.Term.{Term, Sorted, names}
+use Rattle.terms.specs.Listing.{IsListing}
+use Rattle.wire.specs.Vocabulary.{mostKinds, signature, encodeVocabulary}
+use Rattle.wire.specs.TermBytes.{nameCount, mostLevels, levels, encodeTerm}
+use Rattle.wire.specs.BookBytes.{patternsBytes}
+use Rattle.wire.specs.Printing.{listingSpace}
+use Rattle.texts.specs.Lexemes.{Token, Lexeme, tokens}
+use Rattle.texts.specs.Names.{same, kindWord, mark, opening, bar, equals, colon, mostName, isIdentifier, IsIdentifier, IsVariable, indexIn, nameAt, Distinct}
+use Rattle.texts.specs.Spelling.{IsToken, Spells}
+use Rattle.texts.specs.Lexicon.{WordText, KindText, Lexicon, kindNames, wordsOf, wordNames, vocabularyOf, lexiconTokens, lexiconText, GoodLexicon}
+use Rattle.texts.specs.Phrases.{Phrase, IsLabel, labelTokens, phraseTokens, phraseText, GoodPhrase, wholeTokens, GoodWhole}
+use Rattle.texts.specs.Saying.{Tables, TablesFor, sayPhrase}
+use Rattle.texts.specs.Files.{File, IsText}
+use Rattle.texts.specs.Faults.{Fault, got, bad, token, rest}
+use Rattle.texts.specs.Answers.{blockText, deskText, AreListings}
+use Rattle.texts.specs.LexiconReading.{named, misnamed, readKindNames, Row, LexiconRead, readLexicon}
+use Rattle.texts.specs.PhraseReading.{PhraseRead, readPhrase}
+use Rattle.texts.specs.Answering.{blockBy, readWell, vocabularyRead, readFile}
+
+abbrev pub SpellingIsExact : Type 0
+SpellingIsExact = (b : List ℕ) (us : List Token) → (tokens b ≡ us ++ ([] ∷ [])) ↔ Spells b us
+
+-- A variable may stand at any number of places, or at none.
+pub record Sayable (X : Lexicon) (vs : List Token) (s : ℕ) (t : Term) : Type 0 where
+  pub kind : s < length X
+  pub sorted : Sorted (signature (vocabularyOf X)) t s
+  pub levels : levels t ≤ mostLevels
+  pub named : All (λ n. (n < length vs) × (n < nameCount)) (names t)
+  pub variables : All IsVariable vs
+
+abbrev pub TermsAreSpelled : Type 0
+TermsAreSpelled =
+    (X : Lexicon) (vs : List Token) (s : ℕ) (t : Term) → GoodLexicon X → Sayable X vs s t →
+    Spells (phraseText X vs s t) (phraseTokens X vs s t)
+
+abbrev pub PhrasesAreSpelled : Type 0
+PhrasesAreSpelled =
+    (X : Lexicon) (vs : List Token) (s : ℕ) (t : Term) → GoodLexicon X → GoodPhrase X vs s t →
+    Spells (phraseText X vs s t) (phraseTokens X vs s t)
+
+abbrev pub tokensOf : List Lexeme → List Token
+tokensOf l = map (λ (x : Lexeme). x .token) l
+
+-- The lexemes behind the pattern are those behind so many tokens; a colon directly behind it would make a label of what was read.
+abbrev pub PhrasesRead : Type 0
+PhrasesRead =
+    (X : Lexicon) (u : Token) (vs : List Token) (s : ℕ) (t : Term) (l r : List Lexeme) → GoodLexicon X → IsLabel u →
+    GoodPhrase X vs s t → tokensOf l ≡ labelTokens u ++ (phraseTokens X vs s t ++ tokensOf r) →
+    same (token r) (mark colon) ≡ false →
+    readPhrase (kindNames X) (wordNames X) (vocabularyOf X) l ≡
+    got (record { label = u; kind = s; term = t; variables = vs }) (drop (length (labelTokens u ++ phraseTokens X vs s t)) l)
+
+abbrev pub PhrasesExact : Type 0
+PhrasesExact =
+    (X : Lexicon) (l r : List Lexeme) (p : PhraseRead) → GoodLexicon X →
+    All (λ (x : Lexeme). (x .token ≡ []) ⊎ IsToken (x .token)) l →
+    readPhrase (kindNames X) (wordNames X) (vocabularyOf X) l ≡ got p r →
+    IsLabel (p .label) × GoodPhrase X (p .variables) (p .kind) (p .term) ×
+    (tokensOf l ≡ labelTokens (p .label) ++ (phraseTokens X (p .variables) (p .kind) (p .term) ++ tokensOf r))
+
+abbrev pub SaysTerms : Type 0
+SaysTerms =
+    (X : Lexicon) (vs : List Token) (s : ℕ) (t : Term) (T : Tables) → GoodLexicon X → Sayable X vs s t → TablesFor X vs T →
+    sayPhrase T (encodeTerm (vocabularyOf X) s t) ≡ phraseText X vs s t
+
+abbrev pub SaysPhrases : Type 0
+SaysPhrases =
+    (X : Lexicon) (vs : List Token) (s : ℕ) (t : Term) (T : Tables) → GoodLexicon X → GoodPhrase X vs s t → TablesFor X vs T →
+    sayPhrase T (encodeTerm (vocabularyOf X) s t) ≡ phraseText X vs s t
+
+abbrev pub rowsFrom : ℕ → Lexicon → List Row
+rowsFrom k [] = []
+rowsFrom k (x ∷ X) = map (λ (w : WordText). record { kind = k; places = w .places }) (x .words) ++ rowsFrom (suc k) X
+
+abbrev pub lexiconRead : Lexicon → LexiconRead
+lexiconRead X = record { kindNames = kindNames X; wordNames = wordNames X; rows = rowsFrom 0 X }
+
+-- No mark of declarations stands there, and no `kind` there or later.
+pub record Stops (l : List Lexeme) : Type 0 where
+  pub noKind : All (λ (x : Lexeme). same (x .token) kindWord ≡ false) l
+  pub noEquals : same (token l) (mark equals) ≡ false
+  pub noBar : same (token l) (mark bar) ≡ false
+  pub noOpening : same (token l) (mark opening) ≡ false
+
+abbrev pub LexiconsRead : Type 0
+LexiconsRead =
+    (X : Lexicon) (l r : List Lexeme) → GoodLexicon X → tokensOf l ≡ lexiconTokens X ++ tokensOf r → Stops r →
+    readLexicon l ≡ got (lexiconRead X) (drop (length (lexiconTokens X)) l)
+
+abbrev pub Closes : List Lexeme → Type 0
+Closes [] = ⊥
+Closes (x ∷ []) = x .token ≡ []
+Closes (x ∷ y ∷ l) = Closes (y ∷ l)
+
+-- A `kind` behind the first pattern is found when the patterns are read.
+abbrev pub LexiconsExact : Type 0
+LexiconsExact =
+    (l r : List Lexeme) (a : LexiconRead) → All (λ (x : Lexeme). (x .token ≡ []) ⊎ IsToken (x .token)) l → Closes l →
+    readLexicon l ≡ got a r → All (λ (x : Lexeme). same (x .token) kindWord ≡ false) r →
+    (X : Lexicon) × GoodLexicon X × (a ≡ lexiconRead X) × (tokensOf l ≡ lexiconTokens X ++ tokensOf r)
+
+-- ---- where a fault is
+
+-- Of the lexemes l the one at offset q is the first at fault: something good begins with the tokens before it, and nothing good with
+-- these and its own.
+pub record FirstFault (Good : List Token → Type 0) (l : List Lexeme) (q : ℕ) : Type 0 where
+  pub before : List Lexeme
+  pub here : Lexeme
+  pub behind : List Lexeme
+  pub all : l ≡ before ++ (here ∷ behind)
+  pub place : here .at ≡ q
+  pub soFar : (more : List Token) × Good (tokensOf before ++ more)
+  pub noFurther : (more : List Token) → Good (tokensOf before ++ (here .token ∷ more)) → ⊥
+
+-- A name is a label where a colon stands behind it, and a word where none does.
+abbrev pub beginsLabel : List Lexeme → Bool
+beginsLabel l = isIdentifier (token l) && same (token (rest l)) (mark colon)
+
+-- The tokens us are those of a good pattern, and others behind it; a colon there would make a label of what stands before it.
+-- The pattern has a label only where c is true.
+pub record PhraseFirst (X : Lexicon) (c : Bool) (us : List Token) : Type 0 where
+  pub phrase : Phrase
+  pub rest : List Token
+  pub good : GoodWhole X phrase
+  pub tokens : us ≡ wholeTokens X phrase ++ rest
+  pub noColon : same (nameAt rest 0) (mark colon) ≡ false
+  pub label : (phrase .label ≡ []) ⊎ (c ≡ true)
+
+-- A text ends with an empty lexeme e, behind which nothing is read. A first name without a colon behind it is read as a word, so that
+-- `foo`, which is none, is at fault there, although `foo: up` would be good.
+abbrev pub PhraseFaultsAreFirst : Type 0
+PhraseFaultsAreFirst =
+    (X : Lexicon) (l : List Lexeme) (e : Lexeme) (x : Fault) → GoodLexicon X →
+    All (λ (y : Lexeme). IsToken (y .token)) l → e .token ≡ [] →
+    readPhrase (kindNames X) (wordNames X) (vocabularyOf X) (l ++ (e ∷ [])) ≡ bad x →
+    FirstFault (PhraseFirst X (beginsLabel (l ++ (e ∷ [])))) (l ++ (e ∷ [])) (x .at)
+
+-- ---- the answer
+
+-- What is printed by the bytes of a pattern and of its leftovers is what Answers says.
+abbrev pub BlocksAreAnswers : Type 0
+BlocksAreAnswers =
+    (X : Lexicon) (p : Phrase) (T : Tables) (l : List Term) → GoodLexicon X → GoodWhole X p → TablesFor X (p .variables) T →
+    IsListing (signature (vocabularyOf X)) (p .kind) (p .term) l →
+    blockBy T (p .label) (encodeVocabulary (vocabularyOf X)) (encodeTerm (vocabularyOf X) (p .kind) (p .term)) ≡ blockText X p l
+
+-- The tokens of the entries l, one behind the other.
+abbrev pub entriesTokens : Lexicon → Phrase → List Term → List Token
+entriesTokens X p [] = []
+entriesTokens X p (e ∷ l) = phraseTokens X (p .variables) (p .kind) e ++ entriesTokens X p l
+
+-- What is printed for a pattern, read as a text, is its leftovers and nothing else ..
+abbrev pub BlocksSpellLeftovers : Type 0
+BlocksSpellLeftovers =
+    (X : Lexicon) (p : Phrase) (l : List Term) → GoodLexicon X → GoodWhole X p →
+    IsListing (signature (vocabularyOf X)) (p .kind) (p .term) l →
+    length (patternsBytes (vocabularyOf X) (p .kind) l) ≤ listingSpace → Spells (blockText X p l) (entriesTokens X p l)
+
+-- .. and each line is a good pattern, whose variables are the first n of the pattern's: by PhrasesRead it is read as that entry.
+abbrev pub EntriesArePhrases : Type 0
+EntriesArePhrases =
+    (X : Lexicon) (p : Phrase) (l : List Term) → GoodLexicon X → GoodWhole X p →
+    IsListing (signature (vocabularyOf X)) (p .kind) (p .term) l →
+    All
+    (λ (e : Term).
+    (n : ℕ) × GoodPhrase X (take n (p .variables)) (p .kind) e ×
+    (phraseTokens X (p .variables) (p .kind) e ≡ phraseTokens X (take n (p .variables)) (p .kind) e)) l
+
+-- ---- the text as a whole
+
+-- A text is accepted exactly where it is a text of a file: white space and comments change nothing, as IsText speaks of what is spelled.
+abbrev pub FilesAreRead : Type 0
+FilesAreRead = (b : List ℕ) (F : File) → IsText b F → readFile b ≡ readWell (lexiconRead (F .lexicon)) (F .phrases)
+
+abbrev pub FilesAreExact : Type 0
+FilesAreExact =
+    (b : List ℕ) (a : LexiconRead) (ps : List Phrase) → readFile b ≡ readWell a ps →
+    (F : File) × IsText b F × (a ≡ lexiconRead (F .lexicon)) × (ps ≡ F .phrases)
+
+abbrev pub VocabulariesAreRead : Type 0
+VocabulariesAreRead = (X : Lexicon) → GoodLexicon X → vocabularyRead (lexiconRead X) ≡ vocabularyOf X
+
+-- ---- where a fault of a vocabulary is
+
+-- Something sound begins with the tokens before the lexeme at offset q, and nothing good with these and its own.
+pub record FirstFaultIn (Sound Good : List Token → Type 0) (l : List Lexeme) (q : ℕ) : Type 0 where
+  pub before : List Lexeme
+  pub here : Lexeme
+  pub behind : List Lexeme
+  pub all : l ≡ before ++ (here ∷ behind)
+  pub place : here .at ≡ q
+  pub soFar : (more : List Token) × Sound (tokensOf before ++ more)
+  pub noFurther : (more : List Token) → Good (tokensOf before ++ (here .token ∷ more)) → ⊥
+
+-- A place or a word too many is refused where it stands, although nothing good could follow the , or | before it. So the number of places
+-- and of words is no part of what is sound.
+pub record SoundWord (kinds : ℕ) (w : WordText) : Type 0 where
+  pub name : IsIdentifier (w .name)
+  pub places : All (λ k. k < kinds) (w .places)
+
+pub record SoundLexicon (X : Lexicon) : Type 0 where
+  pub kinds : All (λ (x : KindText). IsIdentifier (x .name)) X
+  pub differentKinds : Distinct (kindNames X)
+  pub someKind : 1 ≤ length X
+  pub fewKinds : length X ≤ mostKinds
+  pub words : All (SoundWord (length X)) (wordsOf X)
+  pub differentWords : Distinct (wordNames X)
+  pub someWord : 1 ≤ length (wordsOf X)
+
+-- The tokens us are those of a vocabulary, and others behind it with which no declaration goes on. Its kinds are K; where a text has no
+-- `kind` at all, they are any.
+pub record LexiconFirst (Fine : Lexicon → Type 0) (K us : List Token) : Type 0 where
+  pub lexicon : Lexicon
+  pub rest : List Token
+  pub fine : Fine lexicon
+  pub kinds : (K ≡ []) ⊎ (kindNames lexicon ≡ K)
+  pub tokens : us ≡ lexiconTokens lexicon ++ rest
+  pub noKind : same (nameAt rest 0) kindWord ≡ false
+  pub noEquals : same (nameAt rest 0) (mark equals) ≡ false
+  pub noBar : same (nameAt rest 0) (mark bar) ≡ false
+  pub noOpening : same (nameAt rest 0) (mark opening) ≡ false
+
+-- The names K of the kinds are read first, from the whole text.
+abbrev pub LexiconFaultsAreFirst : Type 0
+LexiconFaultsAreFirst =
+    (K : List Token) (l : List Lexeme) (e : Lexeme) (x : Fault) → All (λ (y : Lexeme). IsToken (y .token)) l → e .token ≡ [] →
+    readKindNames [] (l ++ (e ∷ [])) ≡ named K → readLexicon (l ++ (e ∷ [])) ≡ bad x →
+    FirstFaultIn (LexiconFirst SoundLexicon K) (LexiconFirst GoodLexicon K) (l ++ (e ∷ [])) (x .at)
+
+abbrev pub namesBehind : List Token → List Token
+namesBehind [] = []
+namesBehind (u ∷ us) = cond (same u kindWord) (nameAt us 0 ∷ namesBehind us) (namesBehind us)
+
+-- The names behind each `kind` before it may be names of kinds; its token may not follow them: it is no name, too long, one of them, or
+-- one too many.
+pub record KindNameFault (l : List Lexeme) (q : ℕ) : Type 0 where
+  pub before : List Lexeme
+  pub kind : Lexeme
+  pub here : Lexeme
+  pub behind : List Lexeme
+  pub all : l ≡ before ++ (kind ∷ here ∷ behind)
+  pub isKind : kind .token ≡ kindWord
+  pub place : here .at ≡ q
+  pub identifiers : All IsIdentifier (namesBehind (tokensOf before))
+  pub different : Distinct (namesBehind (tokensOf before))
+  pub few : length (namesBehind (tokensOf before)) ≤ mostKinds
+  pub wrong : (isIdentifier (here .token) ≡ false) ⊎
+      ((mostName < length (here .token)) ⊎
+      ((indexIn (here .token) (namesBehind (tokensOf before)) < length (namesBehind (tokensOf before))) ⊎
+      (length (namesBehind (tokensOf before)) ≡ mostKinds)))
+
+abbrev pub KindNameFaultsAreFirst : Type 0
+KindNameFaultsAreFirst =
+    (l : List Lexeme) (e : Lexeme) (x : Fault) → All (λ (y : Lexeme). IsToken (y .token)) l → e .token ≡ [] →
+    readKindNames [] (l ++ (e ∷ [])) ≡ misnamed x → KindNameFault (l ++ (e ∷ [])) (x .at)
+
+-- ---- what fixes what
+
+-- A line a kind, as it is written by hand.
+abbrev pub LexiconsAreSpelled : Type 0
+LexiconsAreSpelled = (X : Lexicon) → GoodLexicon X → Spells (lexiconText X) (lexiconTokens X)
+
+abbrev pub LexiconIsOne : Type 0
+LexiconIsOne = (X Y : Lexicon) → GoodLexicon X → GoodLexicon Y → lexiconTokens X ≡ lexiconTokens Y → X ≡ Y
+
+abbrev pub TextIsOne : Type 0
+TextIsOne = (b : List ℕ) (F G : File) → IsText b F → IsText b G → F ≡ G
+
+abbrev pub PrintedAlike : Type 0
+PrintedAlike =
+    (X : Lexicon) (vs ws : List Token) (s r : ℕ) (t u : Term) → GoodLexicon X → GoodPhrase X vs s t → GoodPhrase X ws r u →
+    phraseText X vs s t ≡ phraseText X ws r u → (t ≡ u) × (vs ≡ ws) × (s ≡ r)
+
+-- .. also where the pattern has variables that one of them has not.
+abbrev pub EntriesPrintedAlike : Type 0
+EntriesPrintedAlike =
+    (X : Lexicon) (p : Phrase) (l : List Term) → GoodLexicon X → GoodWhole X p →
+    IsListing (signature (vocabularyOf X)) (p .kind) (p .term) l →
+    All
+    (λ (e : Term).
+    All (λ (f : Term). phraseText X (p .variables) (p .kind) e ≡ phraseText X (p .variables) (p .kind) f → e ≡ f) l) l
+
+abbrev pub NamesAreNoWords : Type 0
+NamesAreNoWords = (u : Token) → IsIdentifier u → IsVariable u → ⊥
+
+-- ---- the whole answer
+
+abbrev pub leftoversTokens : Lexicon → List Phrase → List (List Term) → List Token
+leftoversTokens X [] ls = []
+leftoversTokens X (p ∷ ps) [] = []
+leftoversTokens X (p ∷ ps) (l ∷ ls) = entriesTokens X p l ++ leftoversTokens X ps ls
+
+abbrev pub ListingsFit : Lexicon → List Phrase → List (List Term) → Type 0
+ListingsFit X [] ls = Unit {0}
+ListingsFit X (p ∷ ps) [] = Unit {0}
+ListingsFit X (p ∷ ps) (l ∷ ls) = (length (patternsBytes (vocabularyOf X) (p .kind) l) ≤ listingSpace) × ListingsFit X ps ls
+
+-- Read as a text, the answer is the leftovers of the first pattern, then those of the second, and so on.
+abbrev pub DeskSpellsLeftovers : Type 0
+DeskSpellsLeftovers =
+    (F : File) (ls : List (List Term)) → GoodLexicon (F .lexicon) → All (GoodWhole (F .lexicon)) (F .phrases) →
+    AreListings (F .lexicon) (F .phrases) ls → ListingsFit (F .lexicon) (F .phrases) ls →
+    Spells (deskText F ls) (leftoversTokens (F .lexicon) (F .phrases) ls)

@@ -1,0 +1,194 @@
+-- LexiconReading: a vocabulary in words, read off the lexemes of a text, token by token. The names of the kinds come first, since a
+-- kind may be used before it is declared.
+--
+-- This file is an algorithm: LexiconsRead and LexiconsExact (Laws) fix what it accepts, KindNameFaultsAreFirst and LexiconFaultsAreFirst
+-- where a fault is. Which reason is given there is by its tests (kindNameWhy, wordNameWhy, placeWhy).
+--
+--   nameWhy due twice many most seen u    why the token u is no name that may stand behind the names `seen`; 0 where it is
+--   kindNameWhy, wordNameWhy, placeWhy    the same for a kind's name, a word's, and the kind of a place
+--   Names?                    names, or a fault
+--   kindNamed, readKindNames seen l      the names behind each `kind` of l, after the names `seen`
+--   Row                       a word that was read: its kind, and the kinds of its places
+--   rowWord x                 its record
+--   Phase                     what may come next
+--   Declaring                 what was read so far: the phase, how many kinds, the words' names, and their rows
+--   rowsOf x, beginning       all rows; where nothing is read yet
+--   Stepped                   behind a token: go on, or the patterns begin with it, or it is at fault
+--   goTo p x                  x in the phase p
+--   stepKind, stepWord, stepPlace, stepOn, stepIn, step      one token
+--   placesLast rs             how many places the word has that was begun last
+--   grown k r                 the row r with one place more
+--   LexiconRead               the names of kinds and words, and the words' rows
+--   ended, stepped            the vocabulary ends before the lexemes l; what follows a token
+--   readRows K x l            the declarations that l begins with
+--   withNames, readLexicon l  the vocabulary that l begins with
+--
+use mathlib.Core.Bool.{Bool, true, false, cond}
+use mathlib.Core.List.{List, [], _∷_, _++_, map}
+use Prim.Native.Nat.{ℕ, zero, suc, _-_}
+use lib.Dec.{eqb, ltb, leb}
+use lib.ListN.{length}
+use Rattle.wire.specs.Vocabulary.{Word, mostKinds, mostWords}
+use Rattle.texts.specs.Lexemes.{Token, Lexeme}
+use Rattle.texts.specs.Names.{same, kindWord, mark, opening, closing, comma, bar, equals, mostName, isIdentifier, indexIn}
+use Rattle.texts.specs.Lexicon.{fullMap, mostPlaces}
+use Rattle.texts.specs.Faults.{Fault, Got, got, bad, token, place, kindDue, kindNameDue, longName, kindTwice, manyKinds, wordDue, wordTwice, manyWords, placeDue, notDeclared, manyPlaces, placeEnd, noWords}
+
+abbrev pub nameWhy : ℕ → ℕ → ℕ → ℕ → List Token → Token → ℕ
+nameWhy due twice many most seen u =
+    cond (isIdentifier u)
+    (cond (leb (length u) mostName)
+    (cond (ltb (indexIn u seen) (length seen)) twice (cond (ltb (length seen) most) 0 many))
+    longName)
+    due
+
+abbrev pub kindNameWhy : List Token → Token → ℕ
+kindNameWhy seen u = nameWhy kindNameDue kindTwice manyKinds mostKinds seen u
+
+abbrev pub wordNameWhy : List Token → Token → ℕ
+wordNameWhy seen u = nameWhy wordDue wordTwice manyWords mostWords seen u
+
+-- K are the names of the kinds, and n places stand before this one.
+abbrev pub placeWhy : List Token → ℕ → Token → ℕ
+placeWhy K n u =
+    cond (isIdentifier u) (cond (ltb (indexIn u K) (length K)) (cond (ltb n mostPlaces) 0 manyPlaces) notDeclared) placeDue
+
+pub data Names? : Type 0 where
+  named : List Token → Names?
+  misnamed : Fault → Names?
+
+abbrev pub kindNamed : (List Token → Names?) → List Token → List Lexeme → ℕ → Names?
+kindNamed more seen l zero = more (seen ++ (token l ∷ []))
+kindNamed more seen l (suc why) = misnamed (record { why = suc why; at = place l; of = 0 })
+
+abbrev pub readKindNames : List Token → List Lexeme → Names?
+readKindNames seen [] = named seen
+readKindNames seen (x ∷ l) =
+    cond (same (x .token) kindWord) (kindNamed (λ names. readKindNames names l) seen l (kindNameWhy seen (token l)))
+    (readKindNames seen l)
+
+pub record Row : Type 0 where
+  pub kind : ℕ
+  pub places : List ℕ
+
+abbrev pub rowWord : Row → Word
+rowWord x = record { result = x .kind; placeMap = fullMap (length (x .places)); kinds = x .places }
+
+-- What may come next.
+pub data Phase : Type 0 where
+  -- The text begins.
+  atStart : Phase
+  -- Behind `kind`: its name.
+  atKind : Phase
+  behindKind : Phase
+  -- Behind = or |: a word.
+  atWord : Phase
+  behindWord : Phase
+  -- Behind ( or ,: the kind of a place.
+  atPlace : Phase
+  behindPlace : Phase
+  -- Behind the ) of a word's places.
+  behindPlaces : Phase
+
+-- `kinds` counts those that have begun; `last` is the word that was begun last, `done` those before it.
+pub record Declaring : Type 0 where
+  pub phase : Phase
+  pub kinds : ℕ
+  pub names : List Token
+  pub done : List Row
+  pub last : List Row
+
+abbrev pub rowsOf : Declaring → List Row
+rowsOf x = x .done ++ x .last
+
+abbrev pub beginning : Declaring
+beginning = record { phase = atStart; kinds = 0; names = []; done = []; last = [] }
+
+pub data Stepped : Type 0 where
+  on : Declaring → Stepped
+  over : Stepped
+  fails : ℕ → Stepped
+
+abbrev pub goTo : Phase → Declaring → Stepped
+goTo p x = on (record { phase = p; kinds = x .kinds; names = x .names; done = x .done; last = x .last })
+
+abbrev pub stepKind : Declaring → Stepped
+stepKind x = on (record { phase = behindKind; kinds = suc (x .kinds); names = x .names; done = x .done; last = x .last })
+
+abbrev pub stepWord : Declaring → Token → ℕ → Stepped
+stepWord x u zero =
+    on
+    (record {
+      phase = behindWord;
+      kinds = x .kinds;
+      names = x .names ++ (u ∷ []);
+      done = rowsOf x;
+      last = record { kind = x .kinds - 1; places = [] } ∷ [];
+    })
+stepWord x u (suc why) = fails (suc why)
+
+abbrev pub placesLast : List Row → ℕ
+placesLast [] = 0
+placesLast (r ∷ rs) = length (r .places)
+
+abbrev pub grown : ℕ → Row → Row
+grown k r = record { kind = r .kind; places = r .places ++ (k ∷ []) }
+
+abbrev pub stepPlace : Declaring → ℕ → ℕ → Stepped
+stepPlace x k zero =
+    on
+    (record {
+      phase = behindPlace;
+      kinds = x .kinds;
+      names = x .names;
+      done = x .done;
+      last = map (grown k) (x .last);
+    })
+stepPlace x k (suc why) = fails (suc why)
+
+-- Where a declaration may end: another begins, or the patterns do.
+abbrev pub stepOn : Declaring → Token → Stepped
+stepOn x u = cond (same u kindWord) (goTo atKind x) over
+
+abbrev pub stepIn : List Token → Declaring → Token → Phase → Stepped
+stepIn K x u atStart = cond (same u kindWord) (goTo atKind x) (fails kindDue)
+stepIn K x u atKind = stepKind x
+stepIn K x u behindKind = cond (same u (mark equals)) (goTo atWord x) (stepOn x u)
+stepIn K x u atWord = stepWord x u (wordNameWhy (x .names) u)
+stepIn K x u behindWord =
+    cond (same u (mark opening)) (goTo atPlace x) (cond (same u (mark bar)) (goTo atWord x) (stepOn x u))
+stepIn K x u atPlace = stepPlace x (indexIn u K) (placeWhy K (placesLast (x .last)) u)
+stepIn K x u behindPlace =
+    cond (same u (mark comma)) (goTo atPlace x) (cond (same u (mark closing)) (goTo behindPlaces x) (fails placeEnd))
+stepIn K x u behindPlaces = cond (same u (mark bar)) (goTo atWord x) (stepOn x u)
+
+abbrev pub step : List Token → Declaring → Token → Stepped
+step K x u = stepIn K x u (x .phase)
+
+pub record LexiconRead : Type 0 where
+  pub kindNames : List Token
+  pub wordNames : List Token
+  pub rows : List Row
+
+-- Where the patterns begin the vocabulary ends; it has a word at least.
+abbrev pub ended : List Token → Declaring → List Lexeme → Got LexiconRead
+ended K x l =
+    cond (eqb (length (x .names)) 0) (bad (record { why = noWords; at = place l; of = 0 }))
+    (got (record { kindNames = K; wordNames = x .names; rows = rowsOf x }) l)
+
+abbrev pub stepped : (Declaring → Got LexiconRead) → List Token → Declaring → List Lexeme → Stepped → Got LexiconRead
+stepped more K x l (on y) = more y
+stepped more K x l over = ended K x l
+stepped more K x l (fails why) = bad (record { why = why; at = place l; of = 0 })
+
+-- A text ends with an empty lexeme, which is no part of a declaration.
+abbrev pub readRows : List Token → Declaring → List Lexeme → Got LexiconRead
+readRows K x [] = ended K x []
+readRows K x (y ∷ l) = stepped (λ z. readRows K z l) K x (y ∷ l) (step K x (y .token))
+
+abbrev pub withNames : List Lexeme → Names? → Got LexiconRead
+withNames l (misnamed x) = bad x
+withNames l (named K) = readRows K beginning l
+
+abbrev pub readLexicon : List Lexeme → Got LexiconRead
+readLexicon l = withNames l (readKindNames [] l)

@@ -1,0 +1,151 @@
+-- PhraseReading: patterns in words, read off the lexemes of a text.
+--
+-- This file is an algorithm: PhrasesRead and PhrasesExact (Laws) fix what it accepts, PhraseFaultsAreFirst where a fault is. Which
+-- reason is given there is by its tests (wordWhy, variableWhy).
+--
+--   Seen                     what was read so far: the variables in their order, and how many bytes the pattern has up to here
+--   TermRead, TermsRead      a term, or the terms of a word's places, and what was read up to their end
+--   wordBytes                how many bytes a word takes, its map with it
+--   wordWhy N W left due s u       why the token u is no word that may stand there; 0 where it is
+--   variableWhy left s u           why the token u is no variable that may stand there; 0 where it is
+--   faultAt why of l               a fault at the first of the lexemes l
+--   readPlaces below f c ks s l    the terms of the places ks of the word f, c before the first, each read by `below`
+--   readBehind below f ks s l      what stands behind the word f: its places, where it has any
+--   readWord, readVariable         a term that begins with a word, a variable
+--   readNode below N W left due s l    a term; `below` reads those of its places
+--   readTerm N W left due s l      a term of kind due, at most `left` levels deep
+--   PhraseRead               a pattern with its kind, its variables and its label, which may be missing
+--   withFirst t a            the term t before the terms of a
+--   phraseRead k a           a pattern of kind k without label
+--   readRootKind K a l       the kind of a root that is open or a variable
+--   readRoot K N W l         a pattern without label
+--   labelled u p             the pattern p with the label u
+--   readPhrase K N W l       a pattern, where K are the names of the kinds, N those of the words, and W is the vocabulary
+--
+use mathlib.Core.Bool.{Bool, true, false, not, _&&_, cond}
+use mathlib.Core.List.{List, [], _∷_, _++_}
+use Prim.Native.Nat.{ℕ, zero, suc, _+_}
+use lib.Dec.{eqb, ltb, leb}
+use lib.ListN.{length}
+use Rattle.terms.specs.Term.{Term, any, var, app, Terms, nil, cons}
+use Rattle.wire.specs.Map.{mapBytes}
+use Rattle.wire.specs.Vocabulary.{Vocabulary, word}
+use Rattle.wire.specs.TermBytes.{nameCount, mostBytes, mostLevels}
+use Rattle.texts.specs.Lexemes.{Token, Lexeme}
+use Rattle.texts.specs.Names.{same, opened, mark, opening, closing, comma, colon, mostName, isIdentifier, isVariable, indexIn}
+use Rattle.texts.specs.Phrases.{Phrase}
+use Rattle.texts.specs.Faults.{Fault, Got, got, bad, andThen, token, place, rest, longName, notDeclared, placeDue, patternDue, termDue, noWord, otherKind, placesWrong, tooDeep, tooLong, variableTwice, manyVariables, colonDue}
+
+pub record Seen : Type 0 where
+  pub variables : List Token
+  pub used : ℕ
+
+pub record TermRead : Type 0 where
+  pub term : Term
+  pub seen : Seen
+
+pub record TermsRead : Type 0 where
+  pub terms : Terms
+  pub seen : Seen
+
+abbrev pub wordBytes : ℕ
+wordBytes = 1 + mapBytes
+
+abbrev pub wordWhy : List Token → Vocabulary → ℕ → ℕ → Seen → Token → ℕ
+wordWhy N W left due s u =
+    cond (isIdentifier u)
+    (cond (ltb (indexIn u N) (length N))
+    (cond (eqb (word W (indexIn u N) .result) due) (cond (eqb left 0) tooDeep (cond (leb (s .used + wordBytes) mostBytes) 0 tooLong)) otherKind)
+    noWord)
+    termDue
+
+abbrev pub variableWhy : ℕ → Seen → Token → ℕ
+variableWhy left s u =
+    cond (leb (length u) (suc mostName))
+    (cond (ltb (indexIn u (s .variables)) (length (s .variables))) variableTwice
+    (cond (eqb left 0) tooDeep
+    (cond (ltb (length (s .variables)) nameCount) (cond (leb (s .used + 1) mostBytes) 0 tooLong) manyVariables)))
+    longName
+
+abbrev pub faultAt : {A : Type 0} → ℕ → ℕ → List Lexeme → Got A
+faultAt why of l = bad (record { why = why; at = place l; of = of })
+
+abbrev pub withFirst : Term → TermsRead → TermsRead
+withFirst t a = record { terms = cons t (a .terms); seen = a .seen }
+
+abbrev pub readPlaces : (ℕ → Seen → List Lexeme → Got TermRead) → ℕ → ℕ → List ℕ → Seen → List Lexeme → Got TermsRead
+readPlaces below f c [] s l =
+    cond (same (token l) (mark closing)) (got (record { terms = nil; seen = s }) (rest l)) (faultAt placesWrong f l)
+readPlaces below f c (k ∷ ks) s l =
+    cond (same (token l) (mark c))
+    (andThen (below k s (rest l))
+    (λ a r. andThen (readPlaces below f comma ks (a .seen) r) (λ ts r′. got (withFirst (a .term) ts) r′)))
+    (faultAt placesWrong f l)
+
+abbrev pub readBehind : (ℕ → Seen → List Lexeme → Got TermRead) → ℕ → List ℕ → Seen → List Lexeme → Got TermsRead
+readBehind below f [] s l = got (record { terms = nil; seen = s }) l
+readBehind below f (k ∷ ks) s l = readPlaces below f opening (k ∷ ks) s l
+
+abbrev pub readWord : (ℕ → Seen → List Lexeme → Got TermRead) → List Token → Vocabulary → ℕ → ℕ → Seen → List Lexeme → ℕ → Got TermRead
+readWord below N W left due s l zero =
+    let f : ℕ = indexIn (token l) N in
+    andThen (readBehind below f (word W f .kinds) (record { variables = s .variables; used = s .used + wordBytes }) (rest l))
+    (λ ts r. got (record { term = app f (ts .terms); seen = ts .seen }) r)
+readWord below N W left due s l (suc why) = faultAt (suc why) due l
+
+abbrev pub readVariable : ℕ → Seen → List Lexeme → ℕ → Got TermRead
+readVariable due s l zero =
+    got
+    (record { term = var (length (s .variables)); seen = record { variables = s .variables ++ (token l ∷ []); used = s .used + 1 } })
+    (rest l)
+readVariable due s l (suc why) = faultAt (suc why) due l
+
+abbrev pub readNode : (ℕ → Seen → List Lexeme → Got TermRead) → List Token → Vocabulary → ℕ → ℕ → Seen → List Lexeme → Got TermRead
+readNode below N W left due s l =
+    cond (same (token l) opened) (got (record { term = any; seen = s }) (rest l))
+    (cond (isVariable (token l)) (readVariable due s l (variableWhy left s (token l)))
+    (readWord below N W left due s l (wordWhy N W left due s (token l))))
+
+abbrev pub readTerm : List Token → Vocabulary → ℕ → ℕ → Seen → List Lexeme → Got TermRead
+readTerm N W zero due s l = readNode (λ k s′ l′. faultAt tooDeep k l′) N W zero due s l
+readTerm N W (suc left) due s l = readNode (readTerm N W left) N W (suc left) due s l
+
+abbrev pub PhraseRead : Type 0
+PhraseRead = Phrase
+
+abbrev pub phraseRead : ℕ → TermRead → PhraseRead
+phraseRead k a = record { label = []; kind = k; term = a .term; variables = a .seen .variables }
+
+-- `: step`
+abbrev pub readRootKind : List Token → TermRead → List Lexeme → Got PhraseRead
+readRootKind K a l =
+    cond (same (token l) (mark colon))
+    (cond (isIdentifier (token (rest l)))
+    (cond (ltb (indexIn (token (rest l)) K) (length K)) (got (phraseRead (indexIn (token (rest l)) K) a) (rest (rest l)))
+    (faultAt notDeclared 0 (rest l)))
+    (faultAt placeDue 0 (rest l)))
+    (faultAt colonDue 0 l)
+
+-- The kind byte is counted, and an open root takes a byte.
+abbrev pub readRoot : List Token → List Token → Vocabulary → List Lexeme → Got PhraseRead
+readRoot K N W l =
+    let s : Seen = record { variables = []; used = 1 } in
+    cond (same (token l) opened) (readRootKind K (record { term = any; seen = s }) (rest l))
+    (cond (isVariable (token l))
+    (andThen (readVariable 0 s l (variableWhy mostLevels s (token l))) (readRootKind K))
+    (cond (isIdentifier (token l))
+    (andThen (readTerm N W mostLevels (word W (indexIn (token l) N) .result) s l)
+    (λ a r. got (phraseRead (word W (indexIn (token l) N) .result) a) r))
+    (faultAt patternDue 0 l)))
+
+abbrev pub labelled : Token → PhraseRead → PhraseRead
+labelled u p = record { label = u; kind = p .kind; term = p .term; variables = p .variables }
+
+-- `go: wait(up, free)`, or `wait(up, free)`.
+abbrev pub readPhrase : List Token → List Token → Vocabulary → List Lexeme → Got PhraseRead
+readPhrase K N W l =
+    cond (isIdentifier (token l) && same (token (rest l)) (mark colon))
+    (cond (leb (length (token l)) mostName)
+    (andThen (readRoot K N W (rest (rest l))) (λ p r. got (labelled (token l) p) r))
+    (faultAt longName 0 l))
+    (readRoot K N W l)
