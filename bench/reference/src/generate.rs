@@ -1,8 +1,10 @@
 //! Pseudo-random inputs for tests, the same for the same seed.
 
 mod books;
+mod texts;
 
 pub use books::BookCase;
+pub use texts::TextCase;
 
 /// One set of inputs for all calls but the listing of books.
 #[derive(Clone, Debug, PartialEq, Eq)]
@@ -1473,6 +1475,7 @@ mod tests {
         for _ in 0..200 {
             assert_eq!(one.case(), two.case());
             assert_eq!(one.book_case(), two.book_case());
+            assert_eq!(one.text_case(), two.text_case());
         }
     }
 }

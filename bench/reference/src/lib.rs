@@ -1,5 +1,5 @@
 //! Check, match, part, list, fill and the listing of books over vocabularies
-//! and terms given as bytes.
+//! and terms given as bytes, and texts in words.
 #![forbid(unsafe_code)]
 
 mod book;
@@ -10,6 +10,7 @@ mod matching;
 mod program;
 mod term;
 mod vocabulary;
+pub mod words;
 
 use matching::Pass;
 use term::{Stack, CHECK, SHORT};

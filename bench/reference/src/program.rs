@@ -6,7 +6,7 @@ use crate::vocabulary::ONES;
 const SPACE: u64 = 65_536;
 
 /// The length of the first entry of a listing.
-fn entry_length(listing: &[u8]) -> usize {
+pub(crate) fn entry_length(listing: &[u8]) -> usize {
     let mut at = 1;
     let mut terms = 1;
     while terms != 0 {

@@ -64,7 +64,7 @@ fn leaf(v: &Vocabulary, word: usize) -> Tree {
 impl Gen {
     /// A term of at most so many bytes more, without names; each of its places
     /// is open once in so many times.
-    fn partial(
+    pub(super) fn partial(
         &mut self,
         v: &Vocabulary,
         kind: usize,

@@ -1,0 +1,122 @@
+//! What is wrong with a text, told with line and column, the line itself and a
+//! mark below the place.
+
+use super::tokens::token;
+use super::{say, Refused};
+use std::io::Write;
+
+pub(super) const KIND_DUE: u8 = 1;
+pub(super) const KIND_NAME_DUE: u8 = 2;
+pub(super) const LONG_NAME: u8 = 3;
+pub(super) const KIND_TWICE: u8 = 4;
+pub(super) const MANY_KINDS: u8 = 5;
+pub(super) const WORD_DUE: u8 = 6;
+pub(super) const WORD_TWICE: u8 = 7;
+pub(super) const MANY_WORDS: u8 = 8;
+pub(super) const PLACE_DUE: u8 = 9;
+pub(super) const NOT_DECLARED: u8 = 10;
+pub(super) const MANY_PLACES: u8 = 11;
+pub(super) const PLACE_END: u8 = 12;
+pub(super) const NO_WORDS: u8 = 13;
+pub(super) const PATTERN_DUE: u8 = 14;
+pub(super) const TERM_DUE: u8 = 15;
+pub(super) const NO_WORD: u8 = 16;
+pub(super) const OTHER_KIND: u8 = 17;
+pub(super) const PLACES_WRONG: u8 = 18;
+pub(super) const TOO_DEEP: u8 = 19;
+pub(super) const TOO_LONG: u8 = 20;
+pub(super) const NAME_TWICE: u8 = 21;
+pub(super) const MANY_NAMES: u8 = 22;
+pub(super) const COLON_DUE: u8 = 23;
+pub(super) const LONG_TEXT: u8 = 24;
+
+/// A byte that goes on with a character which began before it.
+fn goes_on(byte: u8) -> bool {
+    byte & 0xc0 == 0x80
+}
+
+impl Refused<'_> {
+    pub(super) fn complaint(&self, text: &[u8]) -> Vec<u8> {
+        let (before, behind) = text.split_at(self.fault.at);
+        let mut lines = before.rsplit(|&byte| byte == b'\n');
+        let left = lines.next().unwrap_or(&[]);
+        let right = behind.split(|&byte| byte == b'\n').next().unwrap_or(&[]);
+        let column = 1 + left.iter().filter(|&&byte| !goes_on(byte)).count();
+        let mut out = Vec::new();
+        say!(out, "line {}, column {column}: ", 1 + lines.count());
+        self.reason(token(text, self.fault.at), &mut out);
+        out.push(b'\n');
+        out.extend(left.iter().chain(right).map(|&byte| match byte {
+            b'\t' => byte,
+            0..=31 | 127 => b'?',
+            _ => byte,
+        }));
+        out.push(b'\n');
+        for &byte in left.iter().filter(|&&byte| !goes_on(byte)) {
+            out.push(if byte == b'\t' { byte } else { b' ' });
+        }
+        out.extend_from_slice(b"^\n");
+        out
+    }
+
+    /// Appends what is wrong, where a token stands.
+    fn reason(&self, token: &[u8], out: &mut Vec<u8>) {
+        let mut around = |before: &str, behind: &str| {
+            out.extend_from_slice(before.as_bytes());
+            out.extend_from_slice(token);
+            out.extend_from_slice(behind.as_bytes());
+        };
+        let plain = match self.fault.why {
+            KIND_DUE => "`kind` is due here, as a text begins with its kinds",
+            KIND_NAME_DUE => "a name is due here, for the kind",
+            LONG_NAME => "32 bytes are the most for a name, and this one has more",
+            KIND_TWICE => return around("kind ", " is declared twice"),
+            MANY_KINDS => "16 kinds are the most, and this is one more",
+            WORD_DUE => "a name is due here, for a word",
+            WORD_TWICE => return around("word ", " is declared twice"),
+            MANY_WORDS => "96 words are the most, and this is one more",
+            PLACE_DUE => "the name of a kind is due here",
+            NOT_DECLARED => return around("kind ", " is used and not declared"),
+            MANY_PLACES => "8 places are the most, and this is one more",
+            PLACE_END => "a , or a ) is due here",
+            NO_WORDS => "no kind has a word",
+            PATTERN_DUE => "a pattern is due here",
+            TERM_DUE | OTHER_KIND => return self.due(out),
+            NO_WORD => return around("no word ", " in this vocabulary"),
+            PLACES_WRONG => return self.places(token, out),
+            TOO_DEEP => "32 levels are the most, and this is one more",
+            TOO_LONG => "4096 bytes are the most for a pattern, and this one has more",
+            NAME_TWICE => return around("", " stands twice in this pattern"),
+            MANY_NAMES => "64 names are the most in a pattern, and this is one more",
+            COLON_DUE => "a : and a kind are due here, as in _: step",
+            LONG_TEXT => "65535 bytes are the most for a text, and this one has more",
+            why => unreachable!("there is no reason {why}"),
+        };
+        out.extend_from_slice(plain.as_bytes());
+    }
+
+    /// The kind that is due, with its words.
+    fn due(&self, out: &mut Vec<u8>) {
+        let of = self.fault.of;
+        out.extend_from_slice(self.vocabulary.kinds[of]);
+        out.extend_from_slice(b" is due here");
+        let words = self.vocabulary.words.iter();
+        for (number, word) in words.filter(|word| word.kind as usize == of).enumerate() {
+            out.extend_from_slice(if number == 0 { b": " } else { b" or " });
+            out.extend_from_slice(word.name);
+        }
+    }
+
+    /// How many places a word takes, where another mark than its places need
+    /// stands.
+    fn places(&self, token: &[u8], out: &mut Vec<u8>) {
+        let word = &self.vocabulary.words[self.fault.of];
+        out.extend_from_slice(word.name);
+        let rest = match token {
+            b"," => "and no , is due here",
+            b")" => "and no ) is due here",
+            _ => "in ( and ) with a , between them",
+        };
+        say!(out, " takes {} places, {rest}", word.places.len());
+    }
+}

@@ -1,0 +1,402 @@
+//! Texts in words: answers and complaints worked out by hand, and the reading
+//! back of answers.
+
+use reference::generate::Gen;
+use reference::list;
+use reference::words::{self, answer, read, read_patterns, Text};
+
+const BENCH: &str = "kind step = wait(button, queue) | done\n\
+    kind button = up | down\n\
+    kind queue = free | full\n";
+
+/// The answer for the bench vocabulary with this behind it.
+fn bench(patterns: &str) -> String {
+    said(&format!("{BENCH}{patterns}"))
+}
+
+fn said(text: &str) -> String {
+    String::from_utf8(answer(text.as_bytes())).unwrap()
+}
+
+/// The number of the fault of a text, and its offset.
+fn fault(text: &str) -> (u8, usize) {
+    let fault = read(text.as_bytes()).unwrap_err().fault;
+    (fault.why, fault.at)
+}
+
+#[test]
+fn bench_example() {
+    let text = bench("go: wait(up, free)\n");
+    let expected = "# go: wait(up, free)\n\
+        # 3 leftovers:\n\
+        done\n\
+        wait(down, _)\n\
+        wait(up, full)\n\
+        # end of 3 leftovers\n\
+        \n\
+        # end of 1 patterns\n";
+    assert_eq!(text, expected);
+}
+
+#[test]
+fn bytes_of_the_bench_example() {
+    let text = format!("{BENCH}go: wait(up, free) wait(_, ?n) ?s: step any: _: queue");
+    let Text {
+        vocabulary,
+        patterns,
+    } = read(text.as_bytes()).unwrap();
+    assert_eq!(
+        vocabulary.bytes(),
+        [3, 6, 0, 3, 1, 2, 0, 0, 1, 0, 1, 0, 2, 0, 2, 0]
+    );
+    let bytes: Vec<&[u8]> = patterns.iter().map(|pattern| &pattern.bytes[..]).collect();
+    assert_eq!(
+        bytes,
+        [
+            &[0, 0, 3, 2, 0, 4, 0][..],
+            &[0, 0, 2, 128],
+            &[0, 128],
+            &[2, 255]
+        ]
+    );
+    let labels: Vec<Option<&[u8]>> = patterns.iter().map(|pattern| pattern.label).collect();
+    assert_eq!(labels, [Some(&b"go"[..]), None, None, Some(b"any")]);
+}
+
+#[test]
+fn no_patterns() {
+    assert_eq!(bench(""), "# end of 0 patterns\n");
+}
+
+#[test]
+fn open_places_and_names() {
+    let text = bench("a: wait(?x, free) b: wait(up, _) _: step ?all: step\ndone");
+    let expected =
+        "# a: wait(?x, free)\n# 2 leftovers:\ndone\nwait(?x, full)\n# end of 2 leftovers\n\n\
+        # b: wait(up, _)\n# 2 leftovers:\ndone\nwait(down, _)\n# end of 2 leftovers\n\n\
+        # _: step\n# 0 leftovers:\n# end of 0 leftovers\n\n\
+        # ?all: step\n# 0 leftovers:\n# end of 0 leftovers\n\n\
+        # done\n# 1 leftovers:\nwait(_, _)\n# end of 1 leftovers\n\n\
+        # end of 5 patterns\n";
+    assert_eq!(text, expected);
+}
+
+#[test]
+fn a_kind_without_situations() {
+    // No complete situation fits the pattern, so any step is left.
+    let text = said("kind step = print(printer) | done kind printer go: print(_) done _: printer");
+    let expected = "# go: print(_)\n# 1 leftovers:\n_: step\n# end of 1 leftovers\n\n\
+        # done\n# 0 leftovers:\n# end of 0 leftovers\n\n\
+        # _: printer\n# 0 leftovers:\n# end of 0 leftovers\n\n\
+        # end of 3 patterns\n";
+    assert_eq!(text, expected);
+}
+
+#[test]
+fn blanks_change_nothing() {
+    let tight = "kind step=wait(button,queue)|done kind button=up|down \
+        kind queue=free|full go:wait(up,free)";
+    let wide = "# a step\nkind\tstep #=\r\n = wait ( button , # here\n queue ) | done\
+        \r\nkind button = up | down kind queue\n= free|full\n\n go : wait(up, free) # the end";
+    let expected = bench("go: wait(up, free)");
+    assert_eq!(said(tight), expected);
+    assert_eq!(said(wide), expected);
+}
+
+#[test]
+fn names_of_all_sorts() {
+    let text = said("kind ß = 0 | é-1(kinds) | __ kind kinds = kin | 0a kin: é-1(?kind) ?_: ß");
+    let expected = "# kin: é-1(?kind)\n# 2 leftovers:\n0\n__\n# end of 2 leftovers\n\n\
+        # ?_: ß\n# 0 leftovers:\n# end of 0 leftovers\n\n# end of 2 patterns\n";
+    assert_eq!(text, expected);
+}
+
+#[test]
+fn complaints() {
+    assert_eq!(
+        bench("go: wait(up, down)"),
+        "line 4, column 14: queue is due here: free or full\ngo: wait(up, down)\n             ^\n"
+    );
+    assert_eq!(
+        bench("\twait(up, ?)\n"),
+        "line 4, column 11: queue is due here: free or full\n\twait(up, ?)\n\t         ^\n"
+    );
+    assert_eq!(
+        bench("wait(up, free, full)"),
+        "line 4, column 14: wait takes 2 places, and no , is due here\n\
+            wait(up, free, full)\n             ^\n"
+    );
+    assert_eq!(
+        bench("wait(up)\ndone\n"),
+        "line 4, column 8: wait takes 2 places, and no ) is due here\nwait(up)\n       ^\n"
+    );
+    assert_eq!(
+        bench("wait\n"),
+        "line 5, column 1: wait takes 2 places, in ( and ) with a , between them\n\n^\n"
+    );
+    assert_eq!(
+        bench("\n\nheld: done\ngo: held"),
+        "line 7, column 5: no word held in this vocabulary\ngo: held\n    ^\n"
+    );
+    assert_eq!(
+        said("kind step = on(lamp)"),
+        "line 1, column 16: kind lamp is used and not declared\n\
+            kind step = on(lamp)\n               ^\n"
+    );
+    // é and λ are two bytes each and one column; a carriage return and a bell
+    // are shown as ?.
+    assert_eq!(
+        said("kind é = λ # \u{7}\r\né: λ λ(\r\n"),
+        "line 2, column 7: a pattern is due here\né: λ λ(?\n      ^\n"
+    );
+    assert_eq!(
+        said("kind a = b ?x\u{7}"),
+        "line 1, column 14: a : and a kind are due here, as in _: step\n\
+            kind a = b ?x?\n             ^\n"
+    );
+    assert_eq!(
+        bench("wait(?x, ?x)"),
+        "line 4, column 10: ?x stands twice in this pattern\nwait(?x, ?x)\n         ^\n"
+    );
+    assert_eq!(
+        said("kind a = b | b"),
+        "line 1, column 14: word b is declared twice\nkind a = b | b\n             ^\n"
+    );
+    assert_eq!(
+        said("kind a\nkind a"),
+        "line 2, column 6: kind a is declared twice\nkind a\n     ^\n"
+    );
+    assert_eq!(
+        said(""),
+        "line 1, column 1: `kind` is due here, as a text begins with its kinds\n\n^\n"
+    );
+}
+
+#[test]
+fn faults() {
+    let long = "x".repeat(33);
+    let most = "x".repeat(32);
+    for (text, expected) in [
+        ("go: done".to_string(), (1, 0)),
+        // The names of kinds come first, wherever they stand.
+        ("go: done kind = up".to_string(), (2, 14)),
+        ("kind kind".to_string(), (2, 5)),
+        ("kind a = b(kind".to_string(), (2, 15)),
+        (format!("kind {long}"), (3, 5)),
+        (format!("kind a = {long}"), (3, 9)),
+        (format!("kind a = b {long}: b"), (3, 11)),
+        (format!("kind a = b ?{long}: a"), (3, 11)),
+        // A place and a word are not known by a name that is too long.
+        (format!("kind a = b({long})"), (10, 11)),
+        (format!("kind a = b {long}"), (16, 11)),
+        ("kind a kind b kind a".to_string(), (4, 19)),
+        ("kind a =".to_string(), (6, 8)),
+        ("kind a = b | | c".to_string(), (6, 13)),
+        ("kind a = _".to_string(), (6, 9)),
+        ("kind a = b kind c = b".to_string(), (7, 20)),
+        ("kind a = b()".to_string(), (9, 11)),
+        ("kind a = b(_)".to_string(), (9, 11)),
+        ("kind a = b(c)".to_string(), (10, 11)),
+        ("kind a = b(a,a,a,a,a,a,a,a,a)".to_string(), (11, 27)),
+        ("kind a = b(a,a,a,a,a,a,a,a,z)".to_string(), (10, 27)),
+        ("kind a = b(a | c".to_string(), (12, 13)),
+        ("kind a kind b x".to_string(), (13, 14)),
+        ("kind a".to_string(), (13, 6)),
+        ("kind a = b | c\n) b".to_string(), (14, 15)),
+        // A ( goes on with the word before it, on whatever line.
+        ("kind a = b | c\n( b".to_string(), (10, 17)),
+        ("kind a = b ?: a".to_string(), (14, 11)),
+        ("kind a = b b kind c = d".to_string(), (14, 13)),
+        // A word without places takes no parentheses, and ends a pattern.
+        ("kind a = b b()".to_string(), (14, 12)),
+        ("kind a = b | c(a) c((".to_string(), (15, 20)),
+        ("kind a = b | c(a) c(kind d".to_string(), (15, 20)),
+        ("kind a = b x".to_string(), (16, 11)),
+        ("kind a = b x: y: b".to_string(), (16, 14)),
+        ("kind a = b(c) kind c = d b(b)".to_string(), (17, 27)),
+        ("kind a = b(a) b(_ _)".to_string(), (18, 18)),
+        ("kind a = b(a) b)".to_string(), (18, 15)),
+        ("kind a = b(a) b(?x, ?x)".to_string(), (18, 18)),
+        ("kind a = b(a,a) b(?x, ?x)".to_string(), (21, 22)),
+        ("kind a = b _".to_string(), (23, 12)),
+        ("kind a = b _ b".to_string(), (23, 13)),
+        ("kind a = b _: b".to_string(), (10, 14)),
+        ("kind a = b _: _".to_string(), (9, 14)),
+    ] {
+        assert_eq!(fault(&text), expected, "{text}");
+    }
+    assert!(
+        read(format!("kind {most} = {most}({most}) {most}: ?{most}: {most}").as_bytes()).is_ok()
+    );
+}
+
+#[test]
+fn limits() {
+    let names = |prefix: &str, count: usize| -> Vec<String> {
+        (0..count).map(|i| format!("{prefix}{i}")).collect()
+    };
+    let kinds = |count| format!("kind a = b kind {}", names("k", count).join(" kind "));
+    assert!(read(kinds(15).as_bytes()).is_ok());
+    assert_eq!(fault(&kinds(16)), (5, kinds(16).len() - 3));
+    let words = |count| format!("kind a = {}", names("w", count).join(" | "));
+    assert!(read(words(96).as_bytes()).is_ok());
+    assert_eq!(fault(&words(97)), (8, words(97).len() - 3));
+    // 31 words around a name or a word have 32 levels; an open place is none.
+    let deep = |words: usize, inside: &str| {
+        let (open, close) = ("b(".repeat(words), ")".repeat(words));
+        format!("kind a = b(a) | c {open}{inside}{close}")
+    };
+    assert!(read(deep(31, "?x").as_bytes()).is_ok());
+    assert!(read(deep(31, "c").as_bytes()).is_ok());
+    assert!(read(deep(32, "_").as_bytes()).is_ok());
+    assert_eq!(fault(&deep(32, "?x")), (19, 18 + 64));
+    assert_eq!(fault(&deep(32, "c")), (19, 18 + 64));
+    assert_eq!(fault(&deep(32, "d")), (16, 18 + 64));
+    // 64 names, in words of eight places.
+    let many = |last: &str| {
+        let row = |from: usize| {
+            let row: Vec<String> = (from..from + 8).map(|n| format!("?{n}")).collect();
+            format!("b({})", row.join(","))
+        };
+        let rows: Vec<String> = (0..7).map(|n| row(8 * n)).collect();
+        format!(
+            "kind a = b(a,a,a,a,a,a,a,a) | c(a,a) c(b({},{}),{last})",
+            rows.join(","),
+            row(56)
+        )
+    };
+    assert!(read(many("_").as_bytes()).is_ok());
+    assert_eq!(fault(&many("?64")), (22, many("").len() - 1));
+    assert_eq!(fault(&many("?63")), (21, many("").len() - 1));
+    // 4,096 bytes are the kind byte, 2,047 words and a name. A block has
+    // 1 + 8 + 64 + 512 = 585 words; three blocks, the root, three rows of rows
+    // (1 + 8 + 64 = 73 words each) and 72 words around the end make 2,047.
+    let leaves = |count: usize| format!("b({}", vec!["c"; count].join(","));
+    let row = format!("{})", leaves(8));
+    let rows = format!("b({})", [&row[..]; 8].join(","));
+    let block = format!("b({})", [&rows[..]; 8].join(","));
+    let full = |end: &str| {
+        let last = format!("b({},{},{end},_))", [&row[..]; 7].join(","), leaves(6));
+        let rest = format!("b({rows},{rows},{rows},{last},_,_,_,_)");
+        format!("kind a = b(a,a,a,a,a,a,a,a) | c b({block},{block},{block},{rest},_,_,_,_)")
+    };
+    let text = full("?x");
+    assert_eq!(read(text.as_bytes()).unwrap().patterns[0].bytes.len(), 4096);
+    let at = text.find('?').unwrap();
+    assert_eq!(fault(&full("c")), (20, at));
+    assert_eq!(fault(&full("b(_,")), (20, at));
+}
+
+#[test]
+fn long_texts() {
+    let mut text = BENCH.as_bytes().to_vec();
+    text.resize(65_535, b' ');
+    assert_eq!(answer(&text), b"# end of 0 patterns\n");
+    text.push(b'\n');
+    let line = " ".repeat(65_535 - BENCH.len());
+    let expected = format!(
+        "line 4, column {}: 65535 bytes are the most for a text, and this one has more\n{line}\n{line}^\n",
+        65_535 - BENCH.len() + 1
+    );
+    assert_eq!(String::from_utf8(answer(&text)).unwrap(), expected);
+}
+
+#[test]
+fn long_answers() {
+    // 95 words without places, and a word with eight places for them.
+    let words: Vec<String> = (0..95).map(|i| format!("word-{i:027}")).collect();
+    let kinds = format!("kind a = b(c,c,c,c,c,c,c,c) kind c = {}", words.join(" | "));
+    let pattern = format!("b({})\n", [&words[0][..]; 8].join(","));
+    let one = said(&format!("{kinds}\n{pattern}"));
+    assert!(
+        one.contains("# 752 leftovers:\n")
+            && one.ends_with("# end of 752 leftovers\n\n# end of 1 patterns\n")
+    );
+    // An entry has a line of 57 to 274 bytes, and 20 patterns have 15,040.
+    let many = said(&format!("{kinds}\n{}", pattern.repeat(20)));
+    let expected = "the answer has more than 1048576 bytes, which are the most: \
+        ask for fewer patterns at a time\n";
+    assert_eq!(many, expected);
+}
+
+#[test]
+fn listings_that_are_too_long() {
+    // A word over eight with eight places each, of a kind with 96 words.
+    let words: Vec<String> = (0..95).map(|i| format!("w{i}")).collect();
+    let kinds = format!("kind a = b(a,a,a,a,a,a,a,a) | {}", words.join(" | "));
+    let row = format!("b({})", ["w0"; 8].join(","));
+    let pattern = format!("b({})", vec![row; 8].join(","));
+    let text = said(&format!("{kinds}\n{pattern}"));
+    // The words stand at 1, 3, .. 145, so an entry at word i has 1 + 2 i + 2
+    // bytes, and each of the 73 words has 95 others.
+    let bytes: usize = (0..73).map(|i| 95 * (3 + 2 * i)).sum();
+    let expected = format!(
+        "leftovers not listed, as the list has {bytes} bytes and 65536 are the most\n\n# end of 1 patterns\n"
+    );
+    assert!(text.ends_with(&expected), "{}", &text[text.len() - 120..]);
+}
+
+/// An answer, read as patterns, is the leftovers and nothing else.
+#[test]
+fn answers_are_read_back() {
+    let mut gen = Gen::new(11);
+    let (mut good, mut entries, mut faults) = (0, 0, [0; 25]);
+    for _ in 0..4000 {
+        let case = gen.text_case();
+        let said = answer(&case.text);
+        let text = match read(&case.text) {
+            Ok(text) => text,
+            Err(refused) => {
+                faults[refused.fault.why as usize] += 1;
+                continue;
+            }
+        };
+        if said.starts_with(b"the answer") {
+            continue;
+        }
+        good += 1;
+        let vocabulary = text.vocabulary.bytes();
+        let listed = text.patterns.iter().map(|p| p.leftovers(&vocabulary));
+        let listed: Vec<Vec<u8>> = listed.flat_map(Result::unwrap_or_default).collect();
+        let without = words::listed(&said);
+        let back = read_patterns(&text.vocabulary, &without).unwrap();
+        let whole = without.len() == said.len();
+        assert_eq!(read_patterns(&text.vocabulary, &said).is_ok(), whole);
+        assert!(back.iter().all(|pattern| pattern.label.is_none()));
+        let back: Vec<Vec<u8>> = back.into_iter().map(|pattern| pattern.bytes).collect();
+        assert_eq!(back, listed);
+        entries += back.len();
+    }
+    println!("{good} answers, {entries} entries, faults {faults:?}");
+    assert!(good > 1000 && entries > 10_000);
+}
+
+/// A text is read as what it was written from, if list takes all its patterns,
+/// and else refused.
+#[test]
+fn texts_are_read_as_meant() {
+    let mut gen = Gen::new(12);
+    let (mut good, mut bad) = (0, 0);
+    for _ in 0..4000 {
+        let case = gen.text_case();
+        let Some((vocabulary, patterns)) = &case.meant else {
+            continue;
+        };
+        let taken = |pattern: &Vec<u8>| matches!(list(vocabulary, pattern, &mut [])[0], 0 | 20);
+        match read(&case.text) {
+            Ok(text) => {
+                assert_eq!(text.vocabulary.bytes(), *vocabulary);
+                let read = text.patterns.iter().map(|pattern| &pattern.bytes);
+                assert!(read.eq(patterns) && patterns.iter().all(taken));
+                good += 1;
+            }
+            Err(refused) => {
+                let fault = refused.fault;
+                assert!(!patterns.iter().all(taken), "{fault:?}");
+                bad += 1;
+            }
+        }
+    }
+    println!("{good} as meant, {bad} refused");
+    assert!(good > 1000 && bad > 100);
+}
