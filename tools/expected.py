@@ -642,11 +642,18 @@ VARIABLE = re.compile(rb"\?[" + NAMES + rb"]+\Z")
 
 LONG_NAME = b"32 bytes are the most for a name, and this one has more"
 NO_KIND = b"the name of a kind is due here"
+NO_PLACES = b"no places are due here, as what stands before takes none or has them all"
+
+# What some editors put before a text.
+BYTE_ORDER_MARK = b"\xef\xbb\xbf"
 
 # What an answer has beside patterns and entries.
 LEFTOVERS, END_OF_LEFTOVERS, END_OF_PATTERNS = b"# %d leftovers:", b"# end of %d leftovers", b"# end of %d patterns"
 NOT_LISTED = b"leftovers not listed, as the list has %d bytes and 65536 are the most"
 TOO_LONG = b"the answer has more than 1048576 bytes, which are the most: ask for fewer patterns at a time\n"
+TOGETHER = b"all %d patterns of %b together"
+TOO_MANY = b"leftovers of %b not listed, as 64 patterns are the most"
+PAST = b"leftovers of %b not listed, as behind pattern %d of them they have more than 32768 bytes, or one of them more than 4096"
 
 
 class Faulty(Exception):
@@ -659,12 +666,27 @@ class Faulty(Exception):
 
 @dataclass
 class Phrase:
-    """A pattern of a text. Its variables are numbered as they stand; without a label this is empty."""
+    """A pattern of a text, and the situations that it is asked about. Its variables are numbered as they stand; without a
+    label this is empty."""
 
     label: bytes
     kind: int
     tree: Written
     variables: list
+    situations: list
+
+
+class Differs(Exception):
+    """What is said of a situation before the first word that differs, and the word that the pattern has there."""
+
+    def __init__(self, before, due):
+        super().__init__(before, due)
+        self.before, self.due = before, due
+
+
+def columns(text):
+    """The bytes that begin a character: 128 to 191 go on with one."""
+    return [byte for byte in text if not 128 <= byte <= 191]
 
 
 class Text:
@@ -689,8 +711,11 @@ class Text:
         self.start = self.lexemes[self.next][1]
         self.vocabulary = Vocabulary(len(self.kinds), self.records, kinds_with_situations(self.records))
         self.phrases = []
+        self.complete = False
         while self.token() != b"":
             self.phrases.append(self.phrase())
+            while IDENTIFIER.match(self.token()) and self.token(self.next + 1) == b"?":
+                self.phrases[-1].situations.append(self.question(self.phrases[-1]))
 
     def token(self, number=None):
         """A token, or the next one."""
@@ -721,6 +746,8 @@ class Text:
         return name
 
     def declarations(self):
+        if self.token().startswith(BYTE_ORDER_MARK):
+            self.fault(b"a byte order mark stands here, and a text begins with `kind`")
         if self.token() != b"kind":
             self.fault(b"`kind` is due here, as a text begins with its kinds")
         kind = 0
@@ -784,12 +811,30 @@ class Text:
             kind = self.records[self.words.index(token)].result if token in self.words else None
             tree = self.term(kind, 1)
         else:
-            self.fault(b"a pattern is due here")
-        return Phrase(label, kind, tree, self.variables)
+            others = {b"(": NO_PLACES, b"kind": b"all kinds are declared before the first pattern"}
+            self.fault(others.get(token, b"a pattern is due here"))
+        return Phrase(label, kind, tree, self.variables, [])
+
+    def question(self, phrase):
+        """The situation that a pattern is asked about."""
+        if self.token() != phrase.label:
+            self.fault(b"this is not the label of the pattern before it, which a question asks")
+        self.next += 2
+        self.size, self.variables, self.complete = 1, [], True
+        situation = self.term(phrase.kind, 1)
+        self.complete = False
+        return situation
 
     def term(self, kind, level):
         """A term of a kind; None for an open place."""
         token = self.token()
+        if self.complete and (token == b"_" or VARIABLE.match(token)):
+            # What is wrong with the variable itself is told first.
+            here = self.next
+            if token != b"_":
+                self.variable(level)
+            self.next = here
+            self.fault(b"a situation has no open place and no name")
         if self.taken(b"_"):
             return None
         if VARIABLE.match(token):
@@ -838,10 +883,29 @@ class Text:
         self.size += more
 
     def mark_of(self, word, mark):
-        """A mark that a word's places need."""
-        if not self.taken(mark):
-            written = {b",": b"and no , is due here", b")": b"and no ) is due here"}.get(self.token(), b"in ( and ) with a , between them")
-            self.fault(b"%b takes %d places, %b" % (self.words[word], len(self.records[word].places), written))
+        """A mark that a word's places need: before a place, or behind the last."""
+        if self.taken(mark):
+            return
+        token, number = self.token(), len(self.records[word].places)
+        if token == b"(":
+            self.fault(NO_PLACES)
+        elif mark != b")":
+            written = {b")": b"and fewer are written", b",": b"and none is written"}.get(token, b"in ( and ) with a , between them")
+        elif token == b",":
+            written = b"and %d are written" % (number + self.places_behind())
+        else:
+            written = b"and a ) is due here"
+        self.fault(b"%b takes %d place%b, %b" % (self.words[word], number, b"" if number == 1 else b"s", written))
+
+    def places_behind(self):
+        """How many places are written from here on, each behind a comma, up to the ) that ends them or the end of the text."""
+        number = deep = 0
+        for token, _ in self.lexemes[self.next :]:
+            if token == b")" and deep == 0:
+                break
+            number += token == b"," and deep == 0
+            deep += (token == b"(") - (token == b")")
+        return number
 
     def due(self, kind):
         words = b" or ".join(name for name, word in zip(self.words, self.records) if word.result == kind)
@@ -882,9 +946,85 @@ class Text:
             yield END_OF_LEFTOVERS % number
         yield b""
 
+    def beside(self, phrase, pattern, situation, said, covers):
+        """Goes through pattern and situation side by side: `said` gets the situation in words, up to the first word that
+        differs, and `covers` what each name covers."""
+        if pattern is None or isinstance(pattern, (Anything, Name)):
+            words = self.in_words(phrase.kind, situation, [])
+            if isinstance(pattern, Name):
+                covers.append((phrase.variables[pattern.number], words))
+            said.append(words)
+            return
+        if pattern.word != situation.word:
+            raise Differs(b"".join(said), self.words[pattern.word])
+        said.append(self.words[situation.word])
+        mark = b"("
+        for bit in self.records[situation.word].places:
+            said.append(mark)
+            self.beside(phrase, pattern.written.get(bit), situation.written[bit], said, covers)
+            mark = b", "
+        if self.records[situation.word].places:
+            said.append(b")")
+
+    def verdict(self, phrase, situation):
+        """The question as it was read, and yes or no."""
+        ask, covers = phrase.label + b" ? ", []
+        yield b"# " + ask + self.in_words(phrase.kind, situation, [])
+        try:
+            self.beside(phrase, phrase.tree, situation, [], covers)
+            yield b"# yes"
+            for name, words in covers:
+                yield b"# %b = %b" % (name, words)
+        except Differs as found:
+            yield b"# " + b" " * len(columns(ask + found.before)) + b"^ no: %b is due here" % found.due
+        yield b""
+
+    def of_kind(self, kind):
+        return [phrase.tree for phrase in self.phrases if phrase.kind == kind]
+
+    def leftovers_together(self, kind):
+        """The leftovers of all patterns of a kind, where there are two at least; None where they cannot be listed. Their
+        order is left open, and this is the one in which document 02 has them come about."""
+        trees = self.of_kind(kind)
+        try:
+            return [] if len(trees) < 2 else None if len(trees) > MOST_PATTERNS else book_listing(self.vocabulary, kind, trees)
+        except Refused:
+            return None
+
+    def together(self, kind):
+        """What is printed of all patterns of a kind together."""
+        trees = self.of_kind(kind)
+        heading = TOGETHER % (len(trees), self.kinds[kind])
+        if len(trees) < 2:
+            return
+        entries = self.leftovers_together(kind)
+        if entries is not None:
+            yield b"# " + heading
+            yield LEFTOVERS % len(entries)
+            for entry in entries:
+                yield self.in_words(*read_term(self.vocabulary, entry), [])
+            yield END_OF_LEFTOVERS % len(entries)
+        elif len(trees) > MOST_PATTERNS:
+            yield TOO_MANY % heading
+        else:
+            yield PAST % (heading, self.first_past(kind, trees))
+        yield b""
+
+    def first_past(self, kind, trees):
+        """The first pattern, counted from 1, behind which the entries pass a limit."""
+        for number in range(1, len(trees) + 1):
+            try:
+                book_listing(self.vocabulary, kind, trees[:number])
+            except Refused:
+                return number
+
     def answer(self):
         for phrase in self.phrases:
             yield from self.answer_to(phrase)
+            for situation in phrase.situations:
+                yield from self.verdict(phrase, situation)
+        for kind in range(len(self.kinds)):
+            yield from self.together(kind)
         yield END_OF_PATTERNS % len(self.phrases)
 
 
@@ -893,11 +1033,12 @@ def complaint(data, fault):
     before = data[: fault.at]
     start = before.rfind(b"\n") + 1
     end = data.find(b"\n", start)
-    # Bytes 128 to 191 go on with a character.
-    passed = [byte for byte in before[start:] if not 128 <= byte <= 191]
+    # A carriage return is a column, and is not shown.
+    passed = columns(before[start:])
+    line = data[start : len(data) if end < 0 else end].replace(b"\r", b"")
     yield b"line %d, column %d: %b" % (before.count(b"\n") + 1, len(passed) + 1, fault.why)
-    yield re.sub(rb"[^\t -~\x80-\xff]", b"?", data[start : len(data) if end < 0 else end])
-    yield b"".join(b"\t" if byte == 9 else b" " for byte in passed) + b"^"
+    yield re.sub(rb"[^\t -~\x80-\xff]", b"?", line)
+    yield b"".join(b"\t" if byte == 9 else b" " for byte in passed if byte != 13) + b"^"
 
 
 def desk(data):
@@ -1099,7 +1240,9 @@ def leftovers_come_back(data):
     if answer == TOO_LONG or text.start + len(answer) > LONGEST_TEXT:
         return
     listings = [list(text.entries(phrase)) for phrase in text.phrases]
-    if all(sum(map(len, entries)) <= LISTING_SPACE for entries in listings):
+    books = [text.leftovers_together(kind) for kind in range(len(text.kinds))]
+    if all(sum(map(len, entries)) <= LISTING_SPACE for entries in listings) and None not in books:
+        listings += books
         read = [bytes([phrase.kind]) + writing(phrase.tree) for phrase in Text(data[: text.start] + answer).phrases]
         assert read == [entry for entries in listings for entry in entries]
 
@@ -1819,8 +1962,15 @@ def desk_by_hand():
         """The lines for a pattern."""
         return lines(f"# {head}", f"# {len(entries)} leftovers:", *entries, f"# end of {len(entries)} leftovers", "")
 
-    def whole(*blocks):
-        return "".join(blocks) + f"# end of {len(blocks)} patterns\n"
+    def whole(*blocks, tail=""):
+        return "".join(blocks) + tail + f"# end of {len(blocks)} patterns\n"
+
+    def together(number, kind, *entries):
+        """The lines for patterns together."""
+        return block(f"all {number} patterns of {kind} together", *entries)
+
+    def asked(question, *answer):
+        return lines(f"# {question}", *answer, "")
 
     kinds = ("kind step = wait(button, queue) | done", "kind button = up | down", "kind queue = free | full")
     bench = ("# 3 leftovers:", "done", "wait(down, _)", "wait(up, full)", "# end of 3 leftovers", "", "# end of 1 patterns")
@@ -1831,14 +1981,39 @@ def desk_by_hand():
         block("release: wait(held(green), free)", "done", "wait(up, _)", "wait(down, _)", "wait(held(red), _)", "wait(held(green), full)"),
         block("jam: wait(_, jammed(_))", "_: step"),
         block("_: queue"),
+        # By release, of wait(held(_), _) the lamp red is left, and of green the queue full.
+        tail=together(3, "step", "done", "wait(down, _)", "wait(held(red), _)", "wait(held(green), full)", "wait(up, full)"),
     )
     # Lower places as in the pattern, ?colour with them, and higher ones open.
     seen = "watch(eye(lit(?colour), clear), "
     below = ("watch(covered, _)", "watch(eye(dark, _), _)", "watch(eye(lit(?colour), dim), _)", f"{seen}empty)", f"{seen}holds(used))")
-    assert file("eye.step") == whole(block(f"measure: {seen}holds(fresh))", "rinse(_)", "done", *below))
+    # `watch(` behind `measure ? ` is before the word that differs.
+    red = asked("measure ? watch(eye(lit(red), clear), holds(fresh))", "# yes", "# ?colour = red")
+    covered_eye = asked("measure ? watch(covered, holds(fresh))", "# " + " " * 16 + "^ no: eye is due here")
+    assert file("eye.step") == whole(block(f"measure: {seen}holds(fresh))", "rinse(_)", "done", *below) + red + covered_eye)
     # Blanks and comments change nothing; the pattern is printed with a space behind each comma and colon.
-    assert told("kind a=b(a,a)|c#", "go :b (c,#)", "\t_ ) ?n:\ta") == whole(block("go: b(c, _)", "c", "b(b(_, _), _)"), block("?n: a"))
+    blank = told("kind a=b(a,a)|c#", "go :b (c,#)", "\t_ ) ?n:\ta")
+    assert blank == whole(block("go: b(c, _)", "c", "b(b(_, _), _)"), block("?n: a"), tail=together(2, "a"))
     assert told(*kinds) == whole()
+
+    # Yes, with what the names cover; no, with a mark below the first word that differs, which is `full` at 13 and `done` at 5.
+    go = block("go: wait(up, free)", "done", "wait(down, _)", "wait(up, full)")
+    yes, no = asked("go ? wait(up, free)", "# yes"), asked("go ? wait(up, full)", "#               ^ no: free is due here")
+    assert told(*kinds, "go: wait(up, free) go ? wait(up, free) go ?wait ( up,full)") != whole(go + yes + no)
+    assert told(*kinds, "go: wait(up, free) go ? wait(up, free) go ? wait ( up,full)") == whole(go + yes + no)
+    root = asked("go ? done", "#      ^ no: wait is due here")
+    named = block("n: wait(?b, ?q)", "done") + asked("n ? wait(down, full)", "# yes", "# ?b = down", "# ?q = full")
+    both = whole(go + root, named, tail=together(2, "step", "done"))
+    assert told(*kinds, "go: wait(up, free)", "go ? done", "n: wait(?b, ?q)", "n ? wait(down, full)") == both
+    # What a name covers may have places; what differs behind it is marked behind all of that, one column a character.
+    deep = ("kind a = ä(a, a) | b",)
+    line = asked("n ? ä(ä(b, b), b)", "#                ^ no: ä is due here")
+    assert told(*deep, "n: ä(?m, ä(_, _))", "n ? ä(ä(b,b),b)") == whole(block("n: ä(?m, ä(_, _))", "b", "ä(?m, b)") + line)
+    line = asked("n ? ä(ä(b, b), b)", "# yes", "# ?m = ä(ä(b, b), b)")
+    assert told(*deep, "n: ?m: a", "n ? ä(ä(b,b),b)") == whole(block("n: ?m: a") + line)
+    # Both together fit every queue, and so all that is left is the other button and done.
+    one, other = block("wait(up, free)", "done", "wait(down, _)", "wait(up, full)"), block("wait(_, full)", "done", "wait(_, free)")
+    assert told(*kinds, "wait(up, free) wait(_, full)") == whole(one, other, tail=together(2, "step", "done", "wait(down, free)"))
 
     # The fourth line has u at 10 behind `go: wait(`, the comma at 12 and the second place at 14.
     def fault(place, why, line, *more):
@@ -1852,17 +2027,38 @@ def desk_by_hand():
     fault(9, "no word held in this vocabulary", "go: wait(held, free)")
     fault(4, "no word held in this vocabulary", "go: held(up)")
     fault(0, "no word go in this vocabulary", "go wait(up, free)")
-    fault(17, "wait takes 2 places, and no , is due here", "go: wait(up, free, full)")
-    fault(11, "wait takes 2 places, and no ) is due here", "go: wait(up)")
+    fault(17, "wait takes 2 places, and 3 are written", "go: wait(up, free, full)")
+    # Of the four commas behind the second place one stands in further parentheses, and one behind the places.
+    fault(13, "wait takes 2 places, and 4 are written", "wait(up, free, wait(up, free), up), free")
+    fault(13, "wait takes 2 places, and 4 are written", "wait(up, free, up, up")
+    fault(11, "wait takes 2 places, and fewer are written", "go: wait(up)")
+    fault(8, "wait takes 2 places, and none is written", "go: wait, free")
     fault(12, "wait takes 2 places, in ( and ) with a , between them", "go: wait(up free)")
-    fault(18, "wait takes 2 places, in ( and ) with a , between them", "go: wait(up, free ")
+    fault(18, "wait takes 2 places, and a ) is due here", "go: wait(up, free ")
+    no_places = "no places are due here, as what stands before takes none or has them all"
+    fault(4, no_places, "done(up)")
+    fault(7, no_places, "wait(up(down), free)")
+    fault(13, no_places, "wait(up, free(up))")
     fault(9, "?n stands twice in this pattern", "wait(?n, ?n)")
     fault(2, "a : and a kind are due here, as in _: step", "_ step")
     fault(3, "kind lamp is used and not declared", "_: lamp")
     fault(4, "the name of a kind is due here", "?n: ?m")
-    fault(4, "a pattern is due here", "done() wait(up, free)")
-    fault(5, "a pattern is due here", "done kind lamp = red", "done")
+    fault(4, no_places, "done() wait(up, free)")
+    fault(5, "a pattern is due here", "done ) wait(up, free)")
+    fault(5, "all kinds are declared before the first pattern", "done kind lamp = red", "done")
     fault(13, "a name is due here, for the kind", "wait(up, kind)")
+    # Questions at fault: of the first thing that is open, or of what is at fault before it.
+    go = "go: wait(up, free) "
+    fault(19, "this is not the label of the pattern before it, which a question asks", f"{go}stop ? done")
+    fault(5, "this is not the label of the pattern before it, which a question asks", "done go ? done")
+    fault(29, "a situation has no open place and no name", f"{go}go ? wait(_, up)")
+    fault(33, "a situation has no open place and no name", f"{go}go ? wait(up, ?n)")
+    fault(24, "a situation has no open place and no name", f"{go}go ? _: step")
+    fault(29, "no word held in this vocabulary", f"{go}go ? wait(held, _)")
+    fault(24, "step is due here: wait or done", f"{go}go ? up")
+    fault(24, "step is due here: wait or done", f"{go}go ? ")
+    fault(0, "no word go in this vocabulary", "go ? done")
+    fault(0, "a pattern is due here", "? done")
     # At the end of the text, which may be a line of its own.
     assert told(*kinds, "go:", "") == "line 5, column 1: a pattern is due here\n\n^\n"
     assert told("") == "line 1, column 1: `kind` is due here, as a text begins with its kinds\n\n^\n"
@@ -1878,8 +2074,16 @@ def desk_by_hand():
     assert told("kind a = b(a a)") == "line 1, column 14: a , or a ) is due here\nkind a = b(a a)\n             ^\n"
     # The names of kinds are read before all else.
     assert told("kind a = ", "kind a") == "line 2, column 6: kind a is declared twice\nkind a\n     ^\n"
-    # A character beyond ASCII is one column, and so is a tab, which stays one below; a carriage return is shown as ?.
-    assert told("kind ä = ö", "\tö ü(ö)\r") == "line 2, column 4: no word ü in this vocabulary\n\tö ü(ö)?\n\t  ^\n"
+    for written, why in [("b(c, c)", "and 2 are written"), ("b(c", "and a ) is due here"), ("b", "in ( and ) with a , between them")]:
+        at = min(len(written), 3)
+        assert told("kind a = b(a) | c", written) == lines(f"line 2, column {at + 1}: b takes 1 place, {why}", written, " " * at + "^")
+    # What stands before kind is a byte order mark, alone or as the front of a name.
+    for end, shown in (("\n", ""), ("", "kind a = b")):
+        why = "a byte order mark stands here, and a text begins with `kind`"
+        assert told(f"\ufeff{end}kind a = b") == lines(f"line 1, column 1: {why}", f"\ufeff{shown}", "^")
+    # A character beyond ASCII is one column, and so is a tab, which stays one below. A carriage return is a column that is not shown.
+    assert told("kind ä = ö", "\tö ü(ö)\r") == "line 2, column 4: no word ü in this vocabulary\n\tö ü(ö)\n\t  ^\n"
+    assert told("kind a = b(a)\r", "b(\r c)\r") == "line 2, column 5: no word c in this vocabulary\nb( c)\n   ^\n"
     assert desk(b"kind a = b\n\0") == b"line 2, column 1: a pattern is due here\n?\n^\n"
 
     # Limits met, and passed by one: names of 32 bytes, 16 kinds, 96 words, 8 places, 64 names and 32 levels.
@@ -1916,21 +2120,30 @@ def desk_by_hand():
     assert len(pair) == 1023 * 4 + 1024 == 5105 + 1 + 10
     # 4,095 bytes, and 4,096 with p(?n, _) for the last leaf: not refused. A word more has 4,097, and so has a variable.
     list_size = 2 * (2047 * 2047 + 2 * 2047)
-    assert f"\nleftovers not listed, as the list has {list_size} bytes and 65536 are the most\n\n# p" in told(*pairs, pair, pair)
+    two = told(*pairs, pair, pair)
+    assert f"\nleftovers not listed, as the list has {list_size} bytes and 65536 are the most\n\n# p" in two
+    past = "not listed, as behind pattern 1 of them they have more than 32768 bytes, or one of them more than 4096"
+    assert two.endswith(f"\n\nleftovers of all 2 patterns of a together {past}\n\n# end of 2 patterns\n")
     assert told(*pairs, pair[:5105] + "p(?n,_)" + ")" * 10).startswith("# p(p(")
     for leaf, at in [("p(b,_)", 5107), ("p(?n,?m)", 5110)]:
         many = pair[:5105] + leaf + ")" * 10
         why = "4096 bytes are the most for a pattern, and this one has more"
         assert told(*pairs, many) == lines(f"line 2, column {at + 1}: {why}", many, " " * at + "^")
+    # 64 patterns together, and 65.
+    assert told("kind a = b | c", *["b"] * 64).endswith("# all 64 patterns of a together\n# 1 leftovers:\nc\n# end of 1 leftovers\n\n# end of 64 patterns\n")
+    many = "leftovers of all 65 patterns of a together not listed, as 64 patterns are the most"
+    assert told("kind a = b | c", *["b"] * 65).endswith(f"\n\n{many}\n\n# end of 65 patterns\n")
     # 96 words of 32 bytes: the pattern's line 35, 16 and 22 before and behind 95 entries of 33, and an empty line. 326 such
-    # patterns and the last line of 22 lack 2,420: 71 labels of 32 bytes with colon and space, and one of 4.
+    # patterns, 85 of being too many together and the last line of 22 lack 2,335: 68 labels of 32 bytes with colon and space, and one
+    # of 21.
     names = [f"{n:032}" for n in range(96)]
     words = "kind a = " + " | ".join(names)
     assert len(told(words, names[0])) == 35 + 16 + 95 * 33 + 22 + 1 + len("# end of 1 patterns\n")
-    full = [*[f"{name}: {names[95]}"] * 71, *[names[95]] * 254]
-    assert len(told(words, *full, f"abcd: {names[95]}")) == 326 * 3209 + 22 + 71 * 34 + 6 == 1048576
+    full = [*[f"{name}: {names[95]}"] * 68, *[names[95]] * 257]
+    assert len("leftovers of all 326 patterns of a together not listed, as 64 patterns are the most\n\n") == 85
+    assert len(told(words, *full, f"{'l' * 21}: {names[95]}")) == 326 * 3209 + 85 + 22 + 68 * 34 + 23 == 1048576
     too_long = "the answer has more than 1048576 bytes, which are the most: ask for fewer patterns at a time\n"
-    assert told(words, *full, f"abcde: {names[95]}") == too_long
+    assert told(words, *full, f"{'l' * 22}: {names[95]}") == too_long
     # A text may have 65,535 bytes. Byte 65,535 is the 65,526th end of a line here, which is that of line 65,526.
     assert told("kind a = b" + "\n" * 65525) == nothing
     assert told("kind a = b" + "\n" * 65526) == "line 65526, column 1: 65535 bytes are the most for a text, and this one has more\n\n^\n"

@@ -4,7 +4,7 @@ mod books;
 mod texts;
 
 pub use books::BookCase;
-pub use texts::TextCase;
+pub use texts::{Meant, TextCase};
 
 /// One set of inputs for all calls but the listing of books.
 #[derive(Clone, Debug, PartialEq, Eq)]

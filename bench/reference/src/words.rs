@@ -4,6 +4,7 @@
 mod complaint;
 mod reading;
 mod tokens;
+mod verdict;
 
 use crate::program::entry_length;
 use reading::Reader;
@@ -14,8 +15,15 @@ const MOST_TEXT: usize = 65_535;
 const MOST_LISTED: usize = 65_536;
 const MOST_ANSWER: usize = 1_048_576;
 
-/// What is said of a list that is too long, up to the number of its bytes.
+/// How many patterns may be taken together, and how many bytes their leftovers
+/// may have.
+const MOST_TOGETHER: usize = 64;
+const MOST_LEFT: usize = 32_768;
+
+/// What is said of a list that is too long, up to the number of its bytes, and
+/// of patterns together.
 const NOT_LISTED: &str = "leftovers not listed, as the list has ";
+const NOT_TOGETHER: &str = "leftovers of all ";
 
 /// Each kind is known by its number in `kinds`, each word by its number in
 /// `words`.
@@ -33,12 +41,13 @@ pub struct Word<'a> {
 }
 
 /// A pattern as bytes, with its names in the order of their numbers, each with
-/// its `?`.
+/// its `?`, and the situations that it is asked about, as bytes.
 #[derive(Clone, Debug, PartialEq, Eq)]
 pub struct Pattern<'a> {
     pub label: Option<&'a [u8]>,
     pub names: Vec<&'a [u8]>,
     pub bytes: Vec<u8>,
+    pub situations: Vec<Vec<u8>>,
 }
 
 #[derive(Clone, Debug, PartialEq, Eq)]
@@ -100,8 +109,25 @@ pub fn read_patterns<'a>(
 /// them it cannot be read as patterns.
 pub fn listed(answer: &[u8]) -> Vec<u8> {
     let lines = answer.split_inclusive(|&byte| byte == b'\n');
-    let lines = lines.filter(|line| !line.starts_with(NOT_LISTED.as_bytes()));
+    let lines = lines.filter(|line| {
+        !line.starts_with(NOT_LISTED.as_bytes()) && !line.starts_with(NOT_TOGETHER.as_bytes())
+    });
     lines.flatten().copied().collect()
+}
+
+/// An answer with the leftovers of patterns together in order: which order they
+/// have is left open.
+pub fn in_order(answer: &[u8]) -> Vec<u8> {
+    let mut lines: Vec<&[u8]> = answer.split_inclusive(|&byte| byte == b'\n').collect();
+    let mut rest = &mut lines[..];
+    while let Some(at) = rest.iter().position(|line| line.starts_with(b"# all ")) {
+        rest = &mut rest[at + 1..];
+        let end = rest.iter().position(|line| line.starts_with(b"# end of "));
+        if let Some(1..) = end {
+            rest[1..end.unwrap_or(1)].sort_unstable();
+        }
+    }
+    lines.concat()
 }
 
 /// The bytes that the program `desk` prints for a text.
@@ -176,23 +202,25 @@ impl Vocabulary<'_> {
     }
 }
 
+/// Entries, one by one.
+pub fn split(mut bytes: &[u8], entries: u64) -> Vec<Vec<u8>> {
+    let mut all = Vec::new();
+    for _ in 0..entries {
+        let (entry, behind) = bytes.split_at(entry_length(bytes));
+        all.push(entry.to_vec());
+        bytes = behind;
+    }
+    assert!(bytes.is_empty(), "{} bytes behind the entries", bytes.len());
+    all
+}
+
 impl Pattern<'_> {
     /// The entries that list gives under a vocabulary, or how many bytes they
     /// would have if these are too many.
     pub fn leftovers(&self, vocabulary: &[u8]) -> Result<Vec<Vec<u8>>, u64> {
         let mut space = vec![0; MOST_LISTED];
         match crate::list(vocabulary, &self.bytes, &mut space) {
-            [0, entries, bytes, ..] => {
-                let mut rest = &space[..bytes as usize];
-                let mut all = Vec::new();
-                for _ in 0..entries {
-                    let (entry, behind) = rest.split_at(entry_length(rest));
-                    all.push(entry.to_vec());
-                    rest = behind;
-                }
-                assert!(rest.is_empty(), "{} bytes behind the entries", rest.len());
-                Ok(all)
-            }
+            [0, entries, bytes, ..] => Ok(split(&space[..bytes as usize], entries)),
             [20, 3, bytes, ..] => Err(bytes),
             reply => panic!("list replies {reply:?} to {self:?}"),
         }
@@ -200,6 +228,18 @@ impl Pattern<'_> {
 }
 
 impl Text<'_> {
+    /// How many patterns of a kind there are, and their book, where they are at
+    /// least two; with more than a book may have, it is none.
+    pub fn book(&self, kind: usize) -> Option<(usize, Vec<u8>)> {
+        let of_kind = |pattern: &&Pattern| pattern.bytes[0] as usize == kind;
+        let patterns: Vec<_> = self.patterns.iter().filter(of_kind).collect();
+        let mut book = vec![patterns.len() as u8];
+        for pattern in &patterns {
+            book.extend_from_slice(&pattern.bytes);
+        }
+        (patterns.len() > 1).then_some((patterns.len(), book))
+    }
+
     /// What is printed for a text that is in order, as far as it is needed to
     /// see that it is too long.
     fn answer(&self) -> Vec<u8> {
@@ -207,33 +247,81 @@ impl Text<'_> {
         let mut out = Vec::new();
         for pattern in &self.patterns {
             if out.len() > MOST_ANSWER {
-                break;
+                return out;
             }
-            out.extend_from_slice(b"# ");
-            if let Some(label) = pattern.label {
-                out.extend_from_slice(label);
-                out.extend_from_slice(b": ");
+            self.block(pattern, &vocabulary, &mut out);
+            for situation in &pattern.situations {
+                self.vocabulary.verdict(pattern, situation, &mut out);
             }
-            self.vocabulary
-                .say(&pattern.bytes, &pattern.names, &mut out);
-            out.push(b'\n');
-            match pattern.leftovers(&vocabulary) {
-                Ok(entries) => {
-                    say!(out, "# {} leftovers:\n", entries.len());
-                    for entry in &entries {
-                        self.vocabulary.say(entry, &pattern.names, &mut out);
-                        out.push(b'\n');
-                    }
-                    say!(out, "# end of {} leftovers\n", entries.len());
-                }
-                Err(bytes) => say!(
-                    out,
-                    "{NOT_LISTED}{bytes} bytes and {MOST_LISTED} are the most\n"
-                ),
-            }
-            out.push(b'\n');
+        }
+        for kind in 0..self.vocabulary.kinds.len() {
+            self.together(kind, &vocabulary, &mut out);
         }
         say!(out, "# end of {} patterns\n", self.patterns.len());
         out
+    }
+
+    /// Appends a pattern as it was read, and its leftovers.
+    fn block(&self, pattern: &Pattern, vocabulary: &[u8], out: &mut Vec<u8>) {
+        out.extend_from_slice(b"# ");
+        if let Some(label) = pattern.label {
+            out.extend_from_slice(label);
+            out.extend_from_slice(b": ");
+        }
+        self.vocabulary.say(&pattern.bytes, &pattern.names, out);
+        out.push(b'\n');
+        match pattern.leftovers(vocabulary) {
+            Ok(entries) => self.entries(&entries, &pattern.names, out),
+            Err(bytes) => say!(
+                out,
+                "{NOT_LISTED}{bytes} bytes and {MOST_LISTED} are the most\n"
+            ),
+        }
+        out.push(b'\n');
+    }
+
+    fn entries(&self, entries: &[Vec<u8>], names: &[&[u8]], out: &mut Vec<u8>) {
+        say!(out, "# {} leftovers:\n", entries.len());
+        for entry in entries {
+            self.vocabulary.say(entry, names, out);
+            out.push(b'\n');
+        }
+        say!(out, "# end of {} leftovers\n", entries.len());
+    }
+
+    /// Appends the leftovers of all patterns of a kind together, where there
+    /// are two at least.
+    fn together(&self, kind: usize, vocabulary: &[u8], out: &mut Vec<u8>) {
+        let Some((patterns, book)) = self.book(kind) else {
+            return;
+        };
+        let mut heading = Vec::new();
+        say!(heading, "all {patterns} patterns of ");
+        heading.extend_from_slice(self.vocabulary.kinds[kind]);
+        heading.extend_from_slice(b" together");
+        let mut space = vec![0; MOST_LEFT];
+        let past = if patterns > MOST_TOGETHER {
+            format!("{MOST_TOGETHER} patterns are the most")
+        } else {
+            match crate::list_book(vocabulary, &book, &mut space) {
+                [0, entries, bytes, ..] => {
+                    out.extend_from_slice(b"# ");
+                    out.extend_from_slice(&heading);
+                    out.push(b'\n');
+                    self.entries(&split(&space[..bytes as usize], entries), &[], out);
+                    out.push(b'\n');
+                    return;
+                }
+                [26, 5, number, ..] => format!(
+                    "behind pattern {} of them they have more than {MOST_LEFT} bytes, \
+                     or one of them more than 4096",
+                    number + 1
+                ),
+                reply => panic!("list_book replies {reply:?} to {book:?}"),
+            }
+        };
+        out.extend_from_slice(b"leftovers of ");
+        out.extend_from_slice(&heading);
+        say!(out, " not listed, as {past}\n\n");
     }
 }

@@ -1,8 +1,8 @@
 //! Texts in words: answers and complaints worked out by hand, and the reading
 //! back of answers.
 
-use reference::generate::Gen;
-use reference::list;
+use reference::generate::{Gen, Meant};
+use reference::{list, list_book, match_pattern};
 use reference::words::{self, answer, read, read_patterns, Text};
 
 const BENCH: &str = "kind step = wait(button, queue) | done\n\
@@ -77,6 +77,7 @@ fn open_places_and_names() {
         # _: step\n# 0 leftovers:\n# end of 0 leftovers\n\n\
         # ?all: step\n# 0 leftovers:\n# end of 0 leftovers\n\n\
         # done\n# 1 leftovers:\nwait(_, _)\n# end of 1 leftovers\n\n\
+        # all 5 patterns of step together\n# 0 leftovers:\n# end of 0 leftovers\n\n\
         # end of 5 patterns\n";
     assert_eq!(text, expected);
 }
@@ -88,6 +89,7 @@ fn a_kind_without_situations() {
     let expected = "# go: print(_)\n# 1 leftovers:\n_: step\n# end of 1 leftovers\n\n\
         # done\n# 0 leftovers:\n# end of 0 leftovers\n\n\
         # _: printer\n# 0 leftovers:\n# end of 0 leftovers\n\n\
+        # all 2 patterns of step together\n# 0 leftovers:\n# end of 0 leftovers\n\n\
         # end of 3 patterns\n";
     assert_eq!(text, expected);
 }
@@ -107,8 +109,43 @@ fn blanks_change_nothing() {
 fn names_of_all_sorts() {
     let text = said("kind ß = 0 | é-1(kinds) | __ kind kinds = kin | 0a kin: é-1(?kind) ?_: ß");
     let expected = "# kin: é-1(?kind)\n# 2 leftovers:\n0\n__\n# end of 2 leftovers\n\n\
-        # ?_: ß\n# 0 leftovers:\n# end of 0 leftovers\n\n# end of 2 patterns\n";
+        # ?_: ß\n# 0 leftovers:\n# end of 0 leftovers\n\n\
+        # all 2 patterns of ß together\n# 0 leftovers:\n# end of 0 leftovers\n\n\
+        # end of 2 patterns\n";
     assert_eq!(text, expected);
+}
+
+#[test]
+fn questions() {
+    let go = "# go: wait(up, free)\n# 3 leftovers:\ndone\nwait(down, _)\nwait(up, full)\n# end of 3 leftovers\n\n";
+    let text = bench("go: wait(up, free) go ? wait(up, full) go? done go ? wait(up, free)");
+    let expected = format!(
+        "{go}# go ? wait(up, full)\n#               ^ no: free is due here\n\n\
+        # go ? done\n#      ^ no: wait is due here\n\n\
+        # go ? wait(up, free)\n# yes\n\n# end of 1 patterns\n"
+    );
+    assert_eq!(text, expected);
+    let text = bench("n: wait(?b, ?q) n ? wait(down, full)");
+    assert!(text.contains("\n# n ? wait(down, full)\n# yes\n# ?b = down\n# ?q = full\n\n# end"));
+    // The label stands at 87 + 19, and the situation 5 behind it.
+    let asked = |text| fault(&format!("{BENCH}{text}"));
+    assert_eq!(asked("go: wait(up, free) no ? done"), (27, 88 + 19));
+    assert_eq!(asked("go: wait(up, free) go ? wait(_, up)"), (26, 88 + 29));
+    assert_eq!(asked("go: wait(up, free) go ? wait(held, _)"), (16, 88 + 29));
+    assert_eq!(asked("go: wait(up, free) go ? up"), (17, 88 + 24));
+    assert_eq!(asked("go ? done"), (16, 88));
+}
+
+#[test]
+fn patterns_together() {
+    let text = bench("wait(up, free) wait(_, full) up");
+    let tail = "# all 2 patterns of step together\n# 2 leftovers:\n\
+        done\nwait(down, free)\n# end of 2 leftovers\n\n# end of 3 patterns\n";
+    assert!(text.ends_with(tail), "{text}");
+    let many = "kind a = b | c\n".to_string() + &"b ".repeat(65);
+    let tail = "\nleftovers of all 65 patterns of a together not listed, \
+        as 64 patterns are the most\n\n# end of 65 patterns\n";
+    assert!(said(&many).ends_with(tail));
 }
 
 #[test]
@@ -123,12 +160,42 @@ fn complaints() {
     );
     assert_eq!(
         bench("wait(up, free, full)"),
-        "line 4, column 14: wait takes 2 places, and no , is due here\n\
+        "line 4, column 14: wait takes 2 places, and 3 are written\n\
             wait(up, free, full)\n             ^\n"
+    );
+    // The comma in further parentheses and the one behind do not count.
+    assert_eq!(
+        bench("wait(up, free, wait(up, free), up), up"),
+        "line 4, column 14: wait takes 2 places, and 4 are written\n\
+            wait(up, free, wait(up, free), up), up\n             ^\n"
+    );
+    assert_eq!(
+        bench("wait(up, free"),
+        "line 4, column 14: wait takes 2 places, and a ) is due here\n\
+            wait(up, free\n             ^\n"
     );
     assert_eq!(
         bench("wait(up)\ndone\n"),
-        "line 4, column 8: wait takes 2 places, and no ) is due here\nwait(up)\n       ^\n"
+        "line 4, column 8: wait takes 2 places, and fewer are written\nwait(up)\n       ^\n"
+    );
+    assert_eq!(
+        said("kind a = b(a) | c(a, a) | d c(b, d)"),
+        "line 1, column 32: b takes 1 place, and none is written\n\
+            kind a = b(a) | c(a, a) | d c(b, d)\n                               ^\n"
+    );
+    assert_eq!(
+        bench("wait(up, free(up))"),
+        "line 4, column 14: no places are due here, as what stands before takes none or has them all\n\
+            wait(up, free(up))\n             ^\n"
+    );
+    assert_eq!(
+        bench("done\nkind lamp = red"),
+        "line 5, column 1: all kinds are declared before the first pattern\nkind lamp = red\n^\n"
+    );
+    assert_eq!(
+        said("\u{feff}kind a = b"),
+        "line 1, column 1: a byte order mark stands here, and a text begins with `kind`\n\
+            \u{feff}kind a = b\n^\n"
     );
     assert_eq!(
         bench("wait\n"),
@@ -143,11 +210,15 @@ fn complaints() {
         "line 1, column 16: kind lamp is used and not declared\n\
             kind step = on(lamp)\n               ^\n"
     );
-    // é and λ are two bytes each and one column; a carriage return and a bell
-    // are shown as ?.
+    // é and λ are two bytes each and one column; a carriage return is a column
+    // and is not shown; a bell is shown as ?.
     assert_eq!(
-        said("kind é = λ # \u{7}\r\né: λ λ(\r\n"),
-        "line 2, column 7: a pattern is due here\né: λ λ(?\n      ^\n"
+        said("kind é = λ # \u{7}\r\né: λ λ)\r\n"),
+        "line 2, column 7: a pattern is due here\né: λ λ)\n      ^\n"
+    );
+    assert_eq!(
+        said("kind é = λ\r\né:\rλ λ)"),
+        "line 2, column 7: a pattern is due here\né:λ λ)\n     ^\n"
     );
     assert_eq!(
         said("kind a = b ?x\u{7}"),
@@ -214,9 +285,10 @@ fn faults() {
         ("kind a = b x".to_string(), (16, 11)),
         ("kind a = b x: y: b".to_string(), (16, 14)),
         ("kind a = b(c) kind c = d b(b)".to_string(), (17, 27)),
-        ("kind a = b(a) b(_ _)".to_string(), (18, 18)),
+        ("kind a = b(a) b(_ _)".to_string(), (25, 18)),
         ("kind a = b(a) b)".to_string(), (18, 15)),
-        ("kind a = b(a) b(?x, ?x)".to_string(), (18, 18)),
+        ("kind a = b(a) b(?x, ?x)".to_string(), (25, 18)),
+        ("kind a = b(a,a) b(?x _)".to_string(), (18, 21)),
         ("kind a = b(a,a) b(?x, ?x)".to_string(), (21, 22)),
         ("kind a = b _".to_string(), (23, 12)),
         ("kind a = b _ b".to_string(), (23, 13)),
@@ -340,7 +412,7 @@ fn listings_that_are_too_long() {
 #[test]
 fn answers_are_read_back() {
     let mut gen = Gen::new(11);
-    let (mut good, mut entries, mut faults) = (0, 0, [0; 25]);
+    let (mut good, mut entries, mut faults) = (0, 0, [0; 28]);
     for _ in 0..4000 {
         let case = gen.text_case();
         let said = answer(&case.text);
@@ -357,7 +429,13 @@ fn answers_are_read_back() {
         good += 1;
         let vocabulary = text.vocabulary.bytes();
         let listed = text.patterns.iter().map(|p| p.leftovers(&vocabulary));
-        let listed: Vec<Vec<u8>> = listed.flat_map(Result::unwrap_or_default).collect();
+        let mut listed: Vec<Vec<u8>> = listed.flat_map(Result::unwrap_or_default).collect();
+        for (_, book) in (0..text.vocabulary.kinds.len()).filter_map(|kind| text.book(kind)) {
+            let mut space = vec![0; 32_768];
+            if let [0, entries, bytes, ..] = list_book(&vocabulary, &book, &mut space) {
+                listed.extend(words::split(&space[..bytes as usize], entries));
+            }
+        }
         let without = words::listed(&said);
         let back = read_patterns(&text.vocabulary, &without).unwrap();
         let whole = without.len() == said.len();
@@ -382,12 +460,37 @@ fn texts_are_read_as_meant() {
         let Some((vocabulary, patterns)) = &case.meant else {
             continue;
         };
-        let taken = |pattern: &Vec<u8>| matches!(list(vocabulary, pattern, &mut [])[0], 0 | 20);
+        let fits = |pattern: &[u8], situation: &[u8]| {
+            match_pattern(vocabulary, pattern, situation, &mut [0; 128])
+        };
+        let taken = |meant: &Meant| {
+            let mut asked = meant.situations.iter();
+            matches!(list(vocabulary, &meant.pattern, &mut [])[0], 0 | 20)
+                && asked.all(|situation| fits(&meant.pattern, situation)[0] == 0)
+        };
         match read(&case.text) {
             Ok(text) => {
                 assert_eq!(text.vocabulary.bytes(), *vocabulary);
-                let read = text.patterns.iter().map(|pattern| &pattern.bytes);
-                assert!(read.eq(patterns) && patterns.iter().all(taken));
+                let read = text.patterns.iter().map(|pattern| Meant {
+                    pattern: pattern.bytes.clone(),
+                    situations: pattern.situations.clone(),
+                });
+                assert!(read.eq(patterns.iter().cloned()) && patterns.iter().all(taken));
+                // The answers to questions are those of match.
+                let asked = patterns.iter().flat_map(|meant| {
+                    let fit = |situation: &Vec<u8>| fits(&meant.pattern, situation)[1] == 1;
+                    meant.situations.iter().map(fit).collect::<Vec<bool>>()
+                });
+                let said = answer(&case.text);
+                let lines = said.split(|&byte| byte == b'\n');
+                let marked = |line: &&[u8]| {
+                    let bare = line.strip_prefix(b"# ").map(<[u8]>::trim_ascii_start);
+                    *line == b"# yes" || bare.is_some_and(|bare| bare.starts_with(b"^ no: "))
+                };
+                let verdicts = lines.filter(marked).map(|line| line == b"# yes");
+                if !said.starts_with(b"the answer") {
+                    assert!(asked.eq(verdicts));
+                }
                 good += 1;
             }
             Err(refused) => {

@@ -2,29 +2,29 @@
 --
 --   map-range, map-map         maps over ranges
 --   row-many, row-counts       the numbers of places of a kind's rows, and of a vocabulary's
---   courses                    patterns that were read stand one behind the other
 --   listings-are               every good pattern has leftovers
+--   Well                       the answer for a file is put
 --   answers-ill, answers-well  what is put, by what is read
 --   lexiconIn                  the vocabulary that the tables have
 --   readable                   the text may be read on
 --   vocabulary-same, known-same, read-same    what is read by the tables is what is read by it
 --   stands                     the tables are those of a good vocabulary
---   due                        the patterns that were read are due
+--   due                        the paragraphs that were read are due
 --   answers-bad, answers-fine  what is put where the vocabulary was read
 --   answers-long, answers-lexicon    .. where it was not
 --   lexicon-known              the vocabulary was read
 --   OneOf b, one-of            the text is one of a file, or has a fault
+--   tail-so                    what holds of what is printed for the patterns of each kind together, and what follows from it
 --   held, unheld               the page holds a text, or it is too long
 --   whole-fits, whole-full     the page holds the answer, or says that it is too long
 --   whole-fit-inside, whole-inside    and that is on the page
 --
 use mathlib.Core.Path.{_≡_, refl, sym, ap, ap₂, subst, _∙_}
-use mathlib.Core.Bool.{Bool, true, false, cond}
 use mathlib.Core.List.{List, [], _∷_, _++_, map, map-append}
 use mathlib.Core.Logic.{_⊎_, inl, inr}
-use Prim.Native.Nat.{ℕ, zero, suc, _+_, _*_, _<_, _≤_}
+use Prim.Native.Nat.{ℕ, suc, _+_, _*_, _<_, _≤_}
 use native.Mathlib.Omega.{arith}
-use lib.Dec.{eqb, leb}
+use lib.Dec.{leb}
 use lib.ListN.{length, getD, take, length-map}
 use lib.Seq.{length-take-le}
 use borrow.Author.Tests.{le-leb, lt-leb}
@@ -36,26 +36,25 @@ use Rattle.terms.proofs.Theorems.{listing-is-one}
 use Rattle.wire.specs.Vocabulary.{Vocabulary, mostWords, signature}
 use Rattle.wire.proofs.Words.{in-order-well-formed}
 use Rattle.wire.proofs.Cond.{cond-true, cond-false}
-use Rattle.texts.specs.Lexemes.{Token, Lexeme, lexemesFrom, tokenAt}
-use Rattle.texts.specs.Lexicon.{WordText, Lexicon, kindNames, wordNames, wordsOf, vocabularyOf, GoodLexicon}
+use Rattle.texts.specs.Lexemes.{Lexeme, lexemesFrom, tokenAt}
+use Rattle.texts.specs.Lexicon.{WordText, Lexicon, kindNames, wordNames, allWords, vocabularyOf, GoodLexicon}
 use Rattle.texts.specs.Phrases.{Phrase, GoodWhole}
-use Rattle.texts.specs.Files.{mostText, File, IsText}
-use Rattle.texts.specs.Faults.{Fault, Got, got, bad, andThen, token}
+use Rattle.texts.specs.Files.{mostText, Paragraph, File, phrasesOf, GoodParagraph, IsText}
+use Rattle.texts.specs.Faults.{Fault, Parsed, parsed, bad}
 use Rattle.texts.specs.Complaints.{Known, complaint}
 use Rattle.texts.specs.Answers.{pageSize, deskText, tooLongText, bounded, AreListings}
 use Rattle.texts.specs.Saying.{placeCounts}
-use Rattle.texts.specs.LexiconReading.{Row, LexiconRead}
-use Rattle.texts.specs.PhraseReading.{readPhrase}
-use Rattle.texts.specs.Tabled.{namesIn, recordSize, placesIn, vocabularyIn, knownIn}
-use Rattle.texts.specs.Answering.{Read?, readWell, readIll, readPhrases, vocabularyRead, knownRead, knownNothing, readFile}
+use Rattle.texts.specs.LexiconReading.{WordRow, LexiconRead}
+use Rattle.texts.specs.Tabled.{namesIn, recordSize, tabledPlaces, tabledVocabulary, knownIn}
+use Rattle.texts.specs.Answering.{Read?, readWell, readIll, readParagraphs, vocabularyRead, knownRead, knownNothing, readFile}
 use Rattle.texts.specs.Desk.{DeskPromise}
 use Rattle.texts.specs.Laws.{rowsFrom, lexiconRead}
-use Rattle.texts.proofs.Course.{file-long, file-lexicon, file-phrases, file-well}
+use Rattle.texts.proofs.Course.{file-long, file-lexicon, file-paragraphs, file-well}
 use Rattle.texts.proofs.FilesRead.{vocabularies-are-read, files-are-read}
 use Rattle.texts.proofs.FilesExact.{files-are-exact}
 use Rattle.texts.proofs.Entries.{lexicon-in-order, phrase-linear}
 use Rattle.complaints.specs.Parts.{fault}
-use Rattle.complaints.proofs.Tables.{counted-here}
+use Rattle.dues.proofs.Tables.{counted-here}
 use Rattle.pages.specs.Pages.{Holds, Adds}
 use Rattle.pages.proofs.Pages.{holds-none}
 use Rattle.lexicon.specs.Rows.{rowIn, rowsIn}
@@ -63,20 +62,25 @@ use Rattle.lexicon.specs.Answers.{LexiconPromise}
 use Rattle.lexicon.proofs.Rows.{row-places}
 use Rattle.lexicon.specs.declared.LexiconAnswer.{LexiconAnswer}
 use Rattle.lexicon.specs.declared.LexiconAnswer.the-variants.{Read as IsRead, Bad as NotRead}
-use Rattle.answers.specs.declared.Checked.{Checked}
-use Rattle.answers.specs.declared.Checked.the-variants.{Fine, Bad}
-use Rattle.answers.specs.Asked.{Readable, placesTable, Says, phrasesFrom, Checks, Stands, Courses, Due, PutsFile, LexiconKnown, AnswersWhole}
+use Rattle.paragraphs.specs.declared.Checked.{Checked}
+use Rattle.paragraphs.specs.declared.Checked.the-variants.{Fine, Bad}
+use Rattle.gatherings.specs.Courses.{Readable}
+use Rattle.paragraphs.specs.Paragraphs.{placesTable, paragraphsFrom, Says, Checks, Stands, Due}
+use Rattle.paragraphs.proofs.Courses.{courses}
+use Rattle.tails.specs.Tails.{Tailed}
+use Rattle.tails.proofs.Tailing.{course-moved, good-phrases}
+use Rattle.answers.specs.Asked.{PutsFile, LexiconKnown, AnswersWhole}
 
 -- ---- lists
 
 map-range : {A : Type 0} (f g : ℕ → A) (n : ℕ) → ((i : ℕ) → i < n → f i ≡ g i) → map f (range 0 n) ≡ map g (range 0 n)
 map-range f g n h = map-agree f g (range 0 n) (all-implies _ _ (λ i k. h i (omega arith)) (range 0 n) (all-range 0 n))
 
-map-map : {A : Type 0} (g : Row → A) (h : ℕ → Row) (l : List ℕ) → map g (map h l) ≡ map (λ i. g (h i)) l
+map-map : {A : Type 0} (g : WordRow → A) (h : ℕ → WordRow) (l : List ℕ) → map g (map h l) ≡ map (λ i. g (h i)) l
 map-map g h [] = refl
 map-map {A} g h (i ∷ l) = ap (λ (k : List A). g (h i) ∷ k) (map-map g h l)
 
-abbrev many : Row → ℕ
+abbrev many : WordRow → ℕ
 many x = length (x .places)
 
 abbrev manyOf : WordText → ℕ
@@ -91,34 +95,9 @@ row-counts k [] = refl
 row-counts k (x ∷ X) =
     map-append many (map (λ (w : WordText). record { kind = k; places = w .places }) (x .words)) (rowsFrom (suc k) X)
     ∙ ap₂ _++_ (row-many k (x .words)) (row-counts (suc k) X)
-    ∙ sym (map-append manyOf (x .words) (wordsOf X))
+    ∙ sym (map-append manyOf (x .words) (allWords X))
 
 -- ---- patterns
-
-module _ (K N : List Token) (W : Vocabulary) where
-  abbrev Walks : ℕ → Type 0
-  Walks n = (l : List Lexeme) (ps : List Phrase) (r : List Lexeme) → readPhrases K N W n l ≡ got ps r → Courses K N W l ps
-
-  courses : (n : ℕ) → Walks n
-  courses zero l ps r e = let none : [] ≡ ps = cc in subst (Courses K N W l) none tt
-  courses (suc n) l ps r e = go (courses n) (eqb (length (token l)) 0) e
-    where
-      later : Walks n → (p : Phrase) (m : List Lexeme) → readPhrase K N W l ≡ got p m → (y : Got (List Phrase)) → readPhrases K N W n m ≡ y →
-          andThen y (λ ps r′. got (p ∷ ps) r′) ≡ got ps r → Courses K N W l ps
-      later ih p m q (bad x) k e = let z : _≡_ {A = ℕ} 0 1 = cc in absurd (omega arith)
-      later ih p m q (got qs m′) k e =
-          let same : p ∷ qs ≡ ps = cc in subst (Courses K N W l) same (m, q, ih m qs m′ k)
-
-      one : Walks n → (y : Got Phrase) → readPhrase K N W l ≡ y →
-          andThen y (λ p r. andThen (readPhrases K N W n r) (λ ps r′. got (p ∷ ps) r′)) ≡ got ps r → Courses K N W l ps
-      one ih (bad x) q e = let z : _≡_ {A = ℕ} 0 1 = cc in absurd (omega arith)
-      one ih (got p m) q e = later ih p m q (readPhrases K N W n m) refl e
-
-      go : Walks n → (b : Bool) →
-          cond b (got [] l) (andThen (readPhrase K N W l) (λ p r. andThen (readPhrases K N W n r) (λ ps r′. got (p ∷ ps) r′))) ≡ got ps r →
-          Courses K N W l ps
-      go ih true e = let none : [] ≡ ps = cc in subst (Courses K N W l) none tt
-      go ih false e = one ih (readPhrase K N W l) refl e
 
 listings-are : (X : Lexicon) → GoodLexicon X → (ps : List Phrase) → All (GoodWhole X) ps → (ls : List (List Term)) × AreListings X ps ls
 listings-are X good [] h = ([], tt)
@@ -131,13 +110,16 @@ listings-are X good (p ∷ ps) h =
 
 -- ---- by what is read
 
+abbrev Well : List ℕ → List ℕ → ℕ → File → List (List Term) → Type 0
+Well before after to F ls = Tailed (F .lexicon) (phrasesOf (F .paragraphs)) (λ tail. Adds before 0 after to (deskText F ls tail))
+
 module _ {b before after : List ℕ} {to : ℕ} where
   answers-ill : (x : Fault) (T : Known) → readFile b ≡ readIll x T → Adds before 0 after to (complaint b T x) → AnswersWhole b before after to
   answers-ill x T e h = record { well = well; ill = ill }
     where
-      well : (F : File) (ls : List (List Term)) → IsText b F → AreListings (F .lexicon) (F .phrases) ls → Adds before 0 after to (deskText F ls)
+      well : (F : File) (ls : List (List Term)) → IsText b F → AreListings (F .lexicon) (phrasesOf (F .paragraphs)) ls → Well before after to F ls
       well F ls t l =
-          let k : readIll x T ≡ readWell (lexiconRead (F .lexicon)) (F .phrases) = sym e ∙ files-are-read b F t in
+          let k : readIll x T ≡ readWell (lexiconRead (F .lexicon)) (F .paragraphs) = sym e ∙ files-are-read b F t in
           let z : _≡_ {A = ℕ} 0 1 = cc in
           absurd (omega arith)
 
@@ -149,21 +131,21 @@ module _ {b before after : List ℕ} {to : ℕ} where
           subst (λ (U : Known). Adds before 0 after to (complaint b U y)) these
           (subst (λ (y : Fault). Adds before 0 after to (complaint b T y)) same h)
 
-  answers-well : (a : LexiconRead) (ps : List Phrase) → readFile b ≡ readWell a ps →
-      ((F : File) (ls : List (List Term)) → IsText b F → a ≡ lexiconRead (F .lexicon) → ps ≡ F .phrases → AreListings (F .lexicon) (F .phrases) ls → Adds before 0 after to (deskText F ls)) →
+  answers-well : (a : LexiconRead) (qs : List Paragraph) → readFile b ≡ readWell a qs →
+      ((F : File) (ls : List (List Term)) → IsText b F → a ≡ lexiconRead (F .lexicon) → qs ≡ F .paragraphs → AreListings (F .lexicon) (phrasesOf (F .paragraphs)) ls → Well before after to F ls) →
       AnswersWhole b before after to
-  answers-well a ps e h = record { well = well; ill = ill }
+  answers-well a qs e h = record { well = well; ill = ill }
     where
-      well : (F : File) (ls : List (List Term)) → IsText b F → AreListings (F .lexicon) (F .phrases) ls → Adds before 0 after to (deskText F ls)
+      well : (F : File) (ls : List (List Term)) → IsText b F → AreListings (F .lexicon) (phrasesOf (F .paragraphs)) ls → Well before after to F ls
       well F ls t l =
-          let k : readWell a ps ≡ readWell (lexiconRead (F .lexicon)) (F .phrases) = sym e ∙ files-are-read b F t in
+          let k : readWell a qs ≡ readWell (lexiconRead (F .lexicon)) (F .paragraphs) = sym e ∙ files-are-read b F t in
           let same : a ≡ lexiconRead (F .lexicon) = cc in
-          let these : ps ≡ F .phrases = cc in
+          let these : qs ≡ F .paragraphs = cc in
           h F ls t same these l
 
       ill : (y : Fault) (U : Known) → readFile b ≡ readIll y U → Adds before 0 after to (complaint b U y)
       ill y U q =
-          let k : readWell a ps ≡ readIll y U = sym e ∙ q in
+          let k : readWell a qs ≡ readIll y U = sym e ∙ q in
           let z : _≡_ {A = ℕ} 0 1 = cc in
           absurd (omega arith)
 
@@ -182,7 +164,7 @@ module _ {b : List ℕ} {at : ℕ} {ks : List ℕ} {k : ℕ} {ws : List ℕ} {n 
   words-many : length (namesIn b (take n ws)) ≡ n
   words-many = names-many n ws (omega (arith, h .fits .tables .few, h .fits .tables .wordsSize))
 
-  vocabulary-same : vocabularyIn k n r ≡ vocabularyRead lexiconIn
+  vocabulary-same : tabledVocabulary k n r ≡ vocabularyRead lexiconIn
   vocabulary-same =
       ap₂ (λ i (l : List _). record { kinds = i; words = l })
       (sym (names-many k ks (omega (arith, h .fits .fewKinds, h .fits .kindsSize)))) (h .fits .rows)
@@ -190,16 +172,16 @@ module _ {b : List ℕ} {at : ℕ} {ks : List ℕ} {k : ℕ} {ws : List ℕ} {n 
   rows-many : map many (rowsIn n r) ≡ map (λ (f : ℕ). getD r (recordSize * f + 1) 0) (range 0 n)
   rows-many = map-map many (rowIn r) (range 0 n) ∙ map-range (λ f. many (rowIn r f)) (λ f. getD r (recordSize * f + 1) 0) n (row-places (h .fits .tables))
 
-  rows-placed : map many (rowsIn n r) ≡ map (placesIn r) (range 0 n)
+  rows-placed : map many (rowsIn n r) ≡ map (tabledPlaces r) (range 0 n)
   rows-placed =
       rows-many
-      ∙ map-range (λ f. getD r (recordSize * f + 1) 0) (placesIn r) n
+      ∙ map-range (λ f. getD r (recordSize * f + 1) 0) (tabledPlaces r) n
       (λ f less. let c = h .fits .tables .counts f less in omega arith)
 
   known-same : knownRead lexiconIn ≡ knownIn b ks k ws n r
   known-same =
       ap₂ (λ (x y : List ℕ). record { kinds = namesIn b (take k ks); words = namesIn b (take n ws); results = x; places = y })
-      (map-map (λ (x : Row). x .kind) (rowIn r) (range 0 n)) rows-placed
+      (map-map (λ (x : WordRow). x .kind) (rowIn r) (range 0 n)) rows-placed
 
   stands : (X : Lexicon) → GoodLexicon X → lexiconIn ≡ lexiconRead X → Stands b ks k ws n r X
   stands X good e = record {
@@ -220,23 +202,21 @@ module _ {b : List ℕ} {at : ℕ} {ks : List ℕ} {k : ℕ} {ws : List ℕ} {n 
           ∙ sym (counted-here (λ (f : ℕ). getD r (recordSize * f + 1) 0) n f few)
           ∙ ap (λ (l : List ℕ). getD l f 0) counts
 
-  abbrev readIn : Got (List Phrase)
-  readIn = phrasesFrom b at ks k ws n r
+  abbrev readIn : Parsed (List Paragraph)
+  readIn = paragraphsFrom b at ks k ws n r
 
-  read-same : readIn ≡ readPhrases (lexiconIn .kindNames) (lexiconIn .wordNames) (vocabularyRead lexiconIn) (length (lexemesFrom b at)) (lexemesFrom b at)
+  read-same : readIn ≡ readParagraphs (lexiconIn .kindNames) (lexiconIn .wordNames) (vocabularyRead lexiconIn) (length (lexemesFrom b at)) (lexemesFrom b at)
   read-same =
-      ap (λ (W : Vocabulary). readPhrases (namesIn b (take k ks)) (namesIn b (take n ws)) W (length (lexemesFrom b at)) (lexemesFrom b at)) vocabulary-same
+      ap (λ (W : Vocabulary). readParagraphs (namesIn b (take k ks)) (namesIn b (take n ws)) W (length (lexemesFrom b at)) (lexemesFrom b at)) vocabulary-same
 
-  due : (X : Lexicon) (ps qs : List Phrase) (m : List Lexeme) (ls : List (List Term)) (c : ℕ) → Stands b ks k ws n r X → length ps ≡ c → readIn ≡ got ps m → ps ≡ qs →
-      All (GoodWhole X) qs → AreListings X qs ls → Due b at X c qs ls
-  due X ps qs m ls c s count e same goods listings = record {
+  due : (X : Lexicon) (us qs : List Paragraph) (m : List Lexeme) (ls : List (List Term)) (c : ℕ) → Stands b ks k ws n r X → length us ≡ c → readIn ≡ parsed us m → us ≡ qs →
+      All (GoodParagraph X) qs → AreListings X (phrasesOf qs) ls → Due b at X c qs ls
+  due X us qs m ls c s count e same goods listings = record {
     count = ap length (sym same) ∙ count;
     course =
-        subst (λ (K : List Token). Courses K (wordNames X) (vocabularyOf X) (lexemesFrom b at) qs) (s .kinds)
-        (subst (λ (N : List Token). Courses (namesIn b (take k ks)) N (vocabularyOf X) (lexemesFrom b at) qs) (s .words)
-        (subst (λ (W : Vocabulary). Courses (namesIn b (take k ks)) (namesIn b (take n ws)) W (lexemesFrom b at) qs) (s .vocabulary)
-        (subst (Courses (namesIn b (take k ks)) (namesIn b (take n ws)) (vocabularyIn k n r) (lexemesFrom b at)) same
-        (courses (namesIn b (take k ks)) (namesIn b (take n ws)) (vocabularyIn k n r) (length (lexemesFrom b at)) (lexemesFrom b at) ps m e))));
+        course-moved (s .kinds) (s .words) (s .vocabulary) (lexemesFrom b at) qs
+        (courses (namesIn b (take k ks)) (namesIn b (take n ws)) (tabledVocabulary k n r) (lexemesFrom b at) qs m
+        (e ∙ ap (λ (l : List Paragraph). parsed l m) same));
     goods = goods;
     listings = listings;
   }
@@ -244,26 +224,26 @@ module _ {b : List ℕ} {at : ℕ} {ks : List ℕ} {k : ℕ} {ws : List ℕ} {n 
   module _ {before after : List ℕ} {to : ℕ} {c : Checked} (checks : Checks b at ks k ws n r c) where
     pub answers-bad : {why p of : ℕ} → c ≡ Bad why p of → Adds before 0 after to (complaint b (knownIn b ks k ws n r) (fault why p of)) →
         AnswersWhole b before after to
-    answers-bad {why} {p} {of} is put = go readIn refl (subst (Says readIn) is checks)
+    answers-bad {why} {p} {of} is put = go readIn refl (subst (Says readIn) is (checks readable))
       where
-        go : (y : Got (List Phrase)) → readIn ≡ y → Says y (Bad why p of) → AnswersWhole b before after to
-        go (got ps m) e s = absurd s
+        go : (y : Parsed (List Paragraph)) → readIn ≡ y → Says y (Bad why p of) → AnswersWhole b before after to
+        go (parsed qs m) e s = absurd s
         go (bad x) e s =
             answers-ill (fault why p of) (knownIn b ks k ws n r)
-            (file-phrases b (h .short) lexiconIn (lexemesFrom b at) (h .same) (fault why p of) (sym read-same ∙ e ∙ ap bad s)
+            (file-paragraphs b (h .short) lexiconIn (lexemesFrom b at) (h .same) (fault why p of) (sym read-same ∙ e ∙ ap bad s)
             ∙ ap (readIll (fault why p of)) known-same)
             put
 
     pub answers-fine : {m : ℕ} → c ≡ Fine m → PutsFile b at ks k ws n r m before after to → AnswersWhole b before after to
-    answers-fine {m} is put = go readIn refl (subst (Says readIn) is checks)
+    answers-fine {m} is put = go readIn refl (subst (Says readIn) is (checks readable))
       where
-        go : (y : Got (List Phrase)) → readIn ≡ y → Says y (Fine m) → AnswersWhole b before after to
+        go : (y : Parsed (List Paragraph)) → readIn ≡ y → Says y (Fine m) → AnswersWhole b before after to
         go (bad x) e s = absurd s
-        go (got ps l) e s =
-            answers-well lexiconIn ps (file-well b (h .short) lexiconIn (lexemesFrom b at) (h .same) ps l (sym read-same ∙ e))
+        go (parsed qs l) e s =
+            answers-well lexiconIn qs (file-well b (h .short) lexiconIn (lexemesFrom b at) (h .same) qs l (sym read-same ∙ e))
             (λ F ls t same these listings.
             let st = stands (F .lexicon) (t .lexicon) same in
-            put .puts (F .lexicon) (F .phrases) ls st (due (F .lexicon) ps (F .phrases) l ls m st s e these (t .phrases) listings))
+            put .puts (F .lexicon) (F .paragraphs) ls st (due (F .lexicon) qs (F .paragraphs) l ls m st s e these (t .paragraphs) listings))
 
 -- ---- where it was not
 
@@ -289,7 +269,7 @@ module _ {b ks ws r : List ℕ} {a : LexiconAnswer} (short : length b ≤ mostTe
 
 abbrev OneOf : List ℕ → Type 0
 OneOf b =
-    ((F : File) × (ls : List (List Term)) × IsText b F × AreListings (F .lexicon) (F .phrases) ls) ⊎
+    ((F : File) × (ls : List (List Term)) × IsText b F × AreListings (F .lexicon) (phrasesOf (F .paragraphs)) ls) ⊎
     ((x : Fault) × (T : Known) × (readFile b ≡ readIll x T))
 
 one-of : (b : List ℕ) → OneOf b
@@ -297,11 +277,14 @@ one-of b = go (readFile b) refl
   where
     go : (y : Read?) → readFile b ≡ y → OneOf b
     go (readIll x T) e = inr (x, T, e)
-    go (readWell a ps) e =
-        let f = files-are-exact b a ps e in
+    go (readWell a qs) e =
+        let f = files-are-exact b a qs e in
         let F = f .0 in
-        let l = listings-are (F .lexicon) (f .1 .lexicon) (F .phrases) (f .1 .phrases) in
+        let l = listings-are (F .lexicon) (f .1 .lexicon) (phrasesOf (F .paragraphs)) (good-phrases (F .lexicon) (F .paragraphs) (f .1 .paragraphs)) in
         inl (F, l .0, f .1, l .1)
+
+tail-so : (X : Lexicon) (ps : List Phrase) (P Q : List ℕ → Type 0) → ((tail : List ℕ) → P tail → Q tail) → Tailed X ps P → Tailed X ps Q
+tail-so X ps P Q f (tail, are, h) = (tail, are, f tail h)
 
 -- What is put is the answer, where it has room.
 held : {before after : List ℕ} {to : ℕ} (piece : List ℕ) → length after ≡ pageSize → to ≤ pageSize → Adds before 0 after to piece →
@@ -325,7 +308,7 @@ module _ {b before after : List ℕ} {to : ℕ} (size : length after ≡ pageSiz
   pub whole-fits : to ≤ pageSize → DeskPromise b (take to after)
   whole-fits few = record {
     one = one-of b;
-    answers = λ F ls t l. held (deskText F ls) size few (h .well F ls t l);
+    answers = λ F ls t l. tail-so (F .lexicon) (phrasesOf (F .paragraphs)) _ _ (λ tail. held (deskText F ls tail) size few) (h .well F ls t l);
     complains = λ x T e. held (complaint b T x) size few (h .ill x T e);
   }
 
@@ -346,6 +329,6 @@ module _ {b before after : List ℕ} {to : ℕ} (size : length after ≡ pageSiz
     pub whole-full : pageSize < to → DeskPromise b (take end last)
     whole-full more = record {
       one = one-of b;
-      answers = λ F ls t l. put-there .1 ∙ unheld (deskText F ls) size more (h .well F ls t l);
+      answers = λ F ls t l. tail-so (F .lexicon) (phrasesOf (F .paragraphs)) _ _ (λ tail adds. put-there .1 ∙ unheld (deskText F ls tail) size more adds) (h .well F ls t l);
       complains = λ x T e. put-there .1 ∙ unheld (complaint b T x) size more (h .ill x T e);
     }

@@ -5,16 +5,15 @@
 --
 use mathlib.Core.Path.{_≡_, refl, sym, ap, ap₂, _∙_}
 use mathlib.Core.List.{List, [], _∷_, _++_, map}
-use Prim.Native.Nat.{ℕ, zero, suc, _+_, _*_, _<_, _≤_}
+use Prim.Native.Nat.{ℕ, _+_, _*_, _<_, _≤_}
 use native.Mathlib.Numerals.{add-one}
 use native.Mathlib.Omega.{arith}
 use lib.ListN.{length, getD, take, set, length-set}
 use lib.Seq.{take-suc-set, take-all}
 use Rattle.terms.specs.Lists.{range}
-use Rattle.wire.specs.Vocabulary.{mostWords}
 use Rattle.texts.specs.Tabled.{recordSize}
 use Rattle.lexicon.proofs.Rows.{map-last}
-use Rattle.answers.specs.Asked.{placesTable}
+use Rattle.paragraphs.specs.Paragraphs.{placesTable}
 
 abbrev placesBelow : List ℕ → ℕ → List ℕ
 placesBelow r f = map (λ (f : ℕ). getD r (recordSize * f + 1) 0) (range 0 f)

@@ -1,28 +1,17 @@
-// What the desk prints for a text: the leftovers of each of its patterns in words, or its first fault.
+// What the desk prints for a text: the leftovers of each of its patterns in words and the answers to what they are asked, and the
+// leftovers of all patterns of a kind together; or the text's first fault.
 ghost use mathlib.Core.Path.{_≡_};
-ghost use mathlib.Core.List.{List, _++_};
-ghost use Prim.Native.Nat.{_≤_};
+ghost use mathlib.Core.List.{_++_};
+ghost use Prim.Native.Nat.{_-_, _≤_};
 ghost use lib.Dec.{ltb};
-ghost use lib.ListN.{length, take};
-ghost use Rattle.texts.specs.Lexemes.{lexemesFrom};
-ghost use Rattle.texts.specs.Answers.{tooLongText};
+ghost use lib.ListN.{length, take, replicate};
 ghost use Rattle.texts.specs.Desk.{DeskPromise};
-ghost use Rattle.pages.specs.Pages.{Adds};
-ghost use Rattle.answers.specs.Asked.{placesTable, Readable, Checks, PutsPhrase, PutsBlocks, PutsFile, LexiconKnown, AnswersWhole};
+ghost use Rattle.gatherings.specs.Courses.{Readable};
+ghost use Rattle.paragraphs.specs.Paragraphs.{placesTable};
+ghost use Rattle.answers.specs.Asked.{PutsFile, LexiconKnown, AnswersWhole};
+ghost use Rattle.answers.specs.Answered.{Answered};
 use lexicon::LexiconAnswer;
-use phrases::PhraseAnswer;
-
-// How many patterns stand behind the vocabulary, or the first fault among them.
-enum Checked {
-    Fine(usize),
-    Bad(usize, usize, usize),
-}
-
-// How far the text is read, and where the answer goes on.
-struct Progress {
-    at: usize,
-    to: usize,
-}
+use paragraphs::Checked;
 
 // How many places each word has.
 fn places_of(records: &[u8; 960]) -> [u8; 96]
@@ -37,165 +26,7 @@ fn places_of(records: &[u8; 960]) -> [u8; 96]
     places
 }
 
-// Reads all patterns, and writes nothing.
-fn check_phrases(
-    text: &[u8],
-    from: usize,
-    kinds: &[u16; 16],
-    k: usize,
-    words: &[u16; 96],
-    n: usize,
-    records: &[u8; 960],
-) -> Checked
-    requires { ⌜ Readable (now text) from k n ⌝ }
-    ensures { λ r. ⌜ Checks (now (text .entry)) from (now (kinds .entry)) k (now (words .entry)) n (now (records .entry)) r ⌝ }
-{
-    let mut out = [0u8; 4096];
-    let mut variables = [0u16; 64];
-    let mut count = 0;
-    let mut at = from;
-    let mut s = lexer::start(text, at);
-    while s < text.len() {
-        let read = phrases::read_phrase(
-            text,
-            at,
-            kinds,
-            k,
-            words,
-            n,
-            records,
-            &mut out,
-            &mut variables,
-        );
-        match read {
-            PhraseAnswer::Bad(x) => {
-                return Checked::Bad(x.why, x.at, x.of);
-            }
-            PhraseAnswer::Read(p) => {
-                count += 1;
-                at = p.at;
-                s = lexer::start(text, at);
-            }
-        }
-    }
-    Checked::Fine(count)
-}
-
-// The first n bytes; none where there are fewer.
-fn part(bytes: &[u8], n: usize) -> &[u8]
-    requires { ⌜ length (now bytes) ≡ 4096 ⌝ }
-    ensures { λ r. ⌜ (n ≤ 4096 → now r ≡ take n (now (bytes .entry))) ⌝ }
-{
-    if bytes.len() < n {
-        return &bytes[0..0];
-    }
-    &bytes[0..n]
-}
-
-// The bytes of a pattern, whose number is n.
-fn front(bytes: &[u8; 4096], n: usize) -> &[u8]
-    ensures { λ r. ⌜ (n ≤ 4096 → now r ≡ take n (now (bytes .entry))) ⌝ }
-{
-    part(bytes, n)
-}
-
-// Reads a pattern again, and puts what is printed for it.
-fn put_phrase(
-    text: &[u8],
-    at: usize,
-    kinds: &[u16; 16],
-    k: usize,
-    words: &[u16; 96],
-    n: usize,
-    records: &[u8; 960],
-    places: &[u8; 96],
-    vocabulary: &[u8],
-    page: &mut [u8; 1048576],
-    to: usize,
-) -> Progress
-    requires { ⌜ Readable (now text) at k n ⌝ }
-    ensures { λ r. ⌜ PutsPhrase (now (text .entry)) at (now (kinds .entry)) k (now (words .entry)) n (now (records .entry)) (now (places .entry)) (now (vocabulary .entry)) (now (page .entry)) to (now (page .exit)) (r .at) (r .to) ⌝ }
-{
-    let mut out = [0u8; 4096];
-    let mut variables = [0u16; 64];
-    match phrases::read_phrase(
-        text,
-        at,
-        kinds,
-        k,
-        words,
-        n,
-        records,
-        &mut out,
-        &mut variables,
-    ) {
-        PhraseAnswer::Bad(_) => Progress { at, to },
-        PhraseAnswer::Read(p) => {
-            let label = p.label;
-            let size = p.size;
-            let behind = p.at;
-            let next = blocks::put_block(
-                text,
-                label,
-                kinds,
-                words,
-                places,
-                &variables,
-                vocabulary,
-                front(&out, size),
-                page,
-                to,
-            );
-            Progress {
-                at: behind,
-                to: next,
-            }
-        }
-    }
-}
-
-// Puts what is printed for each of m patterns.
-fn put_blocks(
-    text: &[u8],
-    from: usize,
-    kinds: &[u16; 16],
-    k: usize,
-    words: &[u16; 96],
-    n: usize,
-    records: &[u8; 960],
-    places: &[u8; 96],
-    vocabulary: &[u8],
-    m: usize,
-    page: &mut [u8; 1048576],
-) -> usize
-    requires { ⌜ Readable (now text) from k n ⌝ }
-    ensures { λ r. ⌜ PutsBlocks (now (text .entry)) from (now (kinds .entry)) k (now (words .entry)) n (now (records .entry)) (now (places .entry)) (now (vocabulary .entry)) m (now (page .entry)) (now (page .exit)) r ⌝ }
-{
-    let mut i = 0;
-    let mut at = from;
-    let mut to = 0;
-    while i < m {
-        let progress = put_phrase(
-            text,
-            at,
-            kinds,
-            k,
-            words,
-            n,
-            records,
-            places,
-            vocabulary,
-            page,
-            to,
-        );
-        at = progress.at;
-        to = progress.to;
-        i += 1;
-    }
-    to
-}
-
-// Puts the answer for a text of m patterns.
+// Puts the answer for a text of m paragraphs.
 fn put_file(
     text: &[u8],
     from: usize,
@@ -213,7 +44,7 @@ fn put_file(
     let places = places_of(records);
     let mut vocabulary = [0u8; 962];
     let size = encoder::encode(k, n, records, &mut vocabulary);
-    let a = put_blocks(
+    let a = paragraphs::put(
         text,
         from,
         kinds,
@@ -226,9 +57,23 @@ fn put_file(
         m,
         page,
     );
-    let b = pages::put(b"# end of ", page, a);
-    let c = pages::put_number(m as u64, page, b);
-    pages::put(b" patterns\n", page, c)
+    let b = tails::put_tails(
+        text,
+        from,
+        kinds,
+        k,
+        words,
+        n,
+        records,
+        &places,
+        &vocabulary[0..size],
+        m,
+        page,
+        a,
+    );
+    let c = pages::put(b"# end of ", page, b);
+    let d = pages::put_number(m as u64, page, c);
+    pages::put(b" patterns\n", page, d)
 }
 
 // Puts the answer where the vocabulary was read.
@@ -245,7 +90,7 @@ fn answer_file(
     requires { ⌜ LexiconKnown (now text) from (now kinds) k (now words) n (now records) ⌝ }
     ensures { λ r. ⌜ AnswersWhole (now (text .entry)) (now (page .entry)) (now (page .exit)) r ⌝ }
 {
-    match check_phrases(text, from, kinds, k, words, n, records) {
+    match paragraphs::check(text, from, kinds, k, words, n, records) {
         Checked::Bad(why, at, of) => complaints::complain(
             text,
             why,
@@ -302,9 +147,8 @@ fn is_over(page: &[u8], to: usize) -> bool
     1048576 < to
 }
 
-// Puts what the desk prints for a text at the front of the page, and says how many bytes it is. What stands behind them on
-// the page is not promised.
-pub fn answer(text: &[u8], page: &mut [u8; 1048576]) -> usize
+// Puts the answer at the front of the page; where it has no room, what is said of that.
+fn answer_bounded(text: &[u8], page: &mut [u8; 1048576]) -> usize
     ensures { λ r. ⌜ DeskPromise (now (text .entry)) (take r (now (page .exit))) ⌝ }
     ensures { λ r. ⌜ r ≤ length (now (page .exit)) ⌝ }
 {
@@ -316,5 +160,26 @@ pub fn answer(text: &[u8], page: &mut [u8; 1048576]) -> usize
             0,
         );
     }
+    to
+}
+
+// Sets all bytes from an offset on to 0.
+fn clear(page: &mut [u8], from: usize)
+    requires { ⌜ from ≤ length (now page) ⌝ }
+    ensures { λ _. ⌜ now (page .exit) ≡ take from (now (page .entry)) ++ replicate (length (now (page .entry)) - from) 0 ⌝ }
+{
+    let mut i = from;
+    while i < page.len() {
+        page[i] = 0;
+        i += 1;
+    }
+}
+
+// Puts what the desk prints for a text at the front of the page, and says how many bytes it is. The others on the page are then 0.
+pub fn answer(text: &[u8], page: &mut [u8; 1048576]) -> usize
+    ensures { λ r. ⌜ Answered (now (text .entry)) (now (page .exit)) r ⌝ }
+{
+    let to = answer_bounded(text, page);
+    clear(page, to);
     to
 }

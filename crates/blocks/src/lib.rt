@@ -76,7 +76,7 @@ fn put_lines(
 }
 
 // Puts the number of leftovers, a line for each, and the closing line.
-fn put_leftovers(
+pub fn put_leftovers(
     listing: &[u8],
     n: u64,
     text: &[u8],

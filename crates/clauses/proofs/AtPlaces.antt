@@ -23,9 +23,9 @@ use Rattle.wire.specs.TermBytes.{encodeAt, encodeAll}
 use Rattle.wire.proofs.Cond.{cond-true, cond-false}
 use Rattle.texts.specs.Lexemes.{Token, Lexeme, blanks, tokenSize, lexemesFrom, tokenAt}
 use Rattle.texts.specs.Names.{same, mark, closing, comma}
-use Rattle.texts.specs.Faults.{Got, got, bad, andThen, token, rest, placesWrong}
-use Rattle.texts.specs.PhraseReading.{Seen, TermRead, TermsRead, readPlaces, readTerm, withFirst}
-use Rattle.texts.specs.Tabled.{namesIn, recordSize, placesIn, vocabularyIn}
+use Rattle.texts.specs.Faults.{Parsed, parsed, bad, parseThen, token, rest, placesWrong, placesOver}
+use Rattle.texts.specs.PhraseReading.{Seen, TermRead, TermsRead, parsePlaces, parseTerm, putFirst}
+use Rattle.texts.specs.Tabled.{namesIn, recordSize, tabledPlaces, tabledVocabulary}
 use Rattle.clauses.specs.Reading.{Within, Lent, Tables, seenAt, Reads, placeFlags, TermTo, TermsTo, Front, Below, readFrom, markBefore, Closes, ReadsTerm, ReadsPlaces, Small, joined}
 use Rattle.clauses.specs.declared.Fault.{Fault}
 use Rattle.clauses.specs.declared.Reached.{Reached}
@@ -74,7 +74,7 @@ module _ (b : List ℕ) (at i f to seen : ℕ) (w : Within b at 0 to seen) where
       subst (λ (j : ℕ). Reads (TermsTo W b o to o v 0) (readFrom below f j [] (seenAt b v seen to) (lexemesFrom b at)) (Read (record { at = at; to = to; seen = seen; map = 0 }))) (sym e)
       (stays W o v lent at (lexemesFrom b at) refl (w .inside))
 
-  later : (j : ℕ) → (j ≡ 0 → ⊥) → (below : Below) (ks : List ℕ) (s : Seen) (l : List Lexeme) → readFrom below f j ks s l ≡ readPlaces below f comma ks s l
+  later : (j : ℕ) → (j ≡ 0 → ⊥) → (below : Below) (ks : List ℕ) (s : Seen) (l : List Lexeme) → readFrom below f j ks s l ≡ parsePlaces below f comma ks s l
   later zero h below ks s l = absurd (h refl)
   later (suc j) h below ks s l = refl
 
@@ -83,31 +83,31 @@ module _ (b : List ℕ) (at i f to seen : ℕ) (w : Within b at 0 to seen) where
         Closes b at i f to seen (Read (record { at = e; to = to; seen = seen; map = 0 }))
     closes-mark e h end W below o v lent =
         let first = front b at s (w .inside) start (mark-some (tokenAt b s) 41 h) in
-        subst (λ (g : Got TermsRead). Reads (TermsTo W b o to o v 0) g (Read (record { at = e; to = to; seen = seen; map = 0 })))
+        subst (λ (g : Parsed TermsRead). Reads (TermsTo W b o to o v 0) g (Read (record { at = e; to = to; seen = seen; map = 0 })))
         (sym (later i some below [] (seenAt b v seen to) (lexemesFrom b at) ∙ cond-true (same (token (lexemesFrom b at)) (mark closing)) _ _ (ap (λ (u : Token). same u (mark closing)) (first .token) ∙ h)))
         (stays W o v lent e (rest (lexemesFrom b at)) (first .behind ∙ ap (lexemesFrom b) (sym end)) (omega (arith, first .inside)))
 
-    pub closes-bad : same (tokenAt b s) (41 ∷ []) ≡ false → Closes b at i f to seen (Bad (record { why = placesWrong; at = s; of = f }))
+    pub closes-bad : same (tokenAt b s) (41 ∷ []) ≡ false → Closes b at i f to seen (Bad (record { why = placesOver; at = s; of = f }))
     closes-bad h W below o v lent =
-        subst (λ (g : Got TermsRead). Reads (TermsTo W b o to o v 0) g (Bad (record { why = placesWrong; at = s; of = f })))
+        subst (λ (g : Parsed TermsRead). Reads (TermsTo W b o to o v 0) g (Bad (record { why = placesOver; at = s; of = f })))
         (sym (later i some below [] (seenAt b v seen to) (lexemesFrom b at) ∙ cond-false (same (token (lexemesFrom b at)) (mark closing)) _ _ (ap (λ (u : Token). same u (mark closing)) (front-token b at s start) ∙ h)))
-        (ap (λ (j : ℕ). record { why = placesWrong; at = j; of = f }) (front-place b at s start))
+        (ap (λ (j : ℕ). record { why = placesOver; at = j; of = f }) (front-place b at s start))
 
 -- ---- what is read behind something
 
-pub follow : {A B : Type 0} (P : A → List Lexeme → Reached → Type 0) (Q : B → List Lexeme → Reached → Type 0) (g : Got A) (h : A → List Lexeme → Got B) (p : Reached) (x : Answer) →
-    Reads P g (Read p) → ((a : A) (r : List Lexeme) → P a r p → Reads Q (h a r) x) → Reads Q (andThen g h) x
-follow P Q (got a r) h p x e k = k a r e
+pub follow : {A B : Type 0} (P : A → List Lexeme → Reached → Type 0) (Q : B → List Lexeme → Reached → Type 0) (g : Parsed A) (h : A → List Lexeme → Parsed B) (p : Reached) (x : Answer) →
+    Reads P g (Read p) → ((a : A) (r : List Lexeme) → P a r p → Reads Q (h a r) x) → Reads Q (parseThen g h) x
+follow P Q (parsed a r) h p x e k = k a r e
 follow P Q (bad f) h p x e k = absurd e
 
-pub refuse : {A B : Type 0} (P : A → List Lexeme → Reached → Type 0) (Q : B → List Lexeme → Reached → Type 0) (g : Got A) (h : A → List Lexeme → Got B) (y : Fault) →
-    Reads P g (Bad y) → Reads Q (andThen g h) (Bad y)
-refuse P Q (got a r) h y e = absurd e
+pub refuse : {A B : Type 0} (P : A → List Lexeme → Reached → Type 0) (Q : B → List Lexeme → Reached → Type 0) (g : Parsed A) (h : A → List Lexeme → Parsed B) (y : Fault) →
+    Reads P g (Bad y) → Reads Q (parseThen g h) (Bad y)
+refuse P Q (parsed a r) h y e = absurd e
 refuse P Q (bad f) h y e = e
 
 -- ---- at a place
 
-from-mark : (below : Below) (f i x : ℕ) (ks : List ℕ) (s : Seen) (l : List Lexeme) → readFrom below f i (x ∷ ks) s l ≡ readPlaces below f (markBefore i) (x ∷ ks) s l
+from-mark : (below : Below) (f i x : ℕ) (ks : List ℕ) (s : Seen) (l : List Lexeme) → readFrom below f i (x ∷ ks) s l ≡ parsePlaces below f (markBefore i) (x ∷ ks) s l
 from-mark below f zero x ks s l = refl
 from-mark below f (suc i) x ks s l = refl
 
@@ -120,10 +120,10 @@ rest-small fs m n e h l = omega (arith, flags-below fs 7 (omega arith))
 
 module _ (b q r o v : List ℕ) (at k n left f i to seen : ℕ) (w : Within b at n to seen) (lent : Lent o v) (tables : Tables q r) (known : f < n) where
   abbrev vocabulary : Vocabulary
-  vocabulary = vocabularyIn k n r
+  vocabulary = tabledVocabulary k n r
 
   abbrev below : Below
-  below = readTerm (namesIn b (take n q)) vocabulary left
+  below = parseTerm (namesIn b (take n q)) vocabulary left
 
   abbrev kinds : List ℕ
   kinds = word vocabulary f .kinds
@@ -133,12 +133,12 @@ module _ (b q r o v : List ℕ) (at k n left f i to seen : ℕ) (w : Within b at
   From at′ j o₁ to₁ v₁ seen₁ o₂ v₂ a =
       Reads (TermsTo vocabulary b o₁ to₁ o₂ v₂ (length (drop j kinds))) (readFrom below f j (drop j kinds) (seenAt b v₁ seen₁ to₁) (lexemesFrom b at′)) a
 
-  pub places-closed : (a : Answer) → i ≡ placesIn r f → Closes b at i f to seen a → From at i o to v seen o v a
+  pub places-closed : (a : Answer) → i ≡ tabledPlaces r f → Closes b at i f to seen a → From at i o to v seen o v a
   places-closed a e closes =
       subst (λ (ks : List ℕ). Reads (TermsTo vocabulary b o to o v (length ks)) (readFrom below f i ks (seenAt b v seen to) (lexemesFrom b at)) a)
       (sym (kinds-none k n r f known (w .words) (tables .records) i e)) (closes vocabulary below o v lent)
 
-  module _ (s m : ℕ) (here : i < placesIn r f) (start : s ≡ at + blanks (drop at b)) (before : m ≡ markBefore i) where
+  module _ (s m : ℕ) (here : i < tabledPlaces r f) (start : s ≡ at + blanks (drop at b)) (before : m ≡ markBefore i) where
     abbrev due : ℕ
     due = getD r (recordSize * f + 2 + i) 0
 
@@ -146,24 +146,24 @@ module _ (b q r o v : List ℕ) (at k n left f i to seen : ℕ) (w : Within b at
     next = kinds-next k n r f known (w .words) (tables .records) i here
 
     at-mark : (o₂ v₂ : List ℕ) (a : Answer) →
-        Reads (TermsTo vocabulary b o to o₂ v₂ (suc (length (drop (suc i) kinds)))) (readPlaces below f m (due ∷ drop (suc i) kinds) (seenAt b v seen to) (lexemesFrom b at)) a →
+        Reads (TermsTo vocabulary b o to o₂ v₂ (suc (length (drop (suc i) kinds)))) (parsePlaces below f m (due ∷ drop (suc i) kinds) (seenAt b v seen to) (lexemesFrom b at)) a →
         From at i o to v seen o₂ v₂ a
     at-mark o₂ v₂ a h =
         subst (λ (ks : List ℕ). Reads (TermsTo vocabulary b o to o₂ v₂ (length ks)) (readFrom below f i ks (seenAt b v seen to) (lexemesFrom b at)) a) (sym next)
-        (subst (λ (g : Got TermsRead). Reads (TermsTo vocabulary b o to o₂ v₂ (suc (length (drop (suc i) kinds)))) g a)
-        (ap (λ (c : ℕ). readPlaces below f c (due ∷ drop (suc i) kinds) (seenAt b v seen to) (lexemesFrom b at)) before ∙ sym (from-mark below f i due (drop (suc i) kinds) (seenAt b v seen to) (lexemesFrom b at))) h)
+        (subst (λ (g : Parsed TermsRead). Reads (TermsTo vocabulary b o to o₂ v₂ (suc (length (drop (suc i) kinds)))) g a)
+        (ap (λ (c : ℕ). parsePlaces below f c (due ∷ drop (suc i) kinds) (seenAt b v seen to) (lexemesFrom b at)) before ∙ sym (from-mark below f i due (drop (suc i) kinds) (seenAt b v seen to) (lexemesFrom b at))) h)
 
     pub places-wrong : (o₂ v₂ : List ℕ) → same (tokenAt b s) (m ∷ []) ≡ false → From at i o to v seen o₂ v₂ (Bad (record { why = placesWrong; at = s; of = f }))
     places-wrong o₂ v₂ h =
         at-mark o₂ v₂ _
-        (subst (λ (g : Got TermsRead). Reads (TermsTo vocabulary b o to o₂ v₂ (suc (length (drop (suc i) kinds)))) g (Bad (record { why = placesWrong; at = s; of = f })))
+        (subst (λ (g : Parsed TermsRead). Reads (TermsTo vocabulary b o to o₂ v₂ (suc (length (drop (suc i) kinds)))) g (Bad (record { why = placesWrong; at = s; of = f })))
         (sym (cond-false (same (token (lexemesFrom b at)) (mark m)) _ _ (ap (λ (u : Token). same u (mark m)) (front-token b at s start) ∙ h)))
         (ap (λ (j : ℕ). record { why = placesWrong; at = j; of = f }) (front-place b at s start)))
 
     -- The mark stands there.
     module _ (e : ℕ) (stands : same (tokenAt b s) (m ∷ []) ≡ true) (end : e ≡ s + tokenSize (drop s b)) where
-      abbrev more : TermRead → List Lexeme → Got TermsRead
-      more a t = andThen (readPlaces below f comma (drop (suc i) kinds) (a .seen) t) (λ ts t′. got (withFirst (a .term) ts) t′)
+      abbrev more : TermRead → List Lexeme → Parsed TermsRead
+      more a t = parseThen (parsePlaces below f comma (drop (suc i) kinds) (a .seen) t) (λ ts t′. parsed (putFirst (a .term) ts) t′)
 
       first : Front b s (lexemesFrom b at)
       first = front b at s (w .inside) start (mark-some (tokenAt b s) m stands)
@@ -172,14 +172,14 @@ module _ (b q r o v : List ℕ) (at k n left f i to seen : ℕ) (w : Within b at
       end-inside = omega (arith, first .inside)
 
       behind-mark : (o₂ v₂ : List ℕ) (a : Answer) →
-          Reads (TermsTo vocabulary b o to o₂ v₂ (suc (length (drop (suc i) kinds)))) (andThen (below due (seenAt b v seen to) (lexemesFrom b e)) more) a →
+          Reads (TermsTo vocabulary b o to o₂ v₂ (suc (length (drop (suc i) kinds)))) (parseThen (below due (seenAt b v seen to) (lexemesFrom b e)) more) a →
           From at i o to v seen o₂ v₂ a
       behind-mark o₂ v₂ a h =
           at-mark o₂ v₂ a
-          (subst (λ (g : Got TermsRead). Reads (TermsTo vocabulary b o to o₂ v₂ (suc (length (drop (suc i) kinds)))) g a)
+          (subst (λ (g : Parsed TermsRead). Reads (TermsTo vocabulary b o to o₂ v₂ (suc (length (drop (suc i) kinds)))) g a)
           (sym
           (cond-true (same (token (lexemesFrom b at)) (mark m)) _ _ (ap (λ (u : Token). same u (mark m)) (first .token) ∙ stands)
-          ∙ ap (λ (t : List Lexeme). andThen (below due (seenAt b v seen to) t) more) (first .behind ∙ ap (lexemesFrom b) (sym end))))
+          ∙ ap (λ (t : List Lexeme). parseThen (below due (seenAt b v seen to) t) more) (first .behind ∙ ap (lexemesFrom b) (sym end))))
           h)
 
       module _ (o₁ v₁ : List ℕ) where
@@ -193,8 +193,8 @@ module _ (b q r o v : List ℕ) (at k n left f i to seen : ℕ) (w : Within b at
         pub term-ends : (p : Reached) → Term-read (Read p) → Within b (p .at) n (p .to) (p .seen) × Lent o₁ v₁ × (p .map ≤ 1)
         term-ends p h = go (below due (seenAt b v seen to) (lexemesFrom b e)) h
           where
-            go : (g : Got TermRead) → Reads (TermTo vocabulary b o to o₁ v₁) g (Read p) → Within b (p .at) n (p .to) (p .seen) × Lent o₁ v₁ × (p .map ≤ 1)
-            go (got a t) h = (
+            go : (g : Parsed TermRead) → Reads (TermTo vocabulary b o to o₁ v₁) g (Read p) → Within b (p .at) n (p .to) (p .seen) × Lent o₁ v₁ × (p .map ≤ 1)
+            go (parsed a t) h = (
               record { short = w .short; inside = h .inside; words = w .words; room = h .room; few = h .few },
               h .lent,
               bit-small (placeFlags (cons (a .term) nil)) (p .map) 1 (h .map) (h .count) (omega arith),
@@ -211,8 +211,8 @@ module _ (b q r o v : List ℕ) (at k n left f i to seen : ℕ) (w : Within b at
           pub places-small : Small (p .map) a
           places-small = go a (readFrom below f (suc i) (drop (suc i) kinds) (seenAt b v₁ (p .seen) (p .to)) (lexemesFrom b (p .at))) later-read
             where
-              go : (x : Answer) (g : Got TermsRead) → Reads (TermsTo vocabulary b o₁ (p .to) o₂ v₂ (length (drop (suc i) kinds))) g x → Small (p .map) x
-              go (Read p′) (got ts t) h = (term-ends p read .2, rest-small (placeFlags (ts .terms)) (p′ .map) (length (drop (suc i) kinds)) (h .map) (h .count) few-behind)
+              go : (x : Answer) (g : Parsed TermsRead) → Reads (TermsTo vocabulary b o₁ (p .to) o₂ v₂ (length (drop (suc i) kinds))) g x → Small (p .map) x
+              go (Read p′) (parsed ts t) h = (term-ends p read .2, rest-small (placeFlags (ts .terms)) (p′ .map) (length (drop (suc i) kinds)) (h .map) (h .count) few-behind)
               go (Read p′) (bad x) h = absurd h
               go (Bad y) g h = tt
 
@@ -220,18 +220,18 @@ module _ (b q r o v : List ℕ) (at k n left f i to seen : ℕ) (w : Within b at
           places-read =
               behind-mark o₂ v₂ (joined (p .map) a)
               (follow (TermTo vocabulary b o to o₁ v₁) (TermsTo vocabulary b o to o₂ v₂ (suc (length (drop (suc i) kinds)))) (below due (seenAt b v seen to) (lexemesFrom b e)) more p (joined (p .map) a) read λ t l h.
-              subst (λ (x : Seen). Reads (TermsTo vocabulary b o to o₂ v₂ (suc (length (drop (suc i) kinds)))) (andThen (readPlaces below f comma (drop (suc i) kinds) x l) (λ ts t′. got (withFirst (t .term) ts) t′)) (joined (p .map) a)) (sym (h .seen))
-              (subst (λ (x : List Lexeme). Reads (TermsTo vocabulary b o to o₂ v₂ (suc (length (drop (suc i) kinds)))) (andThen (readPlaces below f comma (drop (suc i) kinds) (seenAt b v₁ (p .seen) (p .to)) x) (λ ts t′. got (withFirst (t .term) ts) t′)) (joined (p .map) a)) (sym (h .behind))
+              subst (λ (x : Seen). Reads (TermsTo vocabulary b o to o₂ v₂ (suc (length (drop (suc i) kinds)))) (parseThen (parsePlaces below f comma (drop (suc i) kinds) x l) (λ ts t′. parsed (putFirst (t .term) ts) t′)) (joined (p .map) a)) (sym (h .seen))
+              (subst (λ (x : List Lexeme). Reads (TermsTo vocabulary b o to o₂ v₂ (suc (length (drop (suc i) kinds)))) (parseThen (parsePlaces below f comma (drop (suc i) kinds) (seenAt b v₁ (p .seen) (p .to)) x) (λ ts t′. parsed (putFirst (t .term) ts) t′)) (joined (p .map) a)) (sym (h .behind))
               (go t l h a later-read)))
             where
               go : (t : TermRead) (l : List Lexeme) → TermTo vocabulary b o to o₁ v₁ t l p → (x : Answer) → From (p .at) (suc i) o₁ (p .to) v₁ (p .seen) o₂ v₂ x →
                   Reads (TermsTo vocabulary b o to o₂ v₂ (suc (length (drop (suc i) kinds))))
-                  (andThen (readPlaces below f comma (drop (suc i) kinds) (seenAt b v₁ (p .seen) (p .to)) (lexemesFrom b (p .at))) (λ ts t′. got (withFirst (t .term) ts) t′))
+                  (parseThen (parsePlaces below f comma (drop (suc i) kinds) (seenAt b v₁ (p .seen) (p .to)) (lexemesFrom b (p .at))) (λ ts t′. parsed (putFirst (t .term) ts) t′))
                   (joined (p .map) x)
-              go t l h (Bad y) z = refuse _ _ (readPlaces below f comma (drop (suc i) kinds) (seenAt b v₁ (p .seen) (p .to)) (lexemesFrom b (p .at))) (λ ts t′. got (withFirst (t .term) ts) t′) y z
+              go t l h (Bad y) z = refuse _ _ (parsePlaces below f comma (drop (suc i) kinds) (seenAt b v₁ (p .seen) (p .to)) (lexemesFrom b (p .at))) (λ ts t′. parsed (putFirst (t .term) ts) t′) y z
               go t l h (Read p′) z =
                   follow (TermsTo vocabulary b o₁ (p .to) o₂ v₂ (length (drop (suc i) kinds))) (TermsTo vocabulary b o to o₂ v₂ (suc (length (drop (suc i) kinds))))
-                  (readPlaces below f comma (drop (suc i) kinds) (seenAt b v₁ (p .seen) (p .to)) (lexemesFrom b (p .at))) (λ ts t′. got (withFirst (t .term) ts) t′) p′ (joined (p .map) (Read p′)) z λ ts l′ y. record {
+                  (parsePlaces below f comma (drop (suc i) kinds) (seenAt b v₁ (p .seen) (p .to)) (lexemesFrom b (p .at))) (λ ts t′. parsed (putFirst (t .term) ts) t′) p′ (joined (p .map) (Read p′)) z λ ts l′ y. record {
                     behind = y .behind;
                     inside = y .inside;
                     room = y .room;
@@ -251,7 +251,7 @@ pub record AtPlace (b q r o v : List ℕ) (at n left f i to seen s m e x : ℕ) 
   pub lent : Lent o v
   pub tables : Tables q r
   pub known : f < n
-  pub here : i < placesIn r f
+  pub here : i < tabledPlaces r f
   pub start : s ≡ at + blanks (drop at b)
   pub before : m ≡ markBefore i
   pub stands : same (tokenAt b s) (m ∷ []) ≡ true
@@ -270,10 +270,10 @@ module _ {b q r o v : List ℕ} {at n left f i to seen s m e x : ℕ} (h : AtPla
 
   module _ (o₁ v₁ : List ℕ) (y : Answer) (read : ReadsTerm b e left x q n r o to v seen o₁ v₁ y) where
     told : (k : ℕ) (a : Answer) → y ≡ a →
-        Reads (TermTo (vocabularyIn k n r) b o to o₁ v₁) (readTerm (namesIn b (take n q)) (vocabularyIn k n r) left (getD r (recordSize * f + 2 + i) 0) (seenAt b v seen to) (lexemesFrom b e)) a
+        Reads (TermTo (tabledVocabulary k n r) b o to o₁ v₁) (parseTerm (namesIn b (take n q)) (tabledVocabulary k n r) left (getD r (recordSize * f + 2 + i) 0) (seenAt b v seen to) (lexemesFrom b e)) a
     told k a is =
-        subst (λ (a : Answer). Reads (TermTo (vocabularyIn k n r) b o to o₁ v₁) (readTerm (namesIn b (take n q)) (vocabularyIn k n r) left (getD r (recordSize * f + 2 + i) 0) (seenAt b v seen to) (lexemesFrom b e)) a) is
-        (subst (λ (j : ℕ). Reads (TermTo (vocabularyIn k n r) b o to o₁ v₁) (readTerm (namesIn b (take n q)) (vocabularyIn k n r) left j (seenAt b v seen to) (lexemesFrom b e)) y) (h .kind) (read k))
+        subst (λ (a : Answer). Reads (TermTo (tabledVocabulary k n r) b o to o₁ v₁) (parseTerm (namesIn b (take n q)) (tabledVocabulary k n r) left (getD r (recordSize * f + 2 + i) 0) (seenAt b v seen to) (lexemesFrom b e)) a) is
+        (subst (λ (j : ℕ). Reads (TermTo (tabledVocabulary k n r) b o to o₁ v₁) (parseTerm (namesIn b (take n q)) (tabledVocabulary k n r) left j (seenAt b v seen to) (lexemesFrom b e)) y) (h .kind) (read k))
 
     pub place-refused : (o₂ v₂ : List ℕ) (z : Fault) → y ≡ Bad z → ReadsPlaces b at left f i q n r o to v seen o₂ v₂ (Bad z)
     place-refused o₂ v₂ z is k =
@@ -291,5 +291,5 @@ module _ {b q r o v : List ℕ} {at n left f i to seen s m e x : ℕ} (h : AtPla
 
         pub place-read : (z : Answer) → z ≡ joined (p .map) a → ReadsPlaces b at left f i q n r o to v seen o₂ v₂ z
         place-read z eq k =
-            subst (λ (z : Answer). Reads (TermsTo (vocabularyIn k n r) b o to o₂ v₂ (length (drop i (word (vocabularyIn k n r) f .kinds)))) (readFrom (readTerm (namesIn b (take n q)) (vocabularyIn k n r) left) f i (drop i (word (vocabularyIn k n r) f .kinds)) (seenAt b v seen to) (lexemesFrom b at)) z) (sym eq)
+            subst (λ (z : Answer). Reads (TermsTo (tabledVocabulary k n r) b o to o₂ v₂ (length (drop i (word (tabledVocabulary k n r) f .kinds)))) (readFrom (parseTerm (namesIn b (take n q)) (tabledVocabulary k n r) left) f i (drop i (word (tabledVocabulary k n r) f .kinds)) (seenAt b v seen to) (lexemesFrom b at)) z) (sym eq)
             (places-read b q r o v at k n left f i to seen (h .within) (h .lent) (h .tables) (h .known) s m (h .here) (h .start) (h .before) e (h .stands) (h .end) o₁ v₁ o₂ v₂ p a (told k (Read p) is) (behind k))

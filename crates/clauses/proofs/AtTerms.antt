@@ -15,9 +15,9 @@ use Rattle.wire.specs.Map.{number, flags, writtenFlags}
 use Rattle.wire.specs.Vocabulary.{Vocabulary, word, mostWords}
 use Rattle.wire.specs.TermBytes.{encodeAll, writtenMap, mostBytes}
 use Rattle.texts.specs.Lexemes.{Lexeme, lexemesFrom}
-use Rattle.texts.specs.Faults.{Got, got, bad, andThen, tooDeep}
-use Rattle.texts.specs.PhraseReading.{TermRead, TermsRead, wordBytes, faultAt, readNode, readTerm, readBehind}
-use Rattle.texts.specs.Tabled.{namesIn, placesIn, vocabularyIn}
+use Rattle.texts.specs.Faults.{Parsed, parsed, bad, parseThen, tooDeep}
+use Rattle.texts.specs.PhraseReading.{TermRead, TermsRead, wordBytes, faultAt, readNode, parseTerm, readBehind}
+use Rattle.texts.specs.Tabled.{namesIn, tabledPlaces, tabledVocabulary}
 use Rattle.clauses.specs.Reading.{Within, Lent, Tables, seenAt, Reads, placeFlags, TermTo, TermsTo, Below, wordRead, WordAt, HeadIs, HeadRead, ReadsPlaces, ReadsTerm}
 use Rattle.clauses.specs.declared.Fault.{Fault}
 use Rattle.clauses.specs.declared.Reached.{Reached}
@@ -60,13 +60,13 @@ word-bytes o o₂ x to q f m e e₂ fits inside written =
 
 module _ (b q r o v : List ℕ) (at k n left due to seen : ℕ) where
   abbrev vocabulary : Vocabulary
-  vocabulary = vocabularyIn k n r
+  vocabulary = tabledVocabulary k n r
 
-  abbrev node : Below → Got TermRead
+  abbrev node : Below → Parsed TermRead
   node below = readNode below (namesIn b (take n q)) vocabulary left due (seenAt b v seen to) (lexemesFrom b at)
 
-  abbrev term : ℕ → Got TermRead
-  term levels = readTerm (namesIn b (take n q)) vocabulary levels due (seenAt b v seen to) (lexemesFrom b at)
+  abbrev term : ℕ → Parsed TermRead
+  term levels = parseTerm (namesIn b (take n q)) vocabulary levels due (seenAt b v seen to) (lexemesFrom b at)
 
   pub term-leaf : (o′ v′ : List ℕ) (h : Head) (a : Answer) → h ≡ Leaf a → HeadIs vocabulary b n left o to v seen o′ v′ node h → Reads (TermTo vocabulary b o to o′ v′) (term left) a
   term-leaf o′ v′ h a e is = go left (subst (HeadIs vocabulary b n left o to v seen o′ v′ node) e is)
@@ -75,7 +75,7 @@ module _ (b q r o v : List ℕ) (at k n left due to seen : ℕ) where
           ((below : Below) → Reads (TermTo vocabulary b o to o′ v′) (readNode below (namesIn b (take n q)) vocabulary levels due (seenAt b v seen to) (lexemesFrom b at)) a) →
           Reads (TermTo vocabulary b o to o′ v′) (term levels) a
       go zero h = h (λ k s′ l′. faultAt tooDeep k l′)
-      go (suc levels) h = h (readTerm (namesIn b (take n q)) vocabulary levels)
+      go (suc levels) h = h (parseTerm (namesIn b (take n q)) vocabulary levels)
 
   pub word-at : (o′ v′ : List ℕ) (h : Head) (f e : ℕ) → h ≡ Word f e → HeadIs vocabulary b n left o to v seen o′ v′ node h →
       (o′ ≡ o) × (v′ ≡ v) × WordAt vocabulary b n left to v seen node f e
@@ -87,18 +87,18 @@ module _ (b q r o v : List ℕ) (at k n left due to seen : ℕ) where
     kinds = word vocabulary f .kinds
 
     abbrev below : Below
-    below = readTerm (namesIn b (take n q)) vocabulary (left - 1)
+    below = parseTerm (namesIn b (take n q)) vocabulary (left - 1)
 
-    abbrev behind : Got TermsRead
+    abbrev behind : Parsed TermsRead
     behind = readBehind below f kinds (seenAt b v seen (to + wordBytes)) (lexemesFrom b e)
 
-    one-less : term left ≡ andThen behind (wordRead f)
+    one-less : term left ≡ parseThen behind (wordRead f)
     one-less = go left (word-is .some) ∙ word-is .behind below
       where
-        go : (levels : ℕ) → 0 < levels → term levels ≡ readNode (readTerm (namesIn b (take n q)) vocabulary (levels - 1)) (namesIn b (take n q)) vocabulary levels due (seenAt b v seen to) (lexemesFrom b at)
+        go : (levels : ℕ) → 0 < levels → term levels ≡ readNode (parseTerm (namesIn b (take n q)) vocabulary (levels - 1)) (namesIn b (take n q)) vocabulary levels due (seenAt b v seen to) (lexemesFrom b at)
         go zero h = absurd (omega arith)
         go (suc levels) h =
-            ap (λ (i : ℕ). readNode (readTerm (namesIn b (take n q)) vocabulary i) (namesIn b (take n q)) vocabulary (suc levels) due (seenAt b v seen to) (lexemesFrom b at))
+            ap (λ (i : ℕ). readNode (parseTerm (namesIn b (take n q)) vocabulary i) (namesIn b (take n q)) vocabulary (suc levels) due (seenAt b v seen to) (lexemesFrom b at))
             (let z : levels ≡ suc levels - 1 = omega arith in z)
 
     module _ (o₂ v₂ : List ℕ) where
@@ -106,22 +106,22 @@ module _ (b q r o v : List ℕ) (at k n left due to seen : ℕ) where
       Places-read a = Reads (TermsTo vocabulary b o (to + wordBytes) o₂ v₂ (length kinds)) behind a
 
       pub term-bad : (o₃ v₃ : List ℕ) (x : Fault) → Places-read (Bad x) → Reads (TermTo vocabulary b o to o₃ v₃) (term left) (Bad x)
-      term-bad o₃ v₃ x h = subst (λ (g : Got TermRead). Reads (TermTo vocabulary b o to o₃ v₃) g (Bad x)) (sym one-less) (refuse _ _ behind (wordRead f) x h)
+      term-bad o₃ v₃ x h = subst (λ (g : Parsed TermRead). Reads (TermTo vocabulary b o to o₃ v₃) g (Bad x)) (sym one-less) (refuse _ _ behind (wordRead f) x h)
 
       module _ (p : Reached) (few : n ≤ mostWords) (lent : Lent o v) (tables : Tables q r) (read : Places-read (Read p)) where
-        many : length kinds ≡ placesIn r f
+        many : length kinds ≡ tabledPlaces r f
         many = kinds-count k n r f (word-is .known) few (tables .records)
 
         pub map-small : p .map < 256
         map-small = go behind read
           where
-            go : (g : Got TermsRead) → Reads (TermsTo vocabulary b o (to + wordBytes) o₂ v₂ (length kinds)) g (Read p) → p .map < 256
-            go (got ts l) h = omega (arith, h .map, flags-below (placeFlags (ts .terms)) 8 (omega (arith, h .count, many, places-few r f)))
+            go : (g : Parsed TermsRead) → Reads (TermsTo vocabulary b o (to + wordBytes) o₂ v₂ (length kinds)) g (Read p) → p .map < 256
+            go (parsed ts l) h = omega (arith, h .map, flags-below (placeFlags (ts .terms)) 8 (omega (arith, h .count, many, places-few r f)))
             go (bad x) h = absurd h
 
         pub term-read : Reads (TermTo vocabulary b o to (set (set o₂ to f) (to + 1) (p .map)) v₂) (term left) (Read (record { at = p .at; to = p .to; seen = p .seen; map = 1 }))
         term-read =
-            subst (λ (g : Got TermRead). Reads (TermTo vocabulary b o to (set (set o₂ to f) (to + 1) (p .map)) v₂) g (Read (record { at = p .at; to = p .to; seen = p .seen; map = 1 }))) (sym one-less)
+            subst (λ (g : Parsed TermRead). Reads (TermTo vocabulary b o to (set (set o₂ to f) (to + 1) (p .map)) v₂) g (Read (record { at = p .at; to = p .to; seen = p .seen; map = 1 }))) (sym one-less)
             (follow (TermsTo vocabulary b o (to + wordBytes) o₂ v₂ (length kinds)) (TermTo vocabulary b o to (set (set o₂ to f) (to + 1) (p .map)) v₂) behind (wordRead f) p (Read (record { at = p .at; to = p .to; seen = p .seen; map = 1 })) read λ ts l h. record {
               behind = h .behind;
               inside = h .inside;
@@ -138,7 +138,7 @@ module _ (b q r o v : List ℕ) (at k n left due to seen : ℕ) where
             map-of : (ts : TermsRead) {l : List Lexeme} → TermsTo vocabulary b o (to + wordBytes) o₂ v₂ (length kinds) ts l p → p .map ≡ writtenMap vocabulary f (ts .terms)
             map-of ts h =
                 h .map
-                ∙ sym (written-full (placesIn r f) (ts .terms) (places-few r f) (h .count ∙ many))
+                ∙ sym (written-full (tabledPlaces r f) (ts .terms) (places-few r f) (h .count ∙ many))
                 ∙ ap (λ (m : ℕ). number (writtenFlags (flags m) (ts .terms))) (sym (map-at k n r f (word-is .known)))
 
 -- ---- the same, where read_term has come to a word
@@ -146,7 +146,7 @@ module _ (b q r o v : List ℕ) (at k n left due to seen : ℕ) where
 module _ (b q r o v : List ℕ) (at n left due to seen : ℕ) (w : Within b at n to seen) (lent : Lent o v) (tables : Tables q r)
     (o′ v′ : List ℕ) (h : Head) (f e : ℕ) (is : h ≡ Word f e) (head : HeadRead b at left due q n r o to v seen o′ v′ h) where
   abbrev standing : (k : ℕ) →
-      (o′ ≡ o) × (v′ ≡ v) × WordAt (vocabularyIn k n r) b n left to v seen (λ below. readNode below (namesIn b (take n q)) (vocabularyIn k n r) left due (seenAt b v seen to) (lexemesFrom b at)) f e
+      (o′ ≡ o) × (v′ ≡ v) × WordAt (tabledVocabulary k n r) b n left to v seen (λ below. readNode below (namesIn b (take n q)) (tabledVocabulary k n r) left due (seenAt b v seen to) (lexemesFrom b at)) f e
   standing k = word-at b q r o v at k n left due to seen o′ v′ h f e is (head k)
 
   pub word-within : Within b e n (to + 2) seen
@@ -163,12 +163,12 @@ module _ (b q r o v : List ℕ) (at n left due to seen : ℕ) (w : Within b at n
 
   module _ (o₂ v₂ : List ℕ) (y : Answer) (places : ReadsPlaces b e (left - 1) f 0 q n r o′ (to + 2) v′ seen o₂ v₂ y) where
     told : (k : ℕ) (a : Answer) → y ≡ a →
-        Reads (TermsTo (vocabularyIn k n r) b o (to + 2) o₂ v₂ (length (word (vocabularyIn k n r) f .kinds)))
-        (readBehind (readTerm (namesIn b (take n q)) (vocabularyIn k n r) (left - 1)) f (word (vocabularyIn k n r) f .kinds) (seenAt b v seen (to + 2)) (lexemesFrom b e)) a
+        Reads (TermsTo (tabledVocabulary k n r) b o (to + 2) o₂ v₂ (length (word (tabledVocabulary k n r) f .kinds)))
+        (readBehind (parseTerm (namesIn b (take n q)) (tabledVocabulary k n r) (left - 1)) f (word (tabledVocabulary k n r) f .kinds) (seenAt b v seen (to + 2)) (lexemesFrom b e)) a
     told k a i =
-        subst (λ (x : List ℕ). Reads (TermsTo (vocabularyIn k n r) b x (to + 2) o₂ v₂ (length (word (vocabularyIn k n r) f .kinds))) (readBehind (readTerm (namesIn b (take n q)) (vocabularyIn k n r) (left - 1)) f (word (vocabularyIn k n r) f .kinds) (seenAt b v seen (to + 2)) (lexemesFrom b e)) a) (standing k .0)
-        (subst (λ (x : List ℕ). Reads (TermsTo (vocabularyIn k n r) b o′ (to + 2) o₂ v₂ (length (word (vocabularyIn k n r) f .kinds))) (readBehind (readTerm (namesIn b (take n q)) (vocabularyIn k n r) (left - 1)) f (word (vocabularyIn k n r) f .kinds) (seenAt b x seen (to + 2)) (lexemesFrom b e)) a) (standing k .1)
-        (subst (λ (x : Answer). Reads (TermsTo (vocabularyIn k n r) b o′ (to + 2) o₂ v₂ (length (word (vocabularyIn k n r) f .kinds))) (readBehind (readTerm (namesIn b (take n q)) (vocabularyIn k n r) (left - 1)) f (word (vocabularyIn k n r) f .kinds) (seenAt b v′ seen (to + 2)) (lexemesFrom b e)) x) i (places k)))
+        subst (λ (x : List ℕ). Reads (TermsTo (tabledVocabulary k n r) b x (to + 2) o₂ v₂ (length (word (tabledVocabulary k n r) f .kinds))) (readBehind (parseTerm (namesIn b (take n q)) (tabledVocabulary k n r) (left - 1)) f (word (tabledVocabulary k n r) f .kinds) (seenAt b v seen (to + 2)) (lexemesFrom b e)) a) (standing k .0)
+        (subst (λ (x : List ℕ). Reads (TermsTo (tabledVocabulary k n r) b o′ (to + 2) o₂ v₂ (length (word (tabledVocabulary k n r) f .kinds))) (readBehind (parseTerm (namesIn b (take n q)) (tabledVocabulary k n r) (left - 1)) f (word (tabledVocabulary k n r) f .kinds) (seenAt b x seen (to + 2)) (lexemesFrom b e)) a) (standing k .1)
+        (subst (λ (x : Answer). Reads (TermsTo (tabledVocabulary k n r) b o′ (to + 2) o₂ v₂ (length (word (tabledVocabulary k n r) f .kinds))) (readBehind (parseTerm (namesIn b (take n q)) (tabledVocabulary k n r) (left - 1)) f (word (tabledVocabulary k n r) f .kinds) (seenAt b v′ seen (to + 2)) (lexemesFrom b e)) x) i (places k)))
 
     pub word-refused : (o₃ v₃ : List ℕ) (x : Fault) → y ≡ Bad x → ReadsTerm b at left due q n r o to v seen o₃ v₃ (Bad x)
     word-refused o₃ v₃ x i k = term-bad b q r o v at k n left due to seen f e (standing k .2) o₂ v₂ o₃ v₃ x (told k (Bad x) i)
@@ -180,5 +180,5 @@ module _ (b q r o v : List ℕ) (at n left due to seen : ℕ) (w : Within b at n
       pub word-read : (o₃ : List ℕ) → o₃ ≡ set (set o₂ to f) (to + 1) (p .map) →
           ReadsTerm b at left due q n r o to v seen o₃ v₂ (Read (record { at = p .at; to = p .to; seen = p .seen; map = 1 }))
       word-read o₃ eq k =
-          subst (λ (x : List ℕ). Reads (TermTo (vocabularyIn k n r) b o to x v₂) (readTerm (namesIn b (take n q)) (vocabularyIn k n r) left due (seenAt b v seen to) (lexemesFrom b at)) (Read (record { at = p .at; to = p .to; seen = p .seen; map = 1 }))) (sym eq)
+          subst (λ (x : List ℕ). Reads (TermTo (tabledVocabulary k n r) b o to x v₂) (parseTerm (namesIn b (take n q)) (tabledVocabulary k n r) left due (seenAt b v seen to) (lexemesFrom b at)) (Read (record { at = p .at; to = p .to; seen = p .seen; map = 1 }))) (sym eq)
           (term-read b q r o v at k n left due to seen f e (standing k .2) o₂ v₂ p (w .words) lent tables (told k (Read p) i))

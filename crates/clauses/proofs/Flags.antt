@@ -13,10 +13,10 @@ use lib.ListN.{length, replicate}
 use Rattle.terms.specs.Term.{Terms, nil, cons}
 use Rattle.wire.specs.Map.{mapBits, flags, number, writtenFlags}
 use Rattle.wire.proofs.Map.{number-lt}
-use Rattle.texts.specs.Lexicon.{fullMap}
+use Rattle.texts.specs.Lexicon.{gaplessMap}
 use Rattle.clauses.specs.Reading.{placeFlags}
 
-full-flags : (c : ℕ) → c ≤ mapBits → flags (fullMap c) ≡ replicate c true ++ replicate (mapBits - c) false
+full-flags : (c : ℕ) → c ≤ mapBits → flags (gaplessMap c) ≡ replicate c true ++ replicate (mapBits - c) false
 full-flags zero h = refl
 full-flags (suc zero) h = refl
 full-flags (suc (suc zero)) h = refl
@@ -39,7 +39,7 @@ some-written (suc c) d nil e = absurd (omega arith)
 some-written (suc c) d (cons t ts) e = let h = some-written c d ts (omega arith) in omega arith
 
 pub written-full : (c : ℕ) (ts : Terms) → c ≤ mapBits → length (placeFlags ts) ≡ c →
-    number (writtenFlags (flags (fullMap c)) ts) ≡ number (placeFlags ts)
+    number (writtenFlags (flags (gaplessMap c)) ts) ≡ number (placeFlags ts)
 written-full c ts h e = ap (λ fs. number (writtenFlags fs ts)) (full-flags c h) ∙ some-written c (mapBits - c) ts e
 
 power-le : (d e : ℕ) → 2 ^ d ≤ 2 ^ (d + e)

@@ -4,7 +4,7 @@
 --   front                        the lexemes behind it, where it is not the last
 --   mark-some, variable-some, identifier-some     tokens that are not empty
 --
-use mathlib.Core.Path.{_≡_, refl, sym, ap, subst, _∙_}
+use mathlib.Core.Path.{_≡_, refl, sym, ap, subst}
 use mathlib.Core.Bool.{Bool, true, false, false≢true}
 use mathlib.Core.List.{List, [], _∷_}
 use Prim.Native.Nat.{ℕ, _+_, _<_, _≤_}
@@ -15,43 +15,31 @@ use borrow.Author.Tests.{ltb-true, ltb-false}
 use Rattle.texts.specs.Lexemes.{Token, blanks, lexemesFrom, tokenAt}
 use Rattle.texts.specs.Names.{same, isIdentifier, isVariable}
 use Rattle.texts.specs.Faults.{token, place, rest}
-use Rattle.texts.proofs.Scanning.{start-within, end-within, token-none, lexemes-next, lexemes-end}
+use Rattle.texts.proofs.Fronts as fronts
+use Rattle.texts.proofs.Scanning.{start-within, end-within, token-none, lexemes-next}
 use Rattle.clauses.specs.Reading.{Front}
 
 module _ (b : List ℕ) (at : ℕ) where
   abbrev begin : ℕ
   begin = at + blanks (drop at b)
 
-  abbrev First : Type 0
-  First = (token (lexemesFrom b at) ≡ tokenAt b begin) × (place (lexemesFrom b at) ≡ begin)
-
-  first : First
-  first = go (ltb begin (length b)) refl
-    where
-      go : (t : Bool) → ltb begin (length b) ≡ t → First
-      go true e = let h = lexemes-next b at (ltb-true begin (length b) e) in (ap token h, ap place h)
-      go false e =
-          let le = ltb-false begin (length b) e in
-          let h = lexemes-end b at le in
-          (ap token h ∙ sym (token-none b begin le), ap place h)
-
   behind-first : at ≤ length b → 0 < length (tokenAt b begin) → Front b begin (lexemesFrom b at)
   behind-first inside some = go (ltb begin (length b)) refl
     where
       go : (t : Bool) → ltb begin (length b) ≡ t → Front b begin (lexemesFrom b at)
       go true e = record {
-        token = first .0;
-        place = first .1;
+        token = fronts.front-token b at refl;
+        place = fronts.front-place b at refl;
         behind = ap rest (lexemes-next b at (ltb-true begin (length b) e));
         inside = end-within b begin (start-within b at inside);
       }
       go false e = absurd (omega (arith, ap length (token-none b begin (ltb-false begin (length b) e))))
 
 pub front-token : (b : List ℕ) (at s : ℕ) → s ≡ at + blanks (drop at b) → token (lexemesFrom b at) ≡ tokenAt b s
-front-token b at s e = first b at .0 ∙ ap (tokenAt b) (sym e)
+front-token b at s e = fronts.front-token b at e
 
 pub front-place : (b : List ℕ) (at s : ℕ) → s ≡ at + blanks (drop at b) → place (lexemesFrom b at) ≡ s
-front-place b at s e = first b at .1 ∙ sym e
+front-place b at s e = fronts.front-place b at e
 
 pub front : (b : List ℕ) (at s : ℕ) → at ≤ length b → s ≡ at + blanks (drop at b) → 0 < length (tokenAt b s) → Front b s (lexemesFrom b at)
 front b at s inside e some =

@@ -20,9 +20,9 @@ use Rattle.wire.specs.TermBytes.{nameByte, nameCount, mostBytes}
 use Rattle.wire.proofs.Cond.{cond-true, cond-false}
 use Rattle.texts.specs.Lexemes.{Token, Lexeme, blanks, tokenSize, lexemesFrom, tokenAt}
 use Rattle.texts.specs.Names.{same, opened, mostName, isIdentifier, isVariable, indexIn}
-use Rattle.texts.specs.Faults.{Got, andThen, token, place}
-use Rattle.texts.specs.PhraseReading.{TermRead, wordBytes, wordWhy, variableWhy, readBehind, readWord, readVariable, readNode}
-use Rattle.texts.specs.Tabled.{namesIn, recordSize, vocabularyIn}
+use Rattle.texts.specs.Faults.{Parsed, parseThen, token, place}
+use Rattle.texts.specs.PhraseReading.{TermRead, wordBytes, wordWhy, variableWhy, readBehind, parseWord, readVariable, readNode}
+use Rattle.texts.specs.Tabled.{namesIn, recordSize, tabledVocabulary}
 use Rattle.clauses.specs.Reading.{Within, Lent, Tables, seenAt, Reads, TermTo, wordReason, variableReason, ReadsVariable, Below, wordRead, HeadIs}
 use Rattle.clauses.specs.declared.Answer.{Answer}
 use Rattle.clauses.specs.declared.Answer.the-variants.{Read, Bad}
@@ -43,10 +43,10 @@ kind-known true f n kind kind′ left due to h = go (ltb f n) refl
     go false e = cond-false (ltb f n) _ _ e ∙ sym (cond-false (ltb f n) _ _ e)
 
 pub word-reason : (b q v r : List ℕ) (k n left due to seen f : ℕ) (u : Token) → n ≤ length q → f ≡ indexIn u (namesIn b (take n q)) →
-    wordWhy (namesIn b (take n q)) (vocabularyIn k n r) left due (seenAt b v seen to) u
+    wordWhy (namesIn b (take n q)) (tabledVocabulary k n r) left due (seenAt b v seen to) u
     ≡ wordReason (isIdentifier u) f n (getD r (recordSize * f) 0) left due to
 word-reason b q v r k n left due to seen f u size found =
-    ap₂ (λ (i j : ℕ). wordReason (isIdentifier u) i j (word (vocabularyIn k n r) i .result) left due to) (sym found) (names-count b n q size)
+    ap₂ (λ (i j : ℕ). wordReason (isIdentifier u) i j (word (tabledVocabulary k n r) i .result) left due to) (sym found) (names-count b n q size)
     ∙ kind-known (isIdentifier u) f n _ _ left due to (λ h. result-at k n r f h)
 
 pub record NoReason (identifier : Bool) (f n left to : ℕ) : Type 0 where
@@ -145,9 +145,9 @@ variable-read b o v s left due to seen why e w lent reason none end W l f =
 
 module _ (b q r o v : List ℕ) (at s k n left due to seen : ℕ) (w : Within b at n to seen) (lent : Lent o v) (start : s ≡ at + blanks (drop at b)) where
   abbrev vocabulary : Vocabulary
-  vocabulary = vocabularyIn k n r
+  vocabulary = tabledVocabulary k n r
 
-  abbrev node : Below → Got TermRead
+  abbrev node : Below → Parsed TermRead
   node below = readNode below (namesIn b (take n q)) vocabulary left due (seenAt b v seen to) (lexemesFrom b at)
 
   tokened : token (lexemesFrom b at) ≡ tokenAt b s
@@ -157,7 +157,7 @@ module _ (b q r o v : List ℕ) (at s k n left due to seen : ℕ) (w : Within b 
       HeadIs vocabulary b n left o to v seen o v node (Leaf (Read (record { at = e; to = to; seen = seen; map = 0 })))
   head-open e h end below =
       let f = front b at s (w .inside) start (mark-some (tokenAt b s) 95 h) in
-      subst (λ (g : Got TermRead). Reads (TermTo vocabulary b o to o v) g (Read (record { at = e; to = to; seen = seen; map = 0 })))
+      subst (λ (g : Parsed TermRead). Reads (TermTo vocabulary b o to o v) g (Read (record { at = e; to = to; seen = seen; map = 0 })))
       (sym (cond-true (same (token (lexemesFrom b at)) opened) _ _ (ap (λ (u : Token). same u opened) tokened ∙ h)))
       (record {
         behind = f .behind ∙ ap (lexemesFrom b) (sym end);
@@ -175,13 +175,13 @@ module _ (b q r o v : List ℕ) (at s k n left due to seen : ℕ) (w : Within b 
   module _ (closed : same (tokenAt b s) (95 ∷ []) ≡ false) where
     not-open : (below : Below) → node below ≡
         cond (isVariable (token (lexemesFrom b at))) (readVariable due (seenAt b v seen to) (lexemesFrom b at) (variableWhy left (seenAt b v seen to) (token (lexemesFrom b at))))
-        (readWord below (namesIn b (take n q)) vocabulary left due (seenAt b v seen to) (lexemesFrom b at) (wordWhy (namesIn b (take n q)) vocabulary left due (seenAt b v seen to) (token (lexemesFrom b at))))
+        (parseWord below (namesIn b (take n q)) vocabulary left due (seenAt b v seen to) (lexemesFrom b at) (wordWhy (namesIn b (take n q)) vocabulary left due (seenAt b v seen to) (token (lexemesFrom b at))))
     not-open below = cond-false (same (token (lexemesFrom b at)) opened) _ _ (ap (λ (u : Token). same u opened) tokened ∙ closed)
 
     pub head-variable : (o′ v′ : List ℕ) (a : Answer) → isVariable (tokenAt b s) ≡ true → ReadsVariable b s left due o to v seen o′ v′ a →
         HeadIs vocabulary b n left o to v seen o′ v′ node (Leaf a)
     head-variable o′ v′ a h read below =
-        subst (λ (g : Got TermRead). Reads (TermTo vocabulary b o to o′ v′) g a)
+        subst (λ (g : Parsed TermRead). Reads (TermTo vocabulary b o to o′ v′) g a)
         (sym
         (not-open below
         ∙ cond-true (isVariable (token (lexemesFrom b at))) _ _ (ap isVariable tokened ∙ h)
@@ -191,11 +191,11 @@ module _ (b q r o v : List ℕ) (at s k n left due to seen : ℕ) (w : Within b 
     -- .. and no variable.
     module _ (f why : ℕ) (plain : isVariable (tokenAt b s) ≡ false) (tables : Tables q r) (found : f ≡ indexIn (tokenAt b s) (namesIn b (take n q)))
         (reason : why ≡ wordReason (isIdentifier (tokenAt b s)) f n (getD r (recordSize * f) 0) left due to) where
-      no-variable : (below : Below) → node below ≡ readWord below (namesIn b (take n q)) vocabulary left due (seenAt b v seen to) (lexemesFrom b at) why
+      no-variable : (below : Below) → node below ≡ parseWord below (namesIn b (take n q)) vocabulary left due (seenAt b v seen to) (lexemesFrom b at) why
       no-variable below =
           not-open below
           ∙ cond-false (isVariable (token (lexemesFrom b at))) _ _ (ap isVariable tokened ∙ plain)
-          ∙ ap (λ (x : ℕ). readWord below (namesIn b (take n q)) vocabulary left due (seenAt b v seen to) (lexemesFrom b at) x)
+          ∙ ap (λ (x : ℕ). parseWord below (namesIn b (take n q)) vocabulary left due (seenAt b v seen to) (lexemesFrom b at) x)
           (ap (λ (u : Token). wordWhy (namesIn b (take n q)) vocabulary left due (seenAt b v seen to) u) tokened
           ∙ word-reason b q v r k n left due to seen f (tokenAt b s) (omega (arith, w .words, tables .names)) found
           ∙ sym reason)
@@ -203,11 +203,11 @@ module _ (b q r o v : List ℕ) (at s k n left due to seen : ℕ) (w : Within b 
       pub head-refused : (o′ v′ : List ℕ) → (why ≡ 0 → ⊥) →
           HeadIs vocabulary b n left o to v seen o′ v′ node (Leaf (Bad (record { why = why; at = s; of = due })))
       head-refused o′ v′ h below =
-          subst (λ (g : Got TermRead). Reads (TermTo vocabulary b o to o′ v′) g (Bad (record { why = why; at = s; of = due })))
+          subst (λ (g : Parsed TermRead). Reads (TermTo vocabulary b o to o′ v′) g (Bad (record { why = why; at = s; of = due })))
           (sym (no-variable below)) (go why h)
         where
           go : (x : ℕ) → (x ≡ 0 → ⊥) →
-              Reads (TermTo vocabulary b o to o′ v′) (readWord below (namesIn b (take n q)) vocabulary left due (seenAt b v seen to) (lexemesFrom b at) x) (Bad (record { why = x; at = s; of = due }))
+              Reads (TermTo vocabulary b o to o′ v′) (parseWord below (namesIn b (take n q)) vocabulary left due (seenAt b v seen to) (lexemesFrom b at) x) (Bad (record { why = x; at = s; of = due }))
           go zero h = absurd (h refl)
           go (suc x) h = ap (λ (i : ℕ). record { why = suc x; at = i; of = due }) (front-place b at s start)
 
@@ -225,8 +225,8 @@ module _ (b q r o v : List ℕ) (at s k n left due to seen : ℕ) (w : Within b 
               inside = omega (arith, first .inside);
               behind = λ below.
                   no-variable below
-                  ∙ ap (λ (x : ℕ). readWord below (namesIn b (take n q)) vocabulary left due (seenAt b v seen to) (lexemesFrom b at) x) h
-                  ∙ ap₂ (λ (i : ℕ) (m : List Lexeme). andThen (readBehind below i (word vocabulary i .kinds) (seenAt b v seen (to + wordBytes)) m) (wordRead i))
+                  ∙ ap (λ (x : ℕ). parseWord below (namesIn b (take n q)) vocabulary left due (seenAt b v seen to) (lexemesFrom b at) x) h
+                  ∙ ap₂ (λ (i : ℕ) (m : List Lexeme). parseThen (readBehind below i (word vocabulary i .kinds) (seenAt b v seen (to + wordBytes)) m) (wordRead i))
                   (ap (λ (u : Token). indexIn u (namesIn b (take n q))) (first .token) ∙ sym found)
                   (first .behind ∙ ap (lexemesFrom b) (sym end));
             },

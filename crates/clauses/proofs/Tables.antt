@@ -14,9 +14,9 @@ use lib.ListN.{length, getD, take, drop, length-drop, length-map, drop-of-length
 use lib.Seq.{drop-cons, getD-take, getD-drop, length-take-le}
 use Rattle.terms.specs.Lists.{range}
 use Rattle.wire.specs.Vocabulary.{Word, word, noWord, mapOf, mostWords}
-use Rattle.texts.specs.Lexicon.{fullMap, mostPlaces}
+use Rattle.texts.specs.Lexicon.{gaplessMap, mostPlaces}
 use Rattle.texts.specs.Lexemes.{tokenAt}
-use Rattle.texts.specs.Tabled.{namesIn, recordSize, placesIn, wordIn, vocabularyIn}
+use Rattle.texts.specs.Tabled.{namesIn, recordSize, tabledPlaces, wordIn, tabledVocabulary}
 
 -- ---- the words
 
@@ -26,38 +26,38 @@ range-at g from (suc n) zero d h = ap g (let e : from ≡ from + 0 = omega arith
 range-at g from (suc n) (suc i) d h =
     range-at g (suc from) n i d (omega arith) ∙ ap g (let e : suc from + i ≡ from + suc i = omega arith in e)
 
-pub word-record : (k n : ℕ) (r : List ℕ) (f : ℕ) → f < n → word (vocabularyIn k n r) f ≡ wordIn r f
+pub word-record : (k n : ℕ) (r : List ℕ) (f : ℕ) → f < n → word (tabledVocabulary k n r) f ≡ wordIn r f
 word-record k n r f h = range-at (wordIn r) 0 n f noWord h ∙ ap (wordIn r) (let e : 0 + f ≡ f = omega arith in e)
 
-pub result-at : (k n : ℕ) (r : List ℕ) (f : ℕ) → f < n → word (vocabularyIn k n r) f .result ≡ getD r (recordSize * f) 0
+pub result-at : (k n : ℕ) (r : List ℕ) (f : ℕ) → f < n → word (tabledVocabulary k n r) f .result ≡ getD r (recordSize * f) 0
 result-at k n r f h = ap (λ (w : Word). w .result) (word-record k n r f h)
 
-pub map-at : (k n : ℕ) (r : List ℕ) (f : ℕ) → f < n → mapOf (vocabularyIn k n r) f ≡ fullMap (placesIn r f)
+pub map-at : (k n : ℕ) (r : List ℕ) (f : ℕ) → f < n → mapOf (tabledVocabulary k n r) f ≡ gaplessMap (tabledPlaces r f)
 map-at k n r f h = ap (λ (w : Word). w .placeMap) (word-record k n r f h)
 
-pub places-few : (r : List ℕ) (f : ℕ) → placesIn r f ≤ mostPlaces
+pub places-few : (r : List ℕ) (f : ℕ) → tabledPlaces r f ≤ mostPlaces
 places-few r f = omega arith
 
 module _ (k n : ℕ) (r : List ℕ) (f : ℕ) (known : f < n) (few : n ≤ mostWords) (size : length r ≡ recordSize * mostWords) where
   abbrev kindsOf : List ℕ
-  kindsOf = word (vocabularyIn k n r) f .kinds
+  kindsOf = word (tabledVocabulary k n r) f .kinds
 
   abbrev kindsIn : List ℕ
-  kindsIn = take (placesIn r f) (drop (recordSize * f + 2) r)
+  kindsIn = take (tabledPlaces r f) (drop (recordSize * f + 2) r)
 
   kinds-in : kindsOf ≡ kindsIn
   kinds-in = ap (λ (w : Word). w .kinds) (word-record k n r f known)
 
-  pub kinds-count : length kindsOf ≡ placesIn r f
+  pub kinds-count : length kindsOf ≡ tabledPlaces r f
   kinds-count =
-      ap length kinds-in ∙ length-take-le (placesIn r f) (drop (recordSize * f + 2) r) (omega (arith, length-drop (recordSize * f + 2) r))
+      ap length kinds-in ∙ length-take-le (tabledPlaces r f) (drop (recordSize * f + 2) r) (omega (arith, length-drop (recordSize * f + 2) r))
 
-  pub kinds-next : (i : ℕ) → i < placesIn r f → drop i kindsOf ≡ getD r (recordSize * f + 2 + i) 0 ∷ drop (suc i) kindsOf
+  pub kinds-next : (i : ℕ) → i < tabledPlaces r f → drop i kindsOf ≡ getD r (recordSize * f + 2 + i) 0 ∷ drop (suc i) kindsOf
   kinds-next i h =
       drop-cons kindsOf i 0 (omega (arith, kinds-count))
-      ∙ ap (λ (x : ℕ). x ∷ drop (suc i) kindsOf) (ap (λ (l : List ℕ). getD l i 0) kinds-in ∙ getD-take (placesIn r f) (drop (recordSize * f + 2) r) i 0 h ∙ getD-drop (recordSize * f + 2) r i 0)
+      ∙ ap (λ (x : ℕ). x ∷ drop (suc i) kindsOf) (ap (λ (l : List ℕ). getD l i 0) kinds-in ∙ getD-take (tabledPlaces r f) (drop (recordSize * f + 2) r) i 0 h ∙ getD-drop (recordSize * f + 2) r i 0)
 
-  pub kinds-none : (i : ℕ) → i ≡ placesIn r f → drop i kindsOf ≡ []
+  pub kinds-none : (i : ℕ) → i ≡ tabledPlaces r f → drop i kindsOf ≡ []
   kinds-none i h = let e : length kindsOf ≤ i = omega (arith, kinds-count) in drop-of-length-le kindsOf e
 
 -- ---- the names

@@ -1,6 +1,5 @@
 -- Reading: what the functions that read a term promise each other; the contract of `read` cites ReadsTerm.
 --
---   mostText                    a text has at most so many bytes (65,535)
 --   Within b at n to seen       where reading stands is in the text and in the tables
 --   Lent o v                    the lent bytes and the table of variables have their sizes
 --   Tables q r                  .. and so have the table of the words' names and their records
@@ -36,20 +35,17 @@ use Rattle.wire.specs.Vocabulary.{Vocabulary, word, mostWords}
 use Rattle.wire.specs.TermBytes.{encodeAt, encodeAll, nameCount, mostBytes}
 use Rattle.texts.specs.Lexemes.{Lexeme, tokenSize, lexemesFrom, tokenAt}
 use Rattle.texts.specs.Names.{opening, comma, mostName}
+use Rattle.texts.specs.Files.{mostText}
 use Rattle.texts.specs.Faults as faults
-use Rattle.texts.specs.Faults.{Got, got, bad, andThen, token, place, rest, longName, termDue, noWord, otherKind, tooDeep, tooLong, variableTwice, manyVariables}
-use Rattle.texts.specs.PhraseReading.{Seen, TermRead, TermsRead, wordBytes, variableWhy, readPlaces, readBehind, readVariable, readNode, readTerm}
-use Rattle.texts.specs.Tabled.{namesIn, recordSize, vocabularyIn}
+use Rattle.texts.specs.Faults.{Parsed, parsed, bad, parseThen, token, place, rest, longName, termDue, unknownWord, otherKind, tooDeep, tooLong, variableTwice, manyVariables}
+use Rattle.texts.specs.PhraseReading.{Seen, TermRead, TermsRead, wordBytes, variableWhy, parsePlaces, readBehind, readVariable, readNode, parseTerm}
+use Rattle.texts.specs.Tabled.{namesIn, recordSize, tabledVocabulary}
 use Rattle.clauses.specs.declared.Fault.{Fault}
 use Rattle.clauses.specs.declared.Reached.{Reached}
 use Rattle.clauses.specs.declared.Answer.{Answer}
 use Rattle.clauses.specs.declared.Answer.the-variants.{Read, Bad}
 use Rattle.clauses.specs.declared.Head.{Head}
 use Rattle.clauses.specs.declared.Head.the-variants.{Leaf, Word}
-
--- Offsets are kept in 16 bits.
-abbrev pub mostText : ℕ
-mostText = 65535
 
 pub record Within (b : List ℕ) (at n to seen : ℕ) : Type 0 where
   pub short : length b ≤ mostText
@@ -77,9 +73,9 @@ seenAt b v seen to = record { variables = namesIn b (take seen v); used = to }
 abbrev pub faultOf : Fault → faults.Fault
 faultOf x = record { why = x .why; at = x .at; of = x .of }
 
-abbrev pub Reads : {A : Type 0} → (A → List Lexeme → Reached → Type 0) → Got A → Answer → Type 0
-Reads P (got a r) (Read p) = P a r p
-Reads P (got a r) (Bad x) = ⊥
+abbrev pub Reads : {A : Type 0} → (A → List Lexeme → Reached → Type 0) → Parsed A → Answer → Type 0
+Reads P (parsed a r) (Read p) = P a r p
+Reads P (parsed a r) (Bad x) = ⊥
 Reads P (bad f) (Read p) = ⊥
 Reads P (bad f) (Bad x) = f ≡ faultOf x
 
@@ -117,7 +113,7 @@ wordReason named f n kind left due to =
     cond named
     (cond (ltb f n)
     (cond (eqb kind due) (cond (eqb left 0) tooDeep (cond (leb (to + wordBytes) mostBytes) 0 tooLong)) otherKind)
-    noWord)
+    unknownWord)
     termDue
 
 abbrev pub variableReason : ℕ → ℕ → ℕ → ℕ → ℕ → ℕ
@@ -135,32 +131,32 @@ ReadsVariable b s left due o to v seen o′ v′ a =
 
 -- What reads the places of a word.
 abbrev pub Below : Type 0
-Below = ℕ → Seen → List Lexeme → Got TermRead
+Below = ℕ → Seen → List Lexeme → Parsed TermRead
 
-abbrev pub wordRead : ℕ → TermsRead → List Lexeme → Got TermRead
-wordRead f ts r = got (record { term = Term.app f (ts .terms); seen = ts .seen }) r
+abbrev pub wordRead : ℕ → TermsRead → List Lexeme → Parsed TermRead
+wordRead f ts r = parsed (record { term = Term.app f (ts .terms); seen = ts .seen }) r
 
-pub record WordAt (W : Vocabulary) (b : List ℕ) (n left to : ℕ) (v : List ℕ) (seen : ℕ) (node : Below → Got TermRead) (f e : ℕ) : Type 0 where
+pub record WordAt (W : Vocabulary) (b : List ℕ) (n left to : ℕ) (v : List ℕ) (seen : ℕ) (node : Below → Parsed TermRead) (f e : ℕ) : Type 0 where
   pub some : 0 < left
   pub known : f < n
   pub fits : to + wordBytes ≤ mostBytes
   pub inside : e ≤ length b
   pub behind : (below : Below) →
-      node below ≡ andThen (readBehind below f (word W f .kinds) (seenAt b v seen (to + wordBytes)) (lexemesFrom b e)) (wordRead f)
+      node below ≡ parseThen (readBehind below f (word W f .kinds) (seenAt b v seen (to + wordBytes)) (lexemesFrom b e)) (wordRead f)
 
-abbrev pub HeadIs : Vocabulary → List ℕ → ℕ → ℕ → List ℕ → ℕ → List ℕ → ℕ → List ℕ → List ℕ → (Below → Got TermRead) → Head → Type 0
+abbrev pub HeadIs : Vocabulary → List ℕ → ℕ → ℕ → List ℕ → ℕ → List ℕ → ℕ → List ℕ → List ℕ → (Below → Parsed TermRead) → Head → Type 0
 HeadIs W b n left o to v seen o′ v′ node (Leaf a) = (below : Below) → Reads (TermTo W b o to o′ v′) (node below) a
 HeadIs W b n left o to v seen o′ v′ node (Word f e) = (o′ ≡ o) × (v′ ≡ v) × WordAt W b n left to v seen node f e
 
 abbrev pub HeadRead : List ℕ → ℕ → ℕ → ℕ → List ℕ → ℕ → List ℕ → List ℕ → ℕ → List ℕ → ℕ → List ℕ → List ℕ → Head → Type 0
 HeadRead b at left due q n r o to v seen o′ v′ h =
     (k : ℕ) →
-    HeadIs (vocabularyIn k n r) b n left o to v seen o′ v′
-    (λ below. readNode below (namesIn b (take n q)) (vocabularyIn k n r) left due (seenAt b v seen to) (lexemesFrom b at)) h
+    HeadIs (tabledVocabulary k n r) b n left o to v seen o′ v′
+    (λ below. readNode below (namesIn b (take n q)) (tabledVocabulary k n r) left due (seenAt b v seen to) (lexemesFrom b at)) h
 
-abbrev pub readFrom : Below → ℕ → ℕ → List ℕ → Seen → List Lexeme → Got TermsRead
+abbrev pub readFrom : Below → ℕ → ℕ → List ℕ → Seen → List Lexeme → Parsed TermsRead
 readFrom below f zero ks s l = readBehind below f ks s l
-readFrom below f (suc i) ks s l = readPlaces below f comma ks s l
+readFrom below f (suc i) ks s l = parsePlaces below f comma ks s l
 
 abbrev pub markBefore : ℕ → ℕ
 markBefore zero = opening
@@ -174,16 +170,16 @@ Closes b at i f to seen a =
 abbrev pub ReadsPlaces : List ℕ → ℕ → ℕ → ℕ → ℕ → List ℕ → ℕ → List ℕ → List ℕ → ℕ → List ℕ → ℕ → List ℕ → List ℕ → Answer → Type 0
 ReadsPlaces b at left f i q n r o to v seen o′ v′ a =
     (k : ℕ) →
-    let W : Vocabulary = vocabularyIn k n r in
+    let W : Vocabulary = tabledVocabulary k n r in
     let ks : List ℕ = drop i (word W f .kinds) in
     Reads (TermsTo W b o to o′ v′ (length ks))
-    (readFrom (readTerm (namesIn b (take n q)) W left) f i ks (seenAt b v seen to) (lexemesFrom b at)) a
+    (readFrom (parseTerm (namesIn b (take n q)) W left) f i ks (seenAt b v seen to) (lexemesFrom b at)) a
 
 abbrev pub ReadsTerm : List ℕ → ℕ → ℕ → ℕ → List ℕ → ℕ → List ℕ → List ℕ → ℕ → List ℕ → ℕ → List ℕ → List ℕ → Answer → Type 0
 ReadsTerm b at left due q n r o to v seen o′ v′ a =
     (k : ℕ) →
-    let W : Vocabulary = vocabularyIn k n r in
-    Reads (TermTo W b o to o′ v′) (readTerm (namesIn b (take n q)) W left due (seenAt b v seen to) (lexemesFrom b at)) a
+    let W : Vocabulary = tabledVocabulary k n r in
+    Reads (TermTo W b o to o′ v′) (parseTerm (namesIn b (take n q)) W left due (seenAt b v seen to) (lexemesFrom b at)) a
 
 abbrev pub Small : ℕ → Answer → Type 0
 Small bit (Read p) = (bit ≤ 1) × (p .map ≤ 127)

@@ -4,7 +4,7 @@ ghost use Prim.Native.Nat.{_+_, _≤_, _<_, _*_};
 ghost use lib.ListN.{length, getD, set, take};
 ghost use Rattle.wire.specs.TermBytes.{mostBytes};
 ghost use Rattle.wire.specs.Vocabulary.{mostWords};
-ghost use Rattle.texts.specs.Tabled.{placesIn, recordSize, namesIn};
+ghost use Rattle.texts.specs.Tabled.{tabledPlaces, recordSize, namesIn};
 ghost use Rattle.texts.specs.Lexemes.{tokenAt};
 ghost use Rattle.texts.specs.Names.{isIdentifier, indexIn};
 ghost use mathlib.Core.Bool.{true, false};
@@ -54,7 +54,7 @@ fn result(records: &[u8; 960], f: usize) -> usize
 // How many places a word's record says that it has.
 fn places(records: &[u8; 960], f: usize) -> usize
     requires { ⌜ f < 96 ⌝ }
-    ensures { λ r. ⌜ r ≡ placesIn (now (records .entry)) f ⌝ }
+    ensures { λ r. ⌜ r ≡ tabledPlaces (now (records .entry)) f ⌝ }
 {
     let many = wide(records[10 * f + 1]);
     if many < 8 { many } else { 8 }
@@ -268,7 +268,7 @@ fn close(text: &[u8], at: usize, i: usize, f: usize, to: usize, seen: usize) -> 
         });
     }
     Answer::Bad(Fault {
-        why: 18,
+        why: 25,
         at: s,
         of: f,
     })
@@ -293,7 +293,7 @@ fn read_places(
     requires { ⌜ Lent (now out) (now variables) ⌝ }
     requires { ⌜ Tables (now words) (now records) ⌝ }
     requires { ⌜ f < n ⌝ }
-    requires { ⌜ i ≤ placesIn (now records) f ⌝ }
+    requires { ⌜ i ≤ tabledPlaces (now records) f ⌝ }
     ensures { λ r. ⌜ ReadsPlaces (now (text .entry)) at left f i (now (words .entry)) n (now (records .entry)) (now (out .entry)) to (now (variables .entry)) seen (now (out .exit)) (now (variables .exit)) r ⌝ }
 {
     if i == places(records, f) {

@@ -1,10 +1,11 @@
 -- Told: the parts of a complaint make up the complaint.
 --
---   reason-due, reason-places, reason-other     what is wrong: a kind, the places of a word, or neither
---   told                                        the place, the reason and the picture
+--   other-pattern, other-marked, other-plain     what is said of the token at fault
+--   reason-due, reason-opens, reason-places, reason-other     what is wrong: a kind, a (, the places of a word, or none of these
+--   told                                         the place, the reason and the picture
 --
 use mathlib.Core.Path.{_≡_, sym, ap, ap₂, _∙_}
-use mathlib.Core.Bool.{Bool, true, false, _||_}
+use mathlib.Core.Bool.{Bool, true, false, _||_, _&&_}
 use mathlib.Core.List.{List, _++_, append-assoc}
 use Prim.Native.Nat.{ℕ, suc}
 use lib.ListN.{take, drop}
@@ -12,27 +13,54 @@ use lib.Dec.{eqb}
 use borrow.Author.Tests.{eq-eqb, ne-eqb}
 use Rattle.wire.specs.Text.{ascii, decimal}
 use Rattle.wire.proofs.Cond.{cond-true, cond-false}
-use Rattle.texts.specs.Lexemes.{Token, tokenAt}
-use Rattle.texts.specs.Faults.{termDue, otherKind, placesWrong}
-use Rattle.texts.specs.Complaints.{Known, dueText, placesText, reasonText, newlines, columns, lineStart, complaint}
-use Rattle.complaints.specs.Parts.{fault, plain, placeText, pictureText}
+use Rattle.texts.specs.Lexemes.{Token, lexemesFrom, tokenAt}
+use Rattle.texts.specs.Names.{same, mark, opening}
+use Rattle.texts.specs.Faults.{kindDue, patternDue, termDue, otherKind, placesWrong, placesOver}
+use Rattle.texts.specs.Complaints.{Known, dueText, commasIn, placesText, noPatternText, unmarked, reasonText, newlines, columns, lineStart, complaint}
+use Rattle.complaints.specs.Parts.{fault, aboutPlaces, plain, otherText, placeText, pictureText}
 
-module _ (T : Known) (why at of : ℕ) (u : Token) {t : Bool} (e : t ≡ (eqb why termDue || eqb why otherKind)) where
-  pub reason-due : t ≡ true → dueText T of ≡ reasonText T (fault why at of) u
+module _ (u : Token) (why : ℕ) where
+  pub other-pattern : why ≡ patternDue → noPatternText u ≡ otherText u why
+  other-pattern p = sym (cond-true (eqb why patternDue) _ _ (eq-eqb why patternDue p))
+
+  module _ (p : why ≡ patternDue → ⊥) {t : Bool} (e : t ≡ (eqb why kindDue && unmarked u)) where
+    pub other-marked : t ≡ true → ascii "a byte order mark stands here, and a text begins with `kind`" ≡ otherText u why
+    other-marked d =
+        sym
+        (cond-false (eqb why patternDue) _ _ (ne-eqb why patternDue p)
+        ∙ cond-true (eqb why kindDue && unmarked u) _ _ (sym e ∙ d))
+
+    pub other-plain : t ≡ false → plain u why ≡ otherText u why
+    other-plain d =
+        sym
+        (cond-false (eqb why patternDue) _ _ (ne-eqb why patternDue p)
+        ∙ cond-false (eqb why kindDue && unmarked u) _ _ (sym e ∙ d))
+
+module _ (T : Known) (why at of : ℕ) (u : Token) (c : ℕ) {t : Bool} (e : t ≡ (eqb why termDue || eqb why otherKind)) where
+  pub reason-due : t ≡ true → dueText T of ≡ reasonText T (fault why at of) u c
   reason-due d = sym (cond-true (eqb why termDue || eqb why otherKind) _ _ (sym e ∙ d))
 
-  module _ (d : t ≡ false) where
-    pub reason-places : why ≡ placesWrong → placesText T of u ≡ reasonText T (fault why at of) u
-    reason-places p =
+  module _ (d : t ≡ false) {o : Bool} (f : o ≡ (aboutPlaces why && same u (mark opening))) where
+    pub reason-opens : o ≡ true → ascii "no places are due here, as what stands before takes none or has them all" ≡ reasonText T (fault why at of) u c
+    reason-opens g =
         sym
         (cond-false (eqb why termDue || eqb why otherKind) _ _ (sym e ∙ d)
-        ∙ cond-true (eqb why placesWrong) _ _ (eq-eqb why placesWrong p))
+        ∙ cond-true (aboutPlaces why && same u (mark opening)) _ _ (sym f ∙ g))
 
-    pub reason-other : (why ≡ placesWrong → ⊥) → plain u why ≡ reasonText T (fault why at of) u
-    reason-other p =
-        sym
-        (cond-false (eqb why termDue || eqb why otherKind) _ _ (sym e ∙ d)
-        ∙ cond-false (eqb why placesWrong) _ _ (ne-eqb why placesWrong p))
+    module _ (g : o ≡ false) {p : Bool} (h : p ≡ (eqb why placesWrong || eqb why placesOver)) where
+      pub reason-places : p ≡ true → placesText T (fault why at of) u c ≡ reasonText T (fault why at of) u c
+      reason-places k =
+          sym
+          (cond-false (eqb why termDue || eqb why otherKind) _ _ (sym e ∙ d)
+          ∙ cond-false (aboutPlaces why && same u (mark opening)) _ _ (sym f ∙ g)
+          ∙ cond-true (eqb why placesWrong || eqb why placesOver) _ _ (sym h ∙ k))
+
+      pub reason-other : p ≡ false → otherText u why ≡ reasonText T (fault why at of) u c
+      reason-other k =
+          sym
+          (cond-false (eqb why termDue || eqb why otherKind) _ _ (sym e ∙ d)
+          ∙ cond-false (aboutPlaces why && same u (mark opening)) _ _ (sym f ∙ g)
+          ∙ cond-false (eqb why placesWrong || eqb why placesOver) _ _ (sym h ∙ k))
 
 regroup : (a b c d e r : List ℕ) → (a ++ (b ++ (c ++ (d ++ e)))) ++ r ≡ a ++ (b ++ (c ++ (d ++ (e ++ r))))
 regroup a b c d e r = simp append-assoc
@@ -50,9 +78,9 @@ module _ (reason : List ℕ) where
 
 pub told : (text : List ℕ) (T : Known) (why at of : ℕ) {before last line : List ℕ} {start : ℕ} →
     before ≡ take at text → start ≡ lineStart before → last ≡ drop start before → line ≡ drop start text →
-    placeText before last ++ (reasonText T (fault why at of) (tokenAt text at) ++ pictureText line last) ≡ complaint text T (fault why at of)
+    placeText before last ++ (reasonText T (fault why at of) (tokenAt text at) (commasIn 0 (lexemesFrom text at)) ++ pictureText line last) ≡ complaint text T (fault why at of)
 told text T why at of {before} {last} {line} {start} b s l n =
-    let said : List ℕ = reasonText T (fault why at of) (tokenAt text at) in
+    let said : List ℕ = reasonText T (fault why at of) (tokenAt text at) (commasIn 0 (lexemesFrom text at)) in
     let front : List ℕ = take at text in
     let begins : start ≡ lineStart front = s ∙ ap lineStart b in
     placed said before last line

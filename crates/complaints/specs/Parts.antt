@@ -1,47 +1,30 @@
 -- Parts: the parts of a complaint that functions of their own put.
 --
 --   fault why at of        a fault, by its three numbers
---   joined l               the texts of l, each with a newline behind it
---   lineOf n l             the line of number n of the bytes l, from 0; no byte where there are fewer lines
---   between c              what stands before a word that is listed; c: another one stands before it
---   alternative h c u      the word u in a list of words, where h says that it is listed
---   drawn p b              the byte b of a line, as it is shown, or as it is padded for the mark below; p: padded
---   dueWords T s           the words of kind s, listed
---   written u              what is not due, where the token u stands
---   plain u why            what is said of the token u for a reason that is about no kind and no word
+--   skipped p b            nothing stands for the byte b of a line; p: padded for the mark below
 --   seenAs p b             the byte that stands for the byte b of a line, where one does
+--   drawn p b              the byte b of a line, as it is shown, or as it is padded
+--   aboutPlaces why        the reason may be that a ( stands where no place is due
+--   plain u why            what is said of the token u for a reason that has its text in the tables
+--   otherText u why        what is said of the token u for a reason that is about no kind and no places
 --   placeText before last  line and column of the place behind the bytes before; last: those in its line
 --   pictureText line last  the line, and below it the mark behind the bytes last
 --
 use mathlib.Core.Bool.{Bool, true, false, not, _||_, _&&_, cond}
-use mathlib.Core.List.{List, [], _∷_, _++_}
-use Prim.Native.Nat.{ℕ, zero, suc}
+use mathlib.Core.List.{List, [], _++_}
+use Prim.Native.Nat.{ℕ, suc}
 use lib.Dec.{eqb, ltb}
-use lib.ListN.{length, getD, take, drop}
+use lib.ListN.{getD, take}
 use Rattle.wire.specs.Row.{writeRow}
 use Rattle.wire.specs.Text.{ascii, newline, decimal}
 use Rattle.texts.specs.Lexemes.{Token}
-use Rattle.texts.specs.Names.{same, mark, comma, closing}
-use Rattle.texts.specs.Faults.{Fault}
-use Rattle.texts.specs.Complaints.{Known, reasons, endings, tokenThen, alternatives, newlines, columns, shown, padding, lineSize}
+use Rattle.texts.specs.Faults.{kindDue, patternDue, placesWrong, placesOver}
+use Rattle.texts.specs.Complaints.{reasons, endings, tokenThen, noPatternText, unmarked, newlines, follows, columns, shown, padding, lineSize}
+pub use Rattle.dues.specs.Parts.{fault}
 
-abbrev pub fault : ℕ → ℕ → ℕ → Fault
-fault why at of = record { why = why; at = at; of = of }
-
-abbrev pub joined : List (List ℕ) → List ℕ
-joined [] = []
-joined (t ∷ l) = t ++ (10 ∷ joined l)
-
-abbrev pub lineOf : ℕ → List ℕ → List ℕ
-lineOf zero l = take (lineSize l) l
-lineOf (suc n) l = lineOf n (drop (suc (lineSize l)) l)
-
-abbrev pub between : Bool → List ℕ
-between true = ascii " or "
-between false = ascii ": "
-
-abbrev pub alternative : Bool → Bool → Token → List ℕ
-alternative h c u = cond h (between c ++ u) []
+abbrev pub skipped : Bool → ℕ → Bool
+skipped true b = follows b || eqb b 13
+skipped false b = eqb b 13
 
 abbrev pub seenAs : Bool → ℕ → ℕ
 seenAs true b = cond (eqb b 9) b 32
@@ -51,16 +34,16 @@ abbrev pub drawn : Bool → ℕ → List ℕ
 drawn true b = padding b
 drawn false b = shown b
 
-abbrev pub dueWords : Known → ℕ → List ℕ
-dueWords T s = alternatives T s (length (T .words)) 0 (ascii ": ")
-
-abbrev pub written : Token → List ℕ
-written u =
-    cond (same u (mark comma)) (ascii ", and no , is due here")
-    (cond (same u (mark closing)) (ascii ", and no ) is due here") (ascii ", in ( and ) with a , between them"))
+abbrev pub aboutPlaces : ℕ → Bool
+aboutPlaces why = eqb why placesWrong || (eqb why placesOver || eqb why patternDue)
 
 abbrev pub plain : Token → ℕ → List ℕ
 plain u why = getD reasons why [] ++ tokenThen u (getD endings why [])
+
+abbrev pub otherText : Token → ℕ → List ℕ
+otherText u why =
+    cond (eqb why patternDue) (noPatternText u)
+    (cond (eqb why kindDue && unmarked u) (ascii "a byte order mark stands here, and a text begins with `kind`") (plain u why))
 
 abbrev pub placeText : List ℕ → List ℕ → List ℕ
 placeText before last =

@@ -18,8 +18,8 @@ use Rattle.terms.specs.Lists.{range}
 use Rattle.terms.proofs.Count.{length-range}
 use Rattle.terms.proofs.Keep.{range-append}
 use Rattle.wire.specs.Vocabulary.{Word, mostWords, encodeWord, encodeWords}
-use Rattle.texts.specs.Lexicon.{fullMap, mostPlaces}
-use Rattle.texts.specs.Tabled.{recordSize, placesIn, wordIn, wordsIn}
+use Rattle.texts.specs.Lexicon.{gaplessMap, mostPlaces}
+use Rattle.texts.specs.Tabled.{recordSize, tabledPlaces, wordIn, wordsIn}
 use Rattle.encoder.specs.Encoded.{tableSize, mostEncoded, PutWord, Encoded}
 
 -- ---- the map of a word
@@ -76,13 +76,13 @@ module _ (records out : List ℕ) (f at : ℕ) (inside : f < mostWords) (table :
       ∙ take-suc-set (set out at kind) (at + 1) mask (omega arith)
       ∙ ap (λ l. l ++ (mask ∷ [])) (ap (λ i. take i (set out at kind)) (add-one at) ∙ take-suc-set out at kind (omega arith))
 
-  pub places-few : placesIn records f ≤ mostPlaces
+  pub places-few : tabledPlaces records f ≤ mostPlaces
   places-few = omega arith
 
-  pub source-room : recordSize * f + 2 + placesIn records f ≤ length records
+  pub source-room : recordSize * f + 2 + tabledPlaces records f ≤ length records
   source-room = omega arith
 
-  pub word-put : {m mask : ℕ} {after : List ℕ} → m ≡ placesIn records f → mask ≡ fullMap m →
+  pub word-put : {m mask : ℕ} {after : List ℕ} → m ≡ tabledPlaces records f → mask ≡ gaplessMap m →
       after ≡ paste (headed mask) (at + 2) (drop (recordSize * f + 2) records) m → PutWord records f at out (at + 2 + m) after
   word-put {m} {mask} {after} e g h =
       let few = places-few in
@@ -96,7 +96,7 @@ module _ (records out : List ℕ) (f at : ℕ) (inside : f < mostWords) (table :
             ∙ ap (λ l. l ++ take m (drop (recordSize * f + 2) records)) (headed-take mask)
             ∙ append-assoc (take at out ++ (kind ∷ [])) (mask ∷ []) (take m (drop (recordSize * f + 2) records))
             ∙ append-assoc (take at out) (kind ∷ []) (mask ∷ take m (drop (recordSize * f + 2) records))
-            ∙ ap₂ (λ i j. take at out ++ (kind ∷ i ∷ take j (drop (recordSize * f + 2) records))) (g ∙ ap fullMap e) e;
+            ∙ ap₂ (λ i j. take at out ++ (kind ∷ i ∷ take j (drop (recordSize * f + 2) records))) (g ∙ ap gaplessMap e) e;
         short = omega arith;
       }
 

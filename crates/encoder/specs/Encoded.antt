@@ -9,7 +9,7 @@ use mathlib.Core.List.{List, _++_}
 use Prim.Native.Nat.{ℕ, _+_, _*_, _≤_}
 use lib.ListN.{length, take}
 use Rattle.wire.specs.Vocabulary.{mostWords, encodeWord, encodeVocabulary}
-use Rattle.texts.specs.Tabled.{recordSize, wordIn, vocabularyIn}
+use Rattle.texts.specs.Tabled.{recordSize, wordIn, tabledVocabulary}
 
 abbrev pub tableSize : ℕ
 tableSize = recordSize * mostWords
@@ -25,4 +25,4 @@ pub record PutWord (records : List ℕ) (f at : ℕ) (before : List ℕ) (r : �
 pub record Encoded (k n : ℕ) (records : List ℕ) (r : ℕ) (after : List ℕ) : Type 0 where
   pub size : length after ≡ mostEncoded
   pub short : r ≤ mostEncoded
-  pub bytes : take r after ≡ encodeVocabulary (vocabularyIn k n records)
+  pub bytes : take r after ≡ encodeVocabulary (tabledVocabulary k n records)

@@ -4,8 +4,8 @@ ghost use Prim.Native.Nat.{_+_, _*_, _<_, _≤_};
 ghost use lib.ListN.{length, drop};
 ghost use lib.Seq.{paste};
 ghost use Rattle.wire.specs.Vocabulary.{mostWords};
-ghost use Rattle.texts.specs.Lexicon.{fullMap, mostPlaces};
-ghost use Rattle.texts.specs.Tabled.{recordSize, placesIn};
+ghost use Rattle.texts.specs.Lexicon.{gaplessMap, mostPlaces};
+ghost use Rattle.texts.specs.Tabled.{recordSize, tabledPlaces};
 ghost use Rattle.encoder.specs.Encoded.{tableSize, mostEncoded, PutWord, Encoded};
 
 fn wide(b: u8) -> usize
@@ -17,7 +17,7 @@ fn wide(b: u8) -> usize
 // How many places a record says, 8 at most.
 fn places(records: &[u8], f: usize) -> usize
     requires { ⌜ (f < mostWords) × (length (now records) ≡ tableSize) ⌝ }
-    ensures { λ r. ⌜ r ≡ placesIn (now (records .entry)) f ⌝ }
+    ensures { λ r. ⌜ r ≡ tabledPlaces (now (records .entry)) f ⌝ }
 {
     let m = wide(records[10 * f + 1]);
     if m < 8 {
@@ -29,7 +29,7 @@ fn places(records: &[u8], f: usize) -> usize
 // The map of m places, counted from 0 without gaps.
 fn full_map(m: usize) -> u8
     requires { ⌜ m ≤ mostPlaces ⌝ }
-    ensures { λ r. ⌜ r ≡ fullMap m ⌝ }
+    ensures { λ r. ⌜ r ≡ gaplessMap m ⌝ }
 {
     ((1usize << m) - 1) as u8
 }

@@ -13,11 +13,11 @@ pub fn take(fd: i32, buffer: &mut [u8]) -> Taken
 {
     let mut n = 0;
     while n < buffer.len() {
-        let got = libc::read(fd, &mut buffer[n..]);
-        if got < 0 {
+        let parsed = libc::read(fd, &mut buffer[n..]);
+        if parsed < 0 {
             return Taken::Failed;
         }
-        let more = io::count(got, &buffer[n..]);
+        let more = io::count(parsed, &buffer[n..]);
         if more == 0 {
             return Taken::Bytes(n);
         }

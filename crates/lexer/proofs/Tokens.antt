@@ -19,7 +19,7 @@ use lib.ListN.{length, getD, take, drop, drop-of-length-le}
 use borrow.Author.Tests.{eq-eqb, ne-eqb}
 use Rattle.wire.proofs.Cond.{cond-true, cond-false}
 use Rattle.slices.specs.Equal.{Equal}
-use Rattle.texts.specs.Lexemes.{Token, isName, isRun, asking, runSize, tokenSize, tokenAt}
+use Rattle.texts.specs.Lexemes.{Token, isNameByte, isRun, asking, runSize, tokenSize, tokenAt}
 use Rattle.texts.specs.Names.{same, opened, kindWord, beginsName, isIdentifier, isVariable}
 use Rattle.texts.proofs.Scanning.{token-none, token-begins, token-length, behind, same-refl, same-exact}
 use Rattle.lexer.proofs.Turns.{here}
@@ -66,7 +66,7 @@ module _ (l : List ℕ) (at : ℕ) where
   pub begins-none : length l ≤ at → false ≡ beginsName (drop at l)
   begins-none h = sym (ap beginsName (drop-of-length-le l h))
 
-  pub begins-here : at < length l → isName (getD l at 0) ≡ beginsName (drop at l)
+  pub begins-here : at < length l → isNameByte (getD l at 0) ≡ beginsName (drop at l)
   begins-here h = sym (ap beginsName (here l at h))
 
 pub begins-token : (l : List ℕ) → beginsName (take (tokenSize l) l) ≡ beginsName l
@@ -99,9 +99,9 @@ module _ (l : List ℕ) (at : ℕ) {b : Bool} (begins : b ≡ beginsName (drop a
 
 begins-run : (l : List ℕ) → beginsName (take (runSize l) l) ≡ beginsName l
 begins-run [] = refl
-begins-run (b ∷ l) = go (isName b) refl
+begins-run (b ∷ l) = go (isNameByte b) refl
   where
-    go : (q : Bool) → isName b ≡ q → beginsName (take (cond (isName b) (suc (runSize l)) 0) (b ∷ l)) ≡ isName b
+    go : (q : Bool) → isNameByte b ≡ q → beginsName (take (cond (isNameByte b) (suc (runSize l)) 0) (b ∷ l)) ≡ isNameByte b
     go true q = ap (λ n. beginsName (take n (b ∷ l))) (cond-true _ _ _ q)
     go false q = ap (λ n. beginsName (take n (b ∷ l))) (cond-false _ _ _ q) ∙ sym q
 

@@ -5,7 +5,7 @@ ghost use mathlib.Core.List.{_∷_, [], map};
 ghost use Prim.Native.Nat.{_+_};
 ghost use lib.ListN.{take, drop};
 ghost use Rattle.wire.specs.Reply.{outside};
-ghost use Rattle.texts.specs.Lexemes.{isBlank, isName, isRun, blanks, runSize, tokenSize, tokenAt};
+ghost use Rattle.texts.specs.Lexemes.{isBlank, isNameByte, isRun, blanks, runSize, tokenSize, tokenAt};
 ghost use Rattle.texts.specs.Names.{same, beginsName, isIdentifier, isVariable, indexIn};
 ghost use Rattle.lexer.specs.Bytes.{isPlain, stopsAt, inComment};
 
@@ -49,7 +49,7 @@ fn is_plain(b: u8) -> bool
 }
 
 fn is_name(b: u8) -> bool
-    ensures { λ r. ⌜ r ≡ isName b ⌝ }
+    ensures { λ r. ⌜ r ≡ isNameByte b ⌝ }
 {
     if is_plain(b) {
         return true;
@@ -141,7 +141,7 @@ pub fn end(text: &[u8], at: usize) -> usize
 }
 
 // The bytes of the token that begins at an offset.
-fn token(text: &[u8], at: usize) -> &[u8]
+pub fn token(text: &[u8], at: usize) -> &[u8]
     ensures { λ r. ⌜ now r ≡ tokenAt (now (text .entry)) at ⌝ }
 {
     if text.len() <= at {

@@ -23,7 +23,7 @@ use Rattle.texts.specs.Faults.{token, kindDue, placeEnd}
 use Rattle.texts.specs.LexiconReading.{named, misnamed, kindNamed, kindNameWhy, wordNameWhy, placeWhy, placesLast, readKindNames, Declaring, Phase, atStart, atKind, behindKind, atWord, behindWord, atPlace, behindPlace, behindPlaces, Stepped, on, over, fails, goTo, stepWord, stepPlace, stepOn, stepIn, step}
 use Rattle.texts.proofs.Scanning.{token-none}
 use Rattle.lexicon.proofs.Whys.{name-sound}
-use Rattle.lexicon.proofs.Fronts.{start, front-token}
+use Rattle.texts.proofs.Fronts.{start, front-token}
 
 pub record Begun (K : List Token) (l : List Lexeme) (c : ℕ) : Type 0 where
   pub seen : List Token

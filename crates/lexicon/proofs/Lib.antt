@@ -1,6 +1,5 @@
 -- What the proofs of the functions rest on.
 pub mod Whys
-pub mod Fronts
 pub mod Names
 pub mod Rows
 pub mod Steps

@@ -23,7 +23,7 @@ use Rattle.texts.specs.Tabled.{namesIn}
 use Rattle.texts.proofs.Scanning.{lexemes-end, lexemes-whole}
 use Rattle.lexicon.specs.declared.NamesAnswer.the-variants.{Named, Misnamed}
 use Rattle.lexicon.specs.Answers.{NamesPromise}
-use Rattle.lexicon.proofs.Fronts.{start, front, front-token, front-place, behind-inside, behind-end, some-inside, end-inside}
+use Rattle.texts.proofs.Fronts.{start, front, front-token, front-place, behind-inside, behind-end, some-inside, end-inside}
 use Rattle.lexicon.proofs.Whys.{names-length, name-sound}
 
 pub record NamesTo (b kinds : List ℕ) (k at : ℕ) : Type 0 where

@@ -19,7 +19,7 @@ use borrow.Author.Tests.{ne-eqb}
 use Rattle.wire.specs.Vocabulary.{mostKinds}
 use Rattle.wire.proofs.Cond.{cond-false}
 use Rattle.texts.specs.Lexemes.{Token, tokenSize, lexemes, lexemesFrom, tokenAt}
-use Rattle.texts.specs.Faults.{got}
+use Rattle.texts.specs.Faults.{parsed}
 use Rattle.texts.specs.LexiconReading as reading
 use Rattle.texts.specs.LexiconReading.{Declaring, beginning, readRows, readKindNames, readLexicon, withNames, step}
 use Rattle.texts.specs.Tabled.{namesIn}
@@ -36,7 +36,7 @@ use Rattle.lexicon.specs.Rows.{Tables}
 use Rattle.lexicon.specs.Stages.{phaseOf, declaring, StepPromise}
 use Rattle.lexicon.specs.Answers.{NamesPromise, KindsKnown, endedOf, LexiconPromise}
 use Rattle.lexicon.proofs.Whys.{names-length}
-use Rattle.lexicon.proofs.Fronts.{start, behindFront, frontOf, front, behind-inside, end-inside, end-behind}
+use Rattle.texts.proofs.Fronts.{start, behindFront, frontOf, front, behind-inside, end-inside, end-behind}
 use Rattle.lexicon.proofs.Rows.{rows-of, words-rows}
 use Rattle.lexicon.proofs.Begun.{Ahead, ahead-few, ahead-step, on-inside}
 
@@ -77,7 +77,7 @@ reading-ends {b} {kinds} {k} {at} {p} {c} {words} {records} (suc m) t from e =
       same =
           e
           ∙ cond-false (eqb (length names) 0) _ _ (ne-eqb (length names) 0 (λ z. omega arith))
-          ∙ ap₂ (λ r l. got (record { kindNames = kindNames b kinds k; wordNames = names; rows = r }) l) (rows-of (suc m) records) (sym (front b at from));
+          ∙ ap₂ (λ r l. parsed (record { kindNames = kindNames b kinds k; wordNames = names; rows = r }) l) (rows-of (suc m) records) (sym (front b at from));
       fits = record {
         fewKinds = t .known .few;
         kindsSize = t .known .size;

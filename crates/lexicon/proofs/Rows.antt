@@ -21,9 +21,9 @@ use Rattle.terms.specs.Lists.{range}
 use Rattle.terms.proofs.All.{all-implies, all-range, map-agree}
 use Rattle.terms.proofs.Keep.{range-append}
 use Rattle.wire.specs.Vocabulary.{mostWords}
-use Rattle.texts.specs.Lexicon.{fullMap, mostPlaces}
-use Rattle.texts.specs.LexiconReading.{Row, rowWord, placesLast, grown}
-use Rattle.texts.specs.Tabled.{recordSize, placesIn, wordIn, wordsIn}
+use Rattle.texts.specs.Lexicon.{gaplessMap, mostPlaces}
+use Rattle.texts.specs.LexiconReading.{WordRow, rowWord, placesLast, grown}
+use Rattle.texts.specs.Tabled.{recordSize, tabledPlaces, wordIn, wordsIn}
 use Rattle.lexicon.specs.Rows.{rowIn, rowsIn, lastIn, countLast, begun, placed, Tables}
 
 -- ---- ranges
@@ -49,7 +49,7 @@ row-front : (n f : ℕ) (r : List ℕ) → f < n → rowIn (take (recordSize * n
 row-front n f r h =
     let kind = getD-take (recordSize * n) r (recordSize * f) 0 (omega arith) in
     let count = getD-take (recordSize * n) r (recordSize * f + 1) 0 (omega arith) in
-    let places = window (placesIn r f) (recordSize * f + 2) (recordSize * n) r (omega arith) in
+    let places = window (tabledPlaces r f) (recordSize * f + 2) (recordSize * n) r (omega arith) in
     ap₂ (λ k (ps : List ℕ). record { kind = k; places = ps }) kind
     (ap (λ c. take (min c mostPlaces) (drop (recordSize * f + 2) (take (recordSize * n) r))) count ∙ places)
 
@@ -90,7 +90,7 @@ module _ (kind m f : ℕ) (r : List ℕ) (count : getD r (recordSize * f + 1) 0 
       let size = half-size in
       let left = length-drop (recordSize * f + 2) r in
       let many : min (m + 1) mostPlaces ≡ suc m = omega arith in
-      let few : m ≡ placesIn r f = omega arith in
+      let few : m ≡ tabledPlaces r f = omega arith in
       ap₂ (λ k (ps : List ℕ). record { kind = k; places = ps })
       (getD-set-other half (recordSize * f + 1) (recordSize * f) (m + 1) 0 (λ e. omega arith) ∙ getD-set-other r (recordSize * f + 2 + m) (recordSize * f) kind 0 (λ e. omega arith))
       (ap₂ (λ c l. take (min c mostPlaces) l) (getD-set-same half (recordSize * f + 1) (m + 1) 0 (omega arith))
@@ -121,25 +121,25 @@ module _ {n : ℕ} {words records : List ℕ} (t : Tables n words records) where
   room : (f : ℕ) → f < n → recordSize * f + recordSize ≤ length records
   room f h = let few = t .few in let size = t .recordsSize in omega arith
 
-  places-length : (f : ℕ) → f < n → length (rowIn records f .places) ≡ placesIn records f
+  places-length : (f : ℕ) → f < n → length (rowIn records f .places) ≡ tabledPlaces records f
   places-length f h =
       let r = room f h in
       let left = length-drop (recordSize * f + 2) records in
-      length-take-le (placesIn records f) (drop (recordSize * f + 2) records) (omega arith)
+      length-take-le (tabledPlaces records f) (drop (recordSize * f + 2) records) (omega arith)
 
   -- The count of a record is the number of its row's places.
   pub row-places : (f : ℕ) → f < n → length (rowIn records f .places) ≡ getD records (recordSize * f + 1) 0
   row-places f h =
       let c = t .counts f h in
-      places-length f h ∙ (let z : placesIn records f ≡ getD records (recordSize * f + 1) 0 = omega arith in z)
+      places-length f h ∙ (let z : tabledPlaces records f ≡ getD records (recordSize * f + 1) 0 = omega arith in z)
 
   pub words-rows : wordsIn n records ≡ map rowWord (rowsIn n records)
   words-rows =
       map-range (wordIn records) (λ f. rowWord (rowIn records f)) n
-      (λ f h. ap (λ c. record { result = getD records (recordSize * f) 0; placeMap = fullMap c; kinds = take (placesIn records f) (drop (recordSize * f + 2) records) }) (sym (places-length f (omega arith))))
+      (λ f h. ap (λ c. record { result = getD records (recordSize * f) 0; placeMap = gaplessMap c; kinds = take (tabledPlaces records f) (drop (recordSize * f + 2) records) }) (sym (places-length f (omega arith))))
       ∙ map-map (rowIn records) (range 0 n)
     where
-      map-map : (g : ℕ → Row) (l : List ℕ) → map (λ f. rowWord (g f)) l ≡ map rowWord (map g l)
+      map-map : (g : ℕ → WordRow) (l : List ℕ) → map (λ f. rowWord (g f)) l ≡ map rowWord (map g l)
       map-map g [] = refl
       map-map g (f ∷ l) = ap (λ k. rowWord (g f) ∷ k) (map-map g l)
 

@@ -23,7 +23,7 @@ use Rattle.texts.specs.Names.{same, kindWord, mark, opening, closing, comma, ba
 use Rattle.texts.specs.Lexicon.{mostPlaces}
 use Rattle.texts.specs.Faults.{kindDue, placeEnd}
 use Rattle.texts.specs.LexiconReading as reading
-use Rattle.texts.specs.LexiconReading.{Declaring, Row, Phase, on, fails, goTo, stepWord, stepPlace, stepOn, grown, wordNameWhy, placeWhy, placesLast}
+use Rattle.texts.specs.LexiconReading.{Declaring, WordRow, Phase, on, fails, goTo, stepWord, stepPlace, stepOn, grown, wordNameWhy, placeWhy, placesLast}
 use Rattle.texts.specs.Tabled.{namesIn}
 use Rattle.lexicon.specs.declared.Stage.{Stage}
 use Rattle.lexicon.specs.declared.Stage.the-variants.{AtStart, AtKind, BehindKind, AtWord, BehindWord, AtPlace, BehindPlace, BehindPlaces}
@@ -44,7 +44,7 @@ use Rattle.lexicon.proofs.Rows.{rows-front, rows-of, begun-row, begun-f
 abbrev pub Unstored : Stage → Type 0
 Unstored p = OneOf (0 ∷ 2 ∷ 4 ∷ 6 ∷ 7 ∷ []) (tagOf the-type p)
 
-on-same : (p : Phase) (c : ℕ) {K K' : List Token} {d d' l l' : List Row} → K ≡ K' → d ≡ d' → l ≡ l' →
+on-same : (p : Phase) (c : ℕ) {K K' : List Token} {d d' l l' : List WordRow} → K ≡ K' → d ≡ d' → l ≡ l' →
     on (record { phase = p; kinds = c; names = K; done = d; last = l }) ≡ on (record { phase = p; kinds = c; names = K'; done = d'; last = l' })
 on-same p c {K} {K'} {d} {d'} {l} {l'} e f g =
     ap (λ x. on (record { phase = p; kinds = c; names = x; done = d; last = l })) e

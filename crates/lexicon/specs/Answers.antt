@@ -14,7 +14,7 @@ use Prim.Native.Nat.{ℕ, zero, suc, _<_, _≤_}
 use lib.ListN.{length, take}
 use Rattle.wire.specs.Vocabulary.{mostKinds}
 use Rattle.texts.specs.Lexemes.{lexemes, lexemesFrom}
-use Rattle.texts.specs.Faults.{Got, got, bad, noWords}
+use Rattle.texts.specs.Faults.{Parsed, parsed, bad, noWords}
 use Rattle.texts.specs.LexiconReading.{Names?, named, misnamed, LexiconRead, rowWord, readKindNames, readLexicon}
 use Rattle.texts.specs.Tabled.{namesIn, wordsIn}
 use Rattle.lexicon.specs.declared.NamesAnswer.{NamesAnswer}
@@ -46,9 +46,9 @@ abbrev pub endedOf : ℕ → ℕ → ℕ → ℕ → LexiconAnswer
 endedOf k zero end at = Bad noWords at
 endedOf k (suc n) end at = Read k (suc n) end
 
-abbrev pub lexiconAnswered : List ℕ → List ℕ → List ℕ → List ℕ → LexiconAnswer → Got LexiconRead
+abbrev pub lexiconAnswered : List ℕ → List ℕ → List ℕ → List ℕ → LexiconAnswer → Parsed LexiconRead
 lexiconAnswered b kinds words records (Read k n at) =
-    got
+    parsed
     (record {
       kindNames = namesIn b (take k kinds);
       wordNames = namesIn b (take n words);

@@ -1,6 +1,5 @@
 -- Rows: the words that were read, as the records of a table.
 --
---   mostText                 a text has at most so many bytes that its offsets fit a table's entries
 --   rowIn r f, rowsIn n r    the row of the word f, and the first n rows
 --   lastIn n r               the last of the first n rows, if there is one
 --   countLast n r            how many places its record says
@@ -15,19 +14,16 @@ use lib.ListN.{length, getD, set, take, drop}
 use Rattle.terms.specs.Lists.{range}
 use Rattle.wire.specs.Vocabulary.{mostWords}
 use Rattle.texts.specs.Lexicon.{mostPlaces}
-use Rattle.texts.specs.LexiconReading.{Row}
-use Rattle.texts.specs.Tabled.{recordSize, placesIn}
+use Rattle.texts.specs.LexiconReading.{WordRow}
+use Rattle.texts.specs.Tabled.{recordSize, tabledPlaces}
 
-abbrev pub mostText : ℕ
-mostText = 65535
+abbrev pub rowIn : List ℕ → ℕ → WordRow
+rowIn r f = record { kind = getD r (recordSize * f) 0; places = take (tabledPlaces r f) (drop (recordSize * f + 2) r) }
 
-abbrev pub rowIn : List ℕ → ℕ → Row
-rowIn r f = record { kind = getD r (recordSize * f) 0; places = take (placesIn r f) (drop (recordSize * f + 2) r) }
-
-abbrev pub rowsIn : ℕ → List ℕ → List Row
+abbrev pub rowsIn : ℕ → List ℕ → List WordRow
 rowsIn n r = map (rowIn r) (range 0 n)
 
-abbrev pub lastIn : ℕ → List ℕ → List Row
+abbrev pub lastIn : ℕ → List ℕ → List WordRow
 lastIn zero r = []
 lastIn (suc f) r = rowIn r f ∷ []
 

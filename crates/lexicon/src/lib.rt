@@ -7,7 +7,8 @@ ghost use Rattle.texts.specs.Lexemes.{tokenAt};
 ghost use Rattle.texts.specs.Lexicon.{mostPlaces};
 ghost use Rattle.texts.specs.LexiconReading.{nameWhy, placeWhy};
 ghost use Rattle.texts.specs.Tabled.{namesIn};
-ghost use Rattle.lexicon.specs.Rows.{mostText, countLast, begun, placed, Tables};
+ghost use Rattle.texts.specs.Files.{mostText};
+ghost use Rattle.lexicon.specs.Rows.{countLast, begun, placed, Tables};
 ghost use Rattle.lexicon.specs.Stages.{onTurn, startTurn, wordTurn, behindWordTurn, behindPlaceTurn, turnOf, steppedOf, WordPromise, PlacePromise, StepPromise};
 ghost use Rattle.lexicon.specs.Answers.{NamesPromise, KindsKnown, endedOf, LexiconPromise};
 

@@ -15,9 +15,9 @@ use borrow.Author.Tests.{le-leb, lt-leb}
 use Rattle.wire.proofs.Cond.{cond-true, cond-false}
 use Rattle.texts.specs.Lexemes.{Token, Lexeme, blanks, tokenSize, lexemesFrom, tokenAt}
 use Rattle.texts.specs.Names.{same, mark, colon, mostName, isIdentifier}
-use Rattle.texts.specs.Faults.{Got, got, bad, andThen, token, rest, longName}
+use Rattle.texts.specs.Faults.{Parsed, parsed, bad, parseThen, token, rest, longName}
 use Rattle.texts.specs.PhraseReading.{PhraseRead, faultAt, labelled, readRoot, readPhrase}
-use Rattle.texts.specs.Tabled.{namesIn, vocabularyIn}
+use Rattle.texts.specs.Tabled.{namesIn, tabledVocabulary}
 use Rattle.texts.proofs.Scanning.{token-length}
 use Rattle.clauses.specs.Reading.{Front}
 use Rattle.phrases.specs.Phrases.{ReadsPhrase, ReadsRoot, labelledBy, ReadsLabelled}
@@ -34,8 +34,8 @@ pub labelled-bad : (s : ℕ) (a : PhraseAnswer) (x : Fault) → a ≡ Bad x → 
 labelled-bad s a x e = ap (labelledBy s) (sym e)
 
 module _ (b g q r : List ℕ) (at s k n : ℕ) (inside : at ≤ length b) (start : s ≡ at + blanks (drop at b)) where
-  abbrev root : List Lexeme → Got PhraseRead
-  root m = readRoot (namesIn b (take k g)) (namesIn b (take n q)) (vocabularyIn k n r) m
+  abbrev root : List Lexeme → Parsed PhraseRead
+  root m = readRoot (namesIn b (take k g)) (namesIn b (take n q)) (tabledVocabulary k n r) m
 
   abbrev l : List Lexeme
   l = lexemesFrom b at
@@ -43,11 +43,11 @@ module _ (b g q r : List ℕ) (at s k n : ℕ) (inside : at ≤ length b) (start
   abbrev tested : Bool
   tested = isIdentifier (token l) && same (token (rest l)) (mark colon)
 
-  abbrev withLabel : Got PhraseRead
-  withLabel = cond (leb (length (token l)) mostName) (andThen (root (rest (rest l))) (λ p t. got (labelled (token l) p) t)) (faultAt longName 0 l)
+  abbrev withLabel : Parsed PhraseRead
+  withLabel = cond (leb (length (token l)) mostName) (parseThen (root (rest (rest l))) (λ p t. parsed (labelled (token l) p) t)) (faultAt longName 0 l)
 
   unlabelled : (o v : List ℕ) (x : PhraseAnswer) → tested ≡ false → ReadsRoot b at g k q n r o v x → ReadsLabelled b at g k q n r o v x
-  unlabelled o v x h read = subst (λ (p : Got PhraseRead). ReadsPhrase (vocabularyIn k n r) b o v p x) (sym (cond-false tested withLabel (root l) h)) read
+  unlabelled o v x h read = subst (λ (p : Parsed PhraseRead). ReadsPhrase (tabledVocabulary k n r) b o v p x) (sym (cond-false tested withLabel (root l) h)) read
 
   pub label-none : (o v : List ℕ) (x : PhraseAnswer) → isIdentifier (tokenAt b s) ≡ false → ReadsRoot b at g k q n r o v x → ReadsLabelled b at g k q n r o v x
   label-none o v x h read = unlabelled o v x (ap (λ (t : Bool). t && same (token (rest l)) (mark colon)) (ap isIdentifier (front-token b at s start) ∙ h)) read
@@ -73,12 +73,12 @@ module _ (b g q r : List ℕ) (at s k n : ℕ) (inside : at ≤ length b) (start
     size-is = ap length (first .token) ∙ token-length b s ∙ (let z : tokenSize (drop s b) ≡ e - s = omega arith in z)
 
     module _ (stands : same (tokenAt b c) (58 ∷ []) ≡ true) where
-      labelled-is : readPhrase (namesIn b (take k g)) (namesIn b (take n q)) (vocabularyIn k n r) l ≡ withLabel
+      labelled-is : readPhrase (namesIn b (take k g)) (namesIn b (take n q)) (tabledVocabulary k n r) l ≡ withLabel
       labelled-is = cond-true tested withLabel (root l) (tested-is ∙ stands)
 
       pub label-long : (o v : List ℕ) → 32 < e - s → ReadsLabelled b at g k q n r o v (Bad (record { why = 3; at = s; of = 0 }))
       label-long o v h =
-          subst (λ (p : Got PhraseRead). ReadsPhrase (vocabularyIn k n r) b o v p (Bad (record { why = 3; at = s; of = 0 })))
+          subst (λ (p : Parsed PhraseRead). ReadsPhrase (tabledVocabulary k n r) b o v p (Bad (record { why = 3; at = s; of = 0 })))
           (sym (labelled-is ∙ cond-false (leb (length (token l)) mostName) _ _ (lt-leb (length (token l)) mostName (omega (arith, size-is)))))
           (ap (λ (i : ℕ). record { why = longName; at = i; of = 0 }) (front-place b at s start))
 
@@ -92,16 +92,16 @@ module _ (b g q r : List ℕ) (at s k n : ℕ) (inside : at ≤ length b) (start
           (x : PhraseAnswer) → x ≡ labelledBy s y → ReadsLabelled b at g k q n r o v x
       label-read o v e₂ y h end₂ read x is =
           subst (λ (x : PhraseAnswer). ReadsLabelled b at g k q n r o v x) (sym is)
-          (subst (λ (p : Got PhraseRead). ReadsPhrase (vocabularyIn k n r) b o v p (labelledBy s y))
+          (subst (λ (p : Parsed PhraseRead). ReadsPhrase (tabledVocabulary k n r) b o v p (labelledBy s y))
           (sym
           (labelled-is
           ∙ cond-true (leb (length (token l)) mostName) _ _ (le-leb (length (token l)) mostName (omega (arith, size-is)))
-          ∙ ap (λ (m : List Lexeme). andThen (root m) (λ p t. got (labelled (token l) p) t)) (ap rest rest-is ∙ second .behind ∙ ap (lexemesFrom b) (sym end₂))))
+          ∙ ap (λ (m : List Lexeme). parseThen (root m) (λ p t. parsed (labelled (token l) p) t)) (ap rest rest-is ∙ second .behind ∙ ap (lexemesFrom b) (sym end₂))))
           (go (root (lexemesFrom b e₂)) y read))
         where
-          go : (p : Got PhraseRead) (y : PhraseAnswer) → ReadsPhrase (vocabularyIn k n r) b o v p y →
-              ReadsPhrase (vocabularyIn k n r) b o v (andThen p (λ p t. got (labelled (token l) p) t)) (labelledBy s y)
-          go (got p t) (Read z) h = record {
+          go : (p : Parsed PhraseRead) (y : PhraseAnswer) → ReadsPhrase (tabledVocabulary k n r) b o v p y →
+              ReadsPhrase (tabledVocabulary k n r) b o v (parseThen p (λ p t. parsed (labelled (token l) p) t)) (labelledBy s y)
+          go (parsed p t) (Read z) h = record {
             label = first .token;
             kind = h .kind;
             bytes = h .bytes;
@@ -111,6 +111,6 @@ module _ (b g q r : List ℕ) (at s k n : ℕ) (inside : at ≤ length b) (start
             room = h .room;
             few = h .few;
           }
-          go (got p t) (Bad z) h = absurd h
+          go (parsed p t) (Bad z) h = absurd h
           go (bad f) (Read z) h = absurd h
           go (bad f) (Bad z) h = h

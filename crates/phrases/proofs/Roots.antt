@@ -16,7 +16,7 @@ use Rattle.wire.specs.TermBytes.{mostBytes}
 use Rattle.wire.proofs.Cond.{cond-true, cond-false}
 use Rattle.texts.specs.Lexemes.{Token, Lexeme, blanks, tokenSize, lexemesFrom, tokenAt}
 use Rattle.texts.specs.Names.{same, mark, colon, isIdentifier, indexIn}
-use Rattle.texts.specs.Faults.{Got, got, bad, token, rest, notDeclared, placeDue, colonDue}
+use Rattle.texts.specs.Faults.{Parsed, parsed, bad, token, rest, notDeclared, placeDue, colonDue}
 use Rattle.texts.specs.PhraseReading.{TermRead, PhraseRead, phraseRead, faultAt, readRootKind}
 use Rattle.texts.specs.Tabled.{namesIn}
 use Rattle.texts.proofs.Scanning.{token-none}
@@ -35,10 +35,10 @@ module _ (b g : List ℕ) (at k s : ℕ) (inside : at ≤ length b) (start : s �
   abbrev names : List Token
   names = namesIn b (take k g)
 
-  abbrev kindNamed : TermRead → List Lexeme → Got PhraseRead
+  abbrev kindNamed : TermRead → List Lexeme → Parsed PhraseRead
   kindNamed a m =
       cond (isIdentifier (token m))
-      (cond (ltb (indexIn (token m) names) (length names)) (got (phraseRead (indexIn (token m) names) a) (rest m)) (faultAt notDeclared 0 m))
+      (cond (ltb (indexIn (token m) names) (length names)) (parsed (phraseRead (indexIn (token m) names) a) (rest m)) (faultAt notDeclared 0 m))
       (faultAt placeDue 0 m)
 
   pub colon-missing : same (tokenAt b s) (58 ∷ []) ≡ false → ReadsKind b at g k (NoKind (record { why = 23; at = s; of = 0 }))
@@ -68,11 +68,11 @@ module _ (b g : List ℕ) (at k s : ℕ) (inside : at ≤ length b) (start : s �
       index-is : indexIn (token (lexemesFrom b e)) names ≡ f
       index-is = ap (λ (u : Token). indexIn u names) (front-token b e s₂ start₂) ∙ sym found
 
-      behind-name : (a : TermRead) → readRootKind names a (lexemesFrom b at) ≡ cond (ltb f k) (got (phraseRead f a) (rest (lexemesFrom b e))) (faultAt notDeclared 0 (lexemesFrom b e))
+      behind-name : (a : TermRead) → readRootKind names a (lexemesFrom b at) ≡ cond (ltb f k) (parsed (phraseRead f a) (rest (lexemesFrom b e))) (faultAt notDeclared 0 (lexemesFrom b e))
       behind-name a =
           behind-colon a
           ∙ cond-true (isIdentifier (token (lexemesFrom b e))) _ _ (ap isIdentifier (front-token b e s₂ start₂) ∙ named)
-          ∙ ap₂ (λ (i j : ℕ). cond (ltb i j) (got (phraseRead i a) (rest (lexemesFrom b e))) (faultAt notDeclared 0 (lexemesFrom b e))) index-is (names-count b k g few)
+          ∙ ap₂ (λ (i j : ℕ). cond (ltb i j) (parsed (phraseRead i a) (rest (lexemesFrom b e))) (faultAt notDeclared 0 (lexemesFrom b e))) index-is (names-count b k g few)
 
       pub kind-unknown : k ≤ f → ReadsKind b at g k (NoKind (record { why = 10; at = s₂; of = 0 }))
       kind-unknown h a =
@@ -86,14 +86,14 @@ module _ (b g : List ℕ) (at k s : ℕ) (inside : at ≤ length b) (start : s �
             h,
             omega (arith, second .inside),
             λ a.
-                behind-name a ∙ cond-true (ltb f k) _ _ (lt-ltb f k h) ∙ ap (got (phraseRead f a)) (second .behind ∙ ap (lexemesFrom b) (sym end₂)),
+                behind-name a ∙ cond-true (ltb f k) _ _ (lt-ltb f k h) ∙ ap (parsed (phraseRead f a)) (second .behind ∙ ap (lexemesFrom b) (sym end₂)),
           )
 
 -- ---- a root of one byte
 
 pub leaf-refused : (b g o : List ℕ) (at k byte seen : ℕ) (y : KindAnswer) (x : Fault) → y ≡ NoKind x → ReadsKind b at g k y → ReadsLeaf b at g k byte seen o (Bad x)
 leaf-refused b g o at k byte seen y x is read W v a root named =
-    subst (λ (r : Got PhraseRead). ReadsPhrase W b o v r (Bad x)) (sym (subst (ReadsKind b at g k) is read a)) refl
+    subst (λ (r : Parsed PhraseRead). ReadsPhrase W b o v r (Bad x)) (sym (subst (ReadsKind b at g k) is read a)) refl
 
 two-set : (o : List ℕ) (x y : ℕ) → 2 ≤ length o → take 2 (set (set o 0 x) 1 y) ≡ x ∷ y ∷ []
 two-set [] x y h = absurd (omega arith)
@@ -107,7 +107,7 @@ pub leaf-read : (b g o : List ℕ) (at k byte seen : ℕ) (y : KindAnswer) (kind
     ReadsLeaf b at g k byte seen (set (set o 0 kind) 1 byte) (Read (record { label = length b; kind = kind; size = 2; seen = seen; at = e }))
 leaf-read b g o at k byte seen y kind e is read size few W v a root named =
     let told = subst (ReadsKind b at g k) is read in
-    subst (λ (r : Got PhraseRead). ReadsPhrase W b (set (set o 0 kind) 1 byte) v r (Read (record { label = length b; kind = kind; size = 2; seen = seen; at = e }))) (sym (told .2 a))
+    subst (λ (r : Parsed PhraseRead). ReadsPhrase W b (set (set o 0 kind) 1 byte) v r (Read (record { label = length b; kind = kind; size = 2; seen = seen; at = e }))) (sym (told .2 a))
     (record {
       label = sym (token-none b (length b) (omega arith));
       kind = refl;

@@ -20,8 +20,8 @@ use Rattle.texts.specs.Lexemes.{Token, Lexeme}
 use Rattle.texts.specs.Names.{same, opened, mark, opening, closing, comma, isVariable, indexIn}
 use Rattle.texts.specs.Spelling.{IsToken}
 use Rattle.texts.specs.Phrases.{termTokens}
-use Rattle.texts.specs.Faults.{Got, got, bad, andThen, placesWrong, tooDeep}
-use Rattle.texts.specs.PhraseReading.{Seen, TermRead, TermsRead, wordBytes, wordWhy, variableWhy, faultAt, withFirst, readPlaces, readBehind, readWord, readVariable, readNode, readTerm}
+use Rattle.texts.specs.Faults.{Parsed, parsed, bad, parseThen, placesWrong, placesOver, tooDeep}
+use Rattle.texts.specs.PhraseReading.{Seen, TermRead, TermsRead, wordBytes, wordWhy, variableWhy, faultAt, putFirst, parsePlaces, readBehind, parseWord, readVariable, readNode, parseTerm}
 use Rattle.texts.specs.Laws.{tokensOf}
 use Rattle.texts.proofs.Finding.{same-exact}
 use Rattle.texts.proofs.Standing.{Stands, stands-all}
@@ -83,10 +83,10 @@ module _ (K N : List Token) (W : Vocabulary) (named : Named K N W) where
       let g = open-places left ks comma s in
       record {
         lexemes = lexeme (mark c) ∷ lexeme opened ∷ g .lexemes;
-        read = withFirst any (g .read);
+        read = putFirst any (g .read);
         has =
             next-exact N W left c k ks s (lexeme (mark c)) (lexeme opened ∷ g .lexemes) refl (record { term = any; seen = s }) (g .lexemes)
-            (open-exact K N W named k s (lexeme opened) (g .lexemes) left refl) (got (g .read) []) (g .has);
+            (open-exact K N W named k s (lexeme opened) (g .lexemes) left refl) (parsed (g .read) []) (g .has);
         more = mark c ∷ opened ∷ tokensOf (g .lexemes);
         tokens = refl;
       }
@@ -98,11 +98,11 @@ module _ (K N : List Token) (W : Vocabulary) (named : Named K N W) where
       let g = open-places left ks comma (h .read .seen) in
       record {
         lexemes = x ∷ (h .lexemes ++ g .lexemes);
-        read = withFirst (h .read .term) (g .read);
+        read = putFirst (h .read .term) (g .read);
         has =
             next-exact N W left c k ks s x (h .lexemes ++ g .lexemes) e (h .read) (g .lexemes)
             (has-elsewhere left k s (h .lexemes) [] (h .lexemes ++ g .lexemes) (g .lexemes) (h .read) (h .has)
-            (λ ts. stands-more ts (h .lexemes) [] (g .lexemes))) (got (g .read) []) (g .has);
+            (λ ts. stands-more ts (h .lexemes) [] (g .lexemes))) (parsed (g .read) []) (g .has);
         more = h .more ++ tokensOf (g .lexemes);
         tokens =
             ap (λ (z : List Token). x .token ∷ z)
@@ -116,11 +116,11 @@ module _ (K N : List Token) (W : Vocabulary) (named : Named K N W) where
       CanTerms (inPlaces N c) W left (k ∷ ks) s (x .token ∷ (us ++ ws))
   can-next left c k ks s x e l r a h us st ws g = record {
     lexemes = x ∷ (asLexemes us ++ g .lexemes);
-    read = withFirst (a .term) (g .read);
+    read = putFirst (a .term) (g .read);
     has =
         next-exact N W left c k ks s x (asLexemes us ++ g .lexemes) e a (g .lexemes)
         (has-elsewhere left k s l r (asLexemes us ++ g .lexemes) (g .lexemes) a h
-        (λ ts q. subst (λ (z : List Token). Stands z (asLexemes us ++ g .lexemes) (g .lexemes)) (stands-same us ts l r st q) (as-stands us (g .lexemes)))) (got (g .read) []) (g .has);
+        (λ ts q. subst (λ (z : List Token). Stands z (asLexemes us ++ g .lexemes) (g .lexemes)) (stands-same us ts l r st q) (as-stands us (g .lexemes)))) (parsed (g .read) []) (g .has);
     more = g .more;
     tokens =
         ap (λ (z : List Token). x .token ∷ z)
@@ -133,7 +133,7 @@ module _ (K N : List Token) (W : Vocabulary) (named : Named K N W) where
   can-word left due s x fit us g = record {
     lexemes = x ∷ g .lexemes;
     read = record { term = app (indexIn (x .token) N) (g .read .terms); seen = g .read .seen };
-    has = word-exact K N W named due s x (g .lexemes) left fit (got (g .read) []) (g .has);
+    has = word-exact K N W named due s x (g .lexemes) left fit (parsed (g .read) []) (g .has);
     more = g .more;
     tokens = ap (λ (z : List Token). x .token ∷ z) (g .tokens);
   }
@@ -143,53 +143,53 @@ module _ (K N : List Token) (W : Vocabulary) (named : Named K N W) where
   module _ (below : Below) (left f : ℕ) (good : (k : ℕ) (s : Seen) (l : List Lexeme) → Lexed l → Reads N W left k s l (below k s l))
       (runs : (k : ℕ) (s : Seen) (l : List Lexeme) → Lexed l → Ended l → Ran (below k s) (CanTerm N W left k s) l (below k s l)) where
     pub places-ran : (ks : List ℕ) (c : ℕ) (s : Seen) (l : List Lexeme) → Lexed l → Ended l →
-        Ran (readPlaces below f c ks s) (CanTerms (inPlaces N c) W left ks s) l (readPlaces below f c ks s l)
+        Ran (parsePlaces below f c ks s) (CanTerms (inPlaces N c) W left ks s) l (parsePlaces below f c ks s l)
     places-ran [] c s [] a h = absurd h
     places-ran [] c s (x ∷ l) a h =
-        choice (Ran (readPlaces below f c [] s) (CanTerms (inPlaces N c) W left [] s) (x ∷ l)) (same (x .token) (mark closing))
-        (got (record { terms = nil; seen = s }) l) (faultAt placesWrong f (x ∷ l))
-        (λ e. ran-cons (readPlaces below f c [] s) (CanTerms (inPlaces N c) W left [] s) x l (λ l′. got (record { terms = nil; seen = s }) l′)
-        (λ at l′. cond-true (same (x .token) (mark closing)) _ _ e) (got (record { terms = nil; seen = s }) l)
+        choice (Ran (parsePlaces below f c [] s) (CanTerms (inPlaces N c) W left [] s) (x ∷ l)) (same (x .token) (mark closing))
+        (parsed (record { terms = nil; seen = s }) l) (faultAt placesOver f (x ∷ l))
+        (λ e. ran-cons (parsePlaces below f c [] s) (CanTerms (inPlaces N c) W left [] s) x l (λ l′. parsed (record { terms = nil; seen = s }) l′)
+        (λ at l′. cond-true (same (x .token) (mark closing)) _ _ e) (parsed (record { terms = nil; seen = s }) l)
         (ran-return (record { terms = nil; seen = s }) l (ended-rest (λ u. same u (mark closing)) x l refl e h)))
-        (λ e. ran-fault (readPlaces below f c [] s) (CanTerms (inPlaces N c) W left [] s) x l (λ at. record { why = placesWrong; at = at; of = f }) refl
+        (λ e. ran-fault (parsePlaces below f c [] s) (CanTerms (inPlaces N c) W left [] s) x l (λ at. record { why = placesOver; at = at; of = f }) refl
         (λ at l′. cond-false (same (x .token) (mark closing)) _ _ e) (open-places left [] c s))
     places-ran (k ∷ ks) c s [] a h = absurd h
     places-ran (k ∷ ks) c s (x ∷ l) a h =
-        choice (Ran (readPlaces below f c (k ∷ ks) s) (CanTerms (inPlaces N c) W left (k ∷ ks) s) (x ∷ l)) (same (x .token) (mark c))
-        (andThen (below k s l) behind) (faultAt placesWrong f (x ∷ l))
-        (λ e. ran-cons (readPlaces below f c (k ∷ ks) s) (CanTerms (inPlaces N c) W left (k ∷ ks) s) x l (λ l′. andThen (below k s l′) behind)
-        (λ at l′. cond-true (same (x .token) (mark c)) _ _ e) (andThen (below k s l) behind)
+        choice (Ran (parsePlaces below f c (k ∷ ks) s) (CanTerms (inPlaces N c) W left (k ∷ ks) s) (x ∷ l)) (same (x .token) (mark c))
+        (parseThen (below k s l) behind) (faultAt placesWrong f (x ∷ l))
+        (λ e. ran-cons (parsePlaces below f c (k ∷ ks) s) (CanTerms (inPlaces N c) W left (k ∷ ks) s) x l (λ l′. parseThen (below k s l′) behind)
+        (λ at l′. cond-true (same (x .token) (mark c)) _ _ e) (parseThen (below k s l) behind)
         (go (places-ran ks comma) (same-exact (x .token) (mark c) e) (ended-rest (λ u. same u (mark c)) x l refl e h)))
-        (λ e. ran-fault (readPlaces below f c (k ∷ ks) s) (CanTerms (inPlaces N c) W left (k ∷ ks) s) x l
+        (λ e. ran-fault (parsePlaces below f c (k ∷ ks) s) (CanTerms (inPlaces N c) W left (k ∷ ks) s) x l
         (λ at. record { why = placesWrong; at = at; of = f }) refl
         (λ at l′. cond-false (same (x .token) (mark c)) _ _ e) (open-places left (k ∷ ks) c s))
       where
-        behind : TermRead → List Lexeme → Got TermsRead
-        behind b r = andThen (readPlaces below f comma ks (b .seen) r) (λ ts r′. got (withFirst (b .term) ts) r′)
+        behind : TermRead → List Lexeme → Parsed TermsRead
+        behind b r = parseThen (parsePlaces below f comma ks (b .seen) r) (λ ts r′. parsed (putFirst (b .term) ts) r′)
 
         Can : List Token → Type 0
         Can ws = CanTerms (inPlaces N c) W left (k ∷ ks) s (x .token ∷ ws)
 
         go : ((s : Seen) (l : List Lexeme) → Lexed l → Ended l →
-            Ran (readPlaces below f comma ks s) (CanTerms (inPlaces N comma) W left ks s) l (readPlaces below f comma ks s l)) →
-            x .token ≡ mark c → Ended l → Ran (λ l′. andThen (below k s l′) behind) Can l (andThen (below k s l) behind)
+            Ran (parsePlaces below f comma ks s) (CanTerms (inPlaces N comma) W left ks s) l (parsePlaces below f comma ks s l)) →
+            x .token ≡ mark c → Ended l → Ran (λ l′. parseThen (below k s l′) behind) Can l (parseThen (below k s l) behind)
         go ih e n =
             ran-then (below k s) behind Can l (CanTerm N W left k s) (below k s l) (runs k s l (a .1) n)
             (λ us q. can-first left c k ks s x e us q)
             (λ b r t p.
             let has : HasRead N W left k s l b r = subst (Reads N W left k s l) p (good k s l (a .1)) in
-            ran-then (readPlaces below f comma ks (b .seen)) (λ ts r′. got (withFirst (b .term) ts) r′) (λ ws. Can (t .us ++ ws)) r
-            (CanTerms (inPlaces N comma) W left ks (b .seen)) (readPlaces below f comma ks (b .seen) r)
+            ran-then (parsePlaces below f comma ks (b .seen)) (λ ts r′. parsed (putFirst (b .term) ts) r′) (λ ws. Can (t .us ++ ws)) r
+            (CanTerms (inPlaces N comma) W left ks (b .seen)) (parsePlaces below f comma ks (b .seen) r)
             (ih (b .seen) r (stands-all (λ (x : Lexeme). (x .token ≡ []) ⊎ IsToken (x .token)) (t .us) l r (t .stands) (a .1)) (t .ended))
             (λ ws q. can-next left c k ks s x e l r b has (t .us) (t .stands) ws q)
-            (λ ts r′ t′ p′. ran-return (withFirst (b .term) ts) r′ (t′ .ended)))
+            (λ ts r′ t′ p′. ran-return (putFirst (b .term) ts) r′ (t′ .ended)))
 
     behind-ran : (ks : List ℕ) (s : Seen) (l : List Lexeme) → Lexed l → Ended l →
         Ran (readBehind below f ks s) (CanTerms (inBrackets N) W left ks s) l (readBehind below f ks s l)
     behind-ran [] s l a h = ran-return (record { terms = nil; seen = s }) l h
     behind-ran (k ∷ ks) s l a h =
-        ran-weaker (readPlaces below f opening (k ∷ ks) s) l (CanTerms (inPlaces N opening) W left (k ∷ ks) s)
-        (CanTerms (inBrackets N) W left (k ∷ ks) s) can (readPlaces below f opening (k ∷ ks) s l) (places-ran (k ∷ ks) opening s l a h)
+        ran-weaker (parsePlaces below f opening (k ∷ ks) s) l (CanTerms (inPlaces N opening) W left (k ∷ ks) s)
+        (CanTerms (inBrackets N) W left (k ∷ ks) s) can (parsePlaces below f opening (k ∷ ks) s l) (places-ran (k ∷ ks) opening s l a h)
       where
         can : (us : List Token) → CanTerms (inPlaces N opening) W left (k ∷ ks) s us → CanTerms (inBrackets N) W left (k ∷ ks) s us
         can us q = record {
@@ -215,10 +215,10 @@ module _ (K N : List Token) (W : Vocabulary) (named : Named K N W) where
     from-variable : isVariable (x .token) ≡ true → (why : ℕ) → variableWhy left s (x .token) ≡ why →
         Ran (readNode below N W left due s) (CanTerm N W left due s) (x ∷ l) (readVariable due s (x ∷ l) why)
     from-variable e zero q =
-        ran-cons (readNode below N W left due s) (CanTerm N W left due s) x l (λ l′. got b l′)
+        ran-cons (readNode below N W left due s) (CanTerm N W left due s) x l (λ l′. parsed b l′)
         (λ at l′. node-variable below N W left due s (record { at = at; token = x .token }) l′ e
         ∙ ap (readVariable due s (record { at = at; token = x .token } ∷ l′)) q)
-        (got b l) (ran-return b l (ended-rest isVariable x l refl e h))
+        (parsed b l) (ran-return b l (ended-rest isVariable x l refl e h))
       where
         b : TermRead
         b = record { term = var (length (s .variables)); seen = record { variables = s .variables ++ (x .token ∷ []); used = s .used + 1 } }
@@ -230,19 +230,19 @@ module _ (K N : List Token) (W : Vocabulary) (named : Named K N W) where
 
     node-other : same (x .token) opened ≡ false → isVariable (x .token) ≡ false → (at : ℕ) (l′ : List Lexeme) →
         readNode below N W left due s (record { at = at; token = x .token } ∷ l′)
-        ≡ readWord below N W left due s (record { at = at; token = x .token } ∷ l′) (wordWhy N W left due s (x .token))
+        ≡ parseWord below N W left due s (record { at = at; token = x .token } ∷ l′) (wordWhy N W left due s (x .token))
     node-other e v at l′ =
         cond-false (same (x .token) opened) _
         (cond (isVariable (x .token)) (readVariable due s (record { at = at; token = x .token } ∷ l′) (variableWhy left s (x .token)))
-        (readWord below N W left due s (record { at = at; token = x .token } ∷ l′) (wordWhy N W left due s (x .token)))) e
+        (parseWord below N W left due s (record { at = at; token = x .token } ∷ l′) (wordWhy N W left due s (x .token)))) e
         ∙ cond-false (isVariable (x .token)) _ _ v
 
     from-word : same (x .token) opened ≡ false → isVariable (x .token) ≡ false → (why : ℕ) → wordWhy N W left due s (x .token) ≡ why →
-        Ran (readNode below N W left due s) (CanTerm N W left due s) (x ∷ l) (readWord below N W left due s (x ∷ l) why)
+        Ran (readNode below N W left due s) (CanTerm N W left due s) (x ∷ l) (parseWord below N W left due s (x ∷ l) why)
     from-word e v zero q =
-        ran-cons (readNode below N W left due s) (CanTerm N W left due s) x l (λ l′. andThen (readBehind below f (word W f .kinds) s′ l′) made)
-        (λ at l′. node-other e v at l′ ∙ ap (readWord below N W left due s (record { at = at; token = x .token } ∷ l′)) q)
-        (andThen (readBehind below f (word W f .kinds) s′ l) made)
+        ran-cons (readNode below N W left due s) (CanTerm N W left due s) x l (λ l′. parseThen (readBehind below f (word W f .kinds) s′ l′) made)
+        (λ at l′. node-other e v at l′ ∙ ap (parseWord below N W left due s (record { at = at; token = x .token } ∷ l′)) q)
+        (parseThen (readBehind below f (word W f .kinds) s′ l) made)
         (ran-then (readBehind below f (word W f .kinds) s′) made (λ ws. CanTerm N W left due s (x .token ∷ ws)) l
         (CanTerms (inBrackets N) W under (word W f .kinds) s′) (readBehind below f (word W f .kinds) s′ l)
         (behind-ran below under f good runs (word W f .kinds) s′ l (a .1)
@@ -256,8 +256,8 @@ module _ (K N : List Token) (W : Vocabulary) (named : Named K N W) where
         s′ : Seen
         s′ = record { variables = s .variables; used = s .used + wordBytes }
 
-        made : TermsRead → List Lexeme → Got TermRead
-        made ts r = got (record { term = app f (ts .terms); seen = ts .seen }) r
+        made : TermsRead → List Lexeme → Parsed TermRead
+        made ts r = parsed (record { term = app f (ts .terms); seen = ts .seen }) r
 
         can : (us : List Token) → CanTerms (inBrackets N) W under (word W f .kinds) s′ us → CanTerm N W left due s (x .token ∷ us)
         can us g =
@@ -267,21 +267,21 @@ module _ (K N : List Token) (W : Vocabulary) (named : Named K N W) where
             (can-word under due s x (subst (λ (m : ℕ). WordFits N W m due s (x .token)) n fit) us g)
     from-word e v (suc why) q =
         ran-fault (readNode below N W left due s) (CanTerm N W left due s) x l (λ at. record { why = suc why; at = at; of = due }) refl
-        (λ at l′. node-other e v at l′ ∙ ap (readWord below N W left due s (record { at = at; token = x .token } ∷ l′)) q)
+        (λ at l′. node-other e v at l′ ∙ ap (parseWord below N W left due s (record { at = at; token = x .token } ∷ l′)) q)
         (open-term left due s)
 
     node-ran : Ran (readNode below N W left due s) (CanTerm N W left due s) (x ∷ l) (readNode below N W left due s (x ∷ l))
     node-ran =
         choice (Ran (readNode below N W left due s) (CanTerm N W left due s) (x ∷ l)) (same (x .token) opened)
-        (got (record { term = any; seen = s }) l)
+        (parsed (record { term = any; seen = s }) l)
         (cond (isVariable (x .token)) (readVariable due s (x ∷ l) (variableWhy left s (x .token)))
-        (readWord below N W left due s (x ∷ l) (wordWhy N W left due s (x .token))))
-        (λ e. ran-cons (readNode below N W left due s) (CanTerm N W left due s) x l (λ l′. got (record { term = any; seen = s }) l′)
-        (λ at l′. cond-true (same (x .token) opened) _ _ e) (got (record { term = any; seen = s }) l)
+        (parseWord below N W left due s (x ∷ l) (wordWhy N W left due s (x .token))))
+        (λ e. ran-cons (readNode below N W left due s) (CanTerm N W left due s) x l (λ l′. parsed (record { term = any; seen = s }) l′)
+        (λ at l′. cond-true (same (x .token) opened) _ _ e) (parsed (record { term = any; seen = s }) l)
         (ran-return (record { term = any; seen = s }) l (ended-rest (λ u. same u opened) x l refl e h)))
         (λ e. choice (Ran (readNode below N W left due s) (CanTerm N W left due s) (x ∷ l)) (isVariable (x .token))
         (readVariable due s (x ∷ l) (variableWhy left s (x .token)))
-        (readWord below N W left due s (x ∷ l) (wordWhy N W left due s (x .token)))
+        (parseWord below N W left due s (x ∷ l) (wordWhy N W left due s (x .token)))
         (λ v. from-variable v (variableWhy left s (x .token)) refl) (λ v. from-word e v (wordWhy N W left due s (x .token)) refl))
 
   too-deep : (k : ℕ) (s : Seen) (l : List Lexeme) → Lexed l → Ended l →
@@ -292,10 +292,10 @@ module _ (K N : List Token) (W : Vocabulary) (named : Named K N W) where
       (open-term zero k s)
 
   pub term-ran : (left due : ℕ) (s : Seen) (l : List Lexeme) → Lexed l → Ended l →
-      Ran (readTerm N W left due s) (CanTerm N W left due s) l (readTerm N W left due s l)
+      Ran (parseTerm N W left due s) (CanTerm N W left due s) l (parseTerm N W left due s l)
   term-ran zero due s [] a h = absurd h
   term-ran zero due s (x ∷ l) a h =
       node-ran (λ k s′ l′. faultAt tooDeep k l′) zero zero (λ z. absurd (omega arith)) (λ k s l b. tt) too-deep due s x l a h
   term-ran (suc left) due s [] a h = absurd h
   term-ran (suc left) due s (x ∷ l) a h =
-      node-ran (readTerm N W left) (suc left) left (λ z. refl) (λ k s l b. term-exact K N W named left k s l b) (λ k s l b n. term-ran left k s l b n) due s x l a h
+      node-ran (parseTerm N W left) (suc left) left (λ z. refl) (λ k s l b. term-exact K N W named left k s l b) (λ k s l b n. term-ran left k s l b n) due s x l a h

@@ -1,74 +1,159 @@
--- Course: patterns are read one behind the other, up to the end or a fault, and what a file is read as follows from its parts.
+-- Course: questions and paragraphs are read one behind the other, up to the end or a fault, and what a file is read as follows from
+-- its parts.
 --
---   enough                   the fuel of readPhrases does not matter once it is as many as the lexemes
---   phrases-end, phrases-bad, phrases-more    where the text ends, where a pattern is at fault, and where one is read
---   file-long, file-lexicon, file-phrases, file-well    what a file is read as
+--   questions-end, questions-bad, questions-more     where no question begins, where one is at fault, and where one is read
+--   questions-run, questions-go     how questions were read, and what is passed over
+--   paragraph-phrase, paragraph-questions, paragraph-read     where the pattern or a question is at fault, and where neither is
+--   Parts, paragraph-parts   what a paragraph was read of
+--   paragraph-takes          what is passed over
+--   goesOn l                 the text does not end there
+--   paragraphs-end, paragraphs-bad, paragraphs-more     where it ends, where a paragraph is at fault, and where one is read
+--   paragraphs-run           how paragraphs were read
+--   file-long, file-lexicon, file-paragraphs, file-well     what a file is read as
 --
-use mathlib.Core.Path.{_≡_, refl, sym, ap, _∙_}
-use mathlib.Core.Bool.{Bool, true, false, cond}
+use mathlib.Core.Path.{_≡_, refl, sym, ap, subst, subst₂, _∙_}
+use mathlib.Core.Bool.{Bool, true, false, not, cond}
 use mathlib.Core.List.{List, [], _∷_}
 use Prim.Native.Nat.{ℕ, zero, suc, _<_, _≤_}
 use native.Mathlib.Omega.{arith}
-use lib.Dec.{eqb, ltb}
+use lib.Dec.{eqb}
 use lib.ListN.{length}
-use borrow.Author.Tests.{eqb-true, lt-ltb, le-ltb, ne-eqb, eq-eqb}
+use borrow.Author.Tests.{lt-ltb, le-ltb, ne-eqb, eq-eqb}
+use Rattle.terms.specs.Term.{Ground}
 use Rattle.wire.specs.Vocabulary.{Vocabulary}
 use Rattle.wire.proofs.Cond.{cond-true, cond-false}
 use Rattle.texts.specs.Lexemes.{Token, Lexeme, lexemes}
 use Rattle.texts.specs.Phrases.{Phrase}
-use Rattle.texts.specs.Files.{mostText}
-use Rattle.texts.specs.Faults.{Fault, Got, got, bad, andThen, token, longText}
+use Rattle.texts.specs.Files.{mostText, Paragraph}
+use Rattle.texts.specs.Faults.{Fault, Parsed, parsed, bad, parseThen, token, longText}
 use Rattle.texts.specs.LexiconReading.{LexiconRead, readLexicon}
 use Rattle.texts.specs.PhraseReading.{readPhrase}
-use Rattle.texts.specs.Answering.{Read?, readWell, readIll, readPhrases, vocabularyRead, knownRead, knownNothing, withPhrases, withLexicon, readFile}
-use Rattle.texts.proofs.Passing.{Takes, phrase-takes}
+use Rattle.texts.specs.QuestionReading.{beginsQuestion, readQuestion, readQuestions}
+use Rattle.texts.specs.Answering.{readWell, readIll, asParagraph, readParagraph, readParagraphs, vocabularyRead, knownRead, knownNothing, withParagraphs, withLexicon, readFile}
+use Rattle.texts.proofs.Passing.{Takes, Goes, goes-then, takes-then, passed-none, phrase-takes, question-takes}
+use Rattle.texts.proofs.Series.{then-same, several, Run, several-goes, several-end, several-bad, several-more, several-run}
+
+-- ---- questions
+
+module _ (N : List Token) (W : Vocabulary) (p : Phrase) where
+  abbrev asked : List Lexeme → Parsed (List Ground)
+  asked l = readQuestions N W p (length l) l
+
+  questions-several : (n : ℕ) (l : List Lexeme) → readQuestions N W p n l ≡ several beginsQuestion (readQuestion N W p) n l
+  questions-several zero l = refl
+  questions-several (suc n) l =
+      ap (λ z. cond (beginsQuestion l) z (parsed [] l))
+      (then-same (readQuestion N W p l) _ _ (λ g r. ap (λ z. parseThen z (λ gs r′. parsed (g ∷ gs) r′)) (questions-several n r)))
+
+  pub questions-end : (l : List Lexeme) → beginsQuestion l ≡ false → asked l ≡ parsed [] l
+  questions-end l e = questions-several (length l) l ∙ several-end beginsQuestion (readQuestion N W p) refl (question-takes N W p) l e
+
+  pub questions-bad : (l : List Lexeme) (x : Fault) → beginsQuestion l ≡ true → readQuestion N W p l ≡ bad x → asked l ≡ bad x
+  questions-bad l x e h = questions-several (length l) l ∙ several-bad beginsQuestion (readQuestion N W p) refl (question-takes N W p) l x e h
+
+  pub questions-more : (l r : List Lexeme) (g : Ground) → beginsQuestion l ≡ true → readQuestion N W p l ≡ parsed g r →
+      asked l ≡ parseThen (asked r) (λ gs r′. parsed (g ∷ gs) r′)
+  questions-more l r g e h =
+      questions-several (length l) l
+      ∙ several-more beginsQuestion (readQuestion N W p) refl (question-takes N W p) l r g e h
+      ∙ ap (λ z. parseThen z (λ gs r′. parsed (g ∷ gs) r′)) (sym (questions-several (length r) r))
+
+  pub questions-run : (l : List Lexeme) (gs : List Ground) (r : List Lexeme) → asked l ≡ parsed gs r →
+      Run beginsQuestion (readQuestion N W p) l gs r
+  questions-run l gs r e =
+      several-run beginsQuestion (readQuestion N W p) refl (question-takes N W p) (length l) l gs r (omega arith)
+      (sym (questions-several (length l) l) ∙ e)
+
+  questions-go : (l : List Lexeme) → Goes l (asked l)
+  questions-go l =
+      subst (Goes l) (sym (questions-several (length l) l))
+      (several-goes beginsQuestion (readQuestion N W p) refl (question-takes N W p) (length l) l)
+
+-- ---- paragraphs
+
+-- A text ends with an empty lexeme.
+abbrev pub goesOn : List Lexeme → Bool
+goesOn l = not (eqb (length (token l)) 0)
+
+cond-not : {A : Type 0} (t : Bool) (a b : A) → cond t a b ≡ cond (not t) b a
+cond-not true a b = refl
+cond-not false a b = refl
+
+goes-on : (l : List Lexeme) → 0 < length (token l) → goesOn l ≡ true
+goes-on l h = ap not (ne-eqb (length (token l)) 0 (λ z. omega arith))
 
 module _ (K N : List Token) (W : Vocabulary) where
-  abbrev behind : ℕ → Phrase → List Lexeme → Got (List Phrase)
-  behind n p r = andThen (readPhrases K N W n r) (λ ps r′. got (p ∷ ps) r′)
+  abbrev behindPhrase : Phrase → List Lexeme → Parsed Paragraph
+  behindPhrase p r = parseThen (readQuestions N W p (length r) r) (λ gs r′. parsed (asParagraph p gs) r′)
 
-  abbrev whole : List Lexeme → Got (List Phrase)
-  whole l = readPhrases K N W (length l) l
+  pub paragraph-phrase : (l : List Lexeme) (x : Fault) → readPhrase K N W l ≡ bad x → readParagraph K N W l ≡ bad x
+  paragraph-phrase l x e = ap (λ z. parseThen z behindPhrase) e
 
-  none : (n : ℕ) → got [] [] ≡ readPhrases K N W n []
-  none zero = refl
-  none (suc n) = refl
+  pub paragraph-questions : (l r : List Lexeme) (p : Phrase) (x : Fault) → readPhrase K N W l ≡ parsed p r →
+      readQuestions N W p (length r) r ≡ bad x → readParagraph K N W l ≡ bad x
+  paragraph-questions l r p x e h =
+      ap (λ z. parseThen z behindPhrase) e ∙ ap (λ z. parseThen z (λ gs r′. parsed (asParagraph p gs) r′)) h
 
-  abbrev Enough : ℕ → Type 0
-  Enough n = (m : ℕ) (l : List Lexeme) → length l ≤ n → length l ≤ m → readPhrases K N W n l ≡ readPhrases K N W m l
+  pub paragraph-read : (l m r : List Lexeme) (p : Phrase) (gs : List Ground) → readPhrase K N W l ≡ parsed p m →
+      readQuestions N W p (length m) m ≡ parsed gs r → readParagraph K N W l ≡ parsed (asParagraph p gs) r
+  paragraph-read l m r p gs e h =
+      ap (λ z. parseThen z behindPhrase) e ∙ ap (λ z. parseThen z (λ gs r′. parsed (asParagraph p gs) r′)) h
 
-  enough : (n : ℕ) → Enough n
-  enough zero m [] h k = none m
-  enough zero m (x ∷ l) h k = absurd (omega arith)
-  enough (suc n) m [] h k = none m
-  enough (suc n) zero (x ∷ l) h k = absurd (omega arith)
-  enough (suc n) (suc m) (x ∷ l) h k =
-      ap (λ y. cond (eqb (length (x .token)) 0) (got [] (x ∷ l)) y)
-      (same (enough n m) (readPhrase K N W (x ∷ l)) (phrase-takes K N W (x ∷ l)))
+  pub record Parts (l : List Lexeme) (q : Paragraph) (r : List Lexeme) : Type 0 where
+    pub between : List Lexeme
+    pub phrase : readPhrase K N W l ≡ parsed (q .phrase) between
+    pub questions : readQuestions N W (q .phrase) (length between) between ≡ parsed (q .situations) r
+
+  pub paragraph-parts : (l : List Lexeme) (q : Paragraph) (r : List Lexeme) → readParagraph K N W l ≡ parsed q r → Parts l q r
+  paragraph-parts l q r e = phrases (readPhrase K N W l) refl e
     where
-      same : ((r : List Lexeme) → length r ≤ n → length r ≤ m → readPhrases K N W n r ≡ readPhrases K N W m r) → (y : Got Phrase) →
-          Takes (x ∷ l) y → andThen y (behind n) ≡ andThen y (behind m)
-      same ih (bad z) t = refl
-      same ih (got p r) t = let s = t .1 in ap (λ y. andThen y (λ ps r′. got (p ∷ ps) r′)) (ih r (omega arith) (omega arith))
+      asked-parts : (p : Phrase) (m : List Lexeme) → readPhrase K N W l ≡ parsed p m → (y : Parsed (List Ground)) →
+          readQuestions N W p (length m) m ≡ y → parseThen y (λ gs r′. parsed (asParagraph p gs) r′) ≡ parsed q r → Parts l q r
+      asked-parts p m h (bad x) k e = let z : _≡_ {A = ℕ} 0 1 = cc in absurd (omega arith)
+      asked-parts p m h (parsed gs r′) k e =
+          let same : asParagraph p gs ≡ q = cc in
+          let here : r′ ≡ r = cc in
+          subst₂ (Parts l) same here (record { between = m; phrase = h; questions = k })
 
-  pub phrases-end : (l : List Lexeme) → length (token l) ≡ 0 → whole l ≡ got [] l
-  phrases-end [] h = refl
-  phrases-end (x ∷ l) h = cond-true _ _ _ (eq-eqb (length (x .token)) 0 h)
+      phrases : (y : Parsed Phrase) → readPhrase K N W l ≡ y → parseThen y behindPhrase ≡ parsed q r → Parts l q r
+      phrases (bad x) h e = let z : _≡_ {A = ℕ} 0 1 = cc in absurd (omega arith)
+      phrases (parsed p m) h e = asked-parts p m h (readQuestions N W p (length m) m) refl e
 
-  pub phrases-bad : (l : List Lexeme) (x : Fault) → 0 < length (token l) → readPhrase K N W l ≡ bad x → whole l ≡ bad x
-  phrases-bad [] x h e = absurd (omega arith)
-  phrases-bad (y ∷ l) x h e = cond-false _ _ _ (ne-eqb (length (y .token)) 0 (λ z. omega arith)) ∙ ap (λ z. andThen z (behind (length l))) e
+  pub paragraph-takes : (l : List Lexeme) → Takes l (readParagraph K N W l)
+  paragraph-takes l =
+      takes-then l (readPhrase K N W l) behindPhrase (phrase-takes K N W l)
+      (λ p r. goes-then r (readQuestions N W p (length r) r) (λ gs r′. parsed (asParagraph p gs) r′) (questions-go N W p r) (λ gs r′. passed-none r′))
 
-  pub phrases-more : (l r : List Lexeme) (p : Phrase) → 0 < length (token l) → readPhrase K N W l ≡ got p r →
-      whole l ≡ andThen (whole r) (λ ps r′. got (p ∷ ps) r′)
-  phrases-more [] r p h e = absurd (omega arith)
-  phrases-more (y ∷ l) r p h e =
-      cond-false _ _ _ (ne-eqb (length (y .token)) 0 (λ z. omega arith)) ∙ ap (λ z. andThen z (behind (length l))) e
-      ∙ ap (λ z. andThen z (λ ps r′. got (p ∷ ps) r′)) (enough (length l) (length r) r (shorter (readPhrase K N W (y ∷ l)) (phrase-takes K N W (y ∷ l)) e) (omega arith))
-    where
-      shorter : (z : Got Phrase) → Takes (y ∷ l) z → z ≡ got p r → length r ≤ length l
-      shorter (bad x) t q = let z : _≡_ {A = ℕ} 0 1 = cc in absurd (omega arith)
-      shorter (got p′ r′) t q = let s = t .1 in let same : r′ ≡ r = cc in omega (arith, ap length same)
+  abbrev told : List Lexeme → Parsed (List Paragraph)
+  told l = readParagraphs K N W (length l) l
+
+  paragraphs-several : (n : ℕ) (l : List Lexeme) → readParagraphs K N W n l ≡ several goesOn (readParagraph K N W) n l
+  paragraphs-several zero l = refl
+  paragraphs-several (suc n) l =
+      cond-not (eqb (length (token l)) 0) (parsed [] l) _
+      ∙ ap (λ z. cond (goesOn l) z (parsed [] l))
+      (then-same (readParagraph K N W l) _ _ (λ q r. ap (λ z. parseThen z (λ qs r′. parsed (q ∷ qs) r′)) (paragraphs-several n r)))
+
+  pub paragraphs-end : (l : List Lexeme) → length (token l) ≡ 0 → told l ≡ parsed [] l
+  paragraphs-end l h =
+      paragraphs-several (length l) l
+      ∙ several-end goesOn (readParagraph K N W) refl (λ l e. paragraph-takes l) l (ap not (eq-eqb (length (token l)) 0 h))
+
+  pub paragraphs-bad : (l : List Lexeme) (x : Fault) → 0 < length (token l) → readParagraph K N W l ≡ bad x → told l ≡ bad x
+  paragraphs-bad l x h e =
+      paragraphs-several (length l) l ∙ several-bad goesOn (readParagraph K N W) refl (λ l e. paragraph-takes l) l x (goes-on l h) e
+
+  pub paragraphs-more : (l r : List Lexeme) (q : Paragraph) → 0 < length (token l) → readParagraph K N W l ≡ parsed q r →
+      told l ≡ parseThen (told r) (λ qs r′. parsed (q ∷ qs) r′)
+  paragraphs-more l r q h e =
+      paragraphs-several (length l) l
+      ∙ several-more goesOn (readParagraph K N W) refl (λ l e. paragraph-takes l) l r q (goes-on l h) e
+      ∙ ap (λ z. parseThen z (λ qs r′. parsed (q ∷ qs) r′)) (sym (paragraphs-several (length r) r))
+
+  pub paragraphs-run : (l : List Lexeme) (qs : List Paragraph) (r : List Lexeme) → told l ≡ parsed qs r → Run goesOn (readParagraph K N W) l qs r
+  paragraphs-run l qs r e =
+      several-run goesOn (readParagraph K N W) refl (λ l e. paragraph-takes l) (length l) l qs r (omega arith)
+      (sym (paragraphs-several (length l) l) ∙ e)
 
 -- ---- a file
 
@@ -83,12 +168,12 @@ module _ (b : List ℕ) where
     pub file-lexicon : (x : Fault) → readLexicon (lexemes b) ≡ bad x → readFile b ≡ readIll x knownNothing
     file-lexicon x e = by-lexicon ∙ ap withLexicon e
 
-    module _ (a : LexiconRead) (r : List Lexeme) (e : readLexicon (lexemes b) ≡ got a r) where
-      abbrev read : Got (List Phrase)
-      read = readPhrases (a .kindNames) (a .wordNames) (vocabularyRead a) (length r) r
+    module _ (a : LexiconRead) (r : List Lexeme) (e : readLexicon (lexemes b) ≡ parsed a r) where
+      abbrev read : Parsed (List Paragraph)
+      read = readParagraphs (a .kindNames) (a .wordNames) (vocabularyRead a) (length r) r
 
-      pub file-phrases : (x : Fault) → read ≡ bad x → readFile b ≡ readIll x (knownRead a)
-      file-phrases x h = by-lexicon ∙ ap withLexicon e ∙ ap (withPhrases a) h
+      pub file-paragraphs : (x : Fault) → read ≡ bad x → readFile b ≡ readIll x (knownRead a)
+      file-paragraphs x h = by-lexicon ∙ ap withLexicon e ∙ ap (withParagraphs a) h
 
-      pub file-well : (ps : List Phrase) (r′ : List Lexeme) → read ≡ got ps r′ → readFile b ≡ readWell a ps
-      file-well ps r′ h = by-lexicon ∙ ap withLexicon e ∙ ap (withPhrases a) h
+      pub file-well : (qs : List Paragraph) (r′ : List Lexeme) → read ≡ parsed qs r′ → readFile b ≡ readWell a qs
+      file-well qs r′ h = by-lexicon ∙ ap withLexicon e ∙ ap (withParagraphs a) h

@@ -30,7 +30,7 @@ use Rattle.wire.proofs.Levels.{deepest-bytes}
 use Rattle.wire.proofs.Entries.{entries-are-good}
 use Rattle.wire.proofs.EntryLevels.{listing-deepest}
 use Rattle.texts.specs.Lexemes.{Token}
-use Rattle.texts.specs.Lexicon.{WordText, Lexicon, wordsOf, fullMap, asWord, recordsFrom, vocabularyOf, GoodWord, GoodLexicon}
+use Rattle.texts.specs.Lexicon.{WordText, Lexicon, allWords, gaplessMap, asWord, recordsFrom, vocabularyOf, GoodWord, GoodLexicon}
 use Rattle.texts.specs.Phrases.{GoodPhrase}
 use Rattle.texts.specs.Laws.{Sayable}
 use Rattle.texts.proofs.Lexicon.{count-names}
@@ -39,7 +39,7 @@ use Rattle.texts.proofs.Telling.{lexicon-named}
 
 -- ---- the vocabulary
 
-full-ones : (d n : ℕ) → n ≤ d → ones (flagsIn d (fullMap n)) ≡ n
+full-ones : (d n : ℕ) → n ≤ d → ones (flagsIn d (gaplessMap n)) ≡ n
 full-ones zero zero h = refl
 full-ones zero (suc n) h = absurd (omega arith)
 full-ones (suc d) zero h = let ih = full-ones d zero (omega arith) in omega arith
@@ -67,19 +67,19 @@ word-places kinds k w good = record {
   places = good .places;
 }
 
-records-places : (kinds k : ℕ) (X : Lexicon) → All (GoodWord kinds) (wordsOf X) → All (Places kinds) (recordsFrom k X)
+records-places : (kinds k : ℕ) (X : Lexicon) → All (GoodWord kinds) (allWords X) → All (Places kinds) (recordsFrom k X)
 records-places kinds k [] h = tt
 records-places kinds k (x ∷ X) h =
     all-append (Places kinds) (map (asWord k) (x .words)) (recordsFrom (suc k) X)
     (all-map (Places kinds) (asWord k) (x .words)
     (all-implies (GoodWord kinds) (λ w. Places kinds (asWord k w)) (word-places kinds k) (x .words)
-    (all-left (GoodWord kinds) (x .words) (wordsOf X) h)))
-    (records-places kinds (suc k) X (all-right (GoodWord kinds) (x .words) (wordsOf X) h))
+    (all-left (GoodWord kinds) (x .words) (allWords X) h)))
+    (records-places kinds (suc k) X (all-right (GoodWord kinds) (x .words) (allWords X) h))
 
 pub lexicon-in-order : (X : Lexicon) → GoodLexicon X → InOrder (vocabularyOf X)
 lexicon-in-order X good =
     let named = lexicon-named X good in
-    let n : length (recordsFrom 0 X) ≡ length (wordsOf X) = sym (named .count) ∙ count-names X in
+    let n : length (recordsFrom 0 X) ≡ length (allWords X) = sym (named .count) ∙ count-names X in
     record {
       someKind = good .someKind;
       fewKinds = good .fewKinds;

@@ -15,7 +15,7 @@ use Rattle.wire.specs.Text.{ascii}
 use Rattle.texts.specs.Lexemes.{Token, tokens, lexemes}
 use Rattle.texts.specs.Lexicon.{WordText, KindText, Lexicon, kindNames, wordNames, lexiconTokens, lexiconText, vocabularyOf}
 use Rattle.texts.specs.Phrases.{phraseTokens, phraseText}
-use Rattle.texts.specs.Faults.{got, bad, otherKind, notDeclared, kindTwice}
+use Rattle.texts.specs.Faults.{parsed, bad, otherKind, placesOver, notDeclared, kindTwice}
 use Rattle.texts.specs.Complaints.{Known, complaint}
 use Rattle.texts.specs.LexiconReading.{readLexicon}
 use Rattle.texts.specs.PhraseReading.{readPhrase}
@@ -59,15 +59,19 @@ reads-back : tokens (ascii "wait (?n ,\n _ )") ≡ phraseTokens benchLexicon (as
 reads-back = refl
 
 reads-phrase : readPhrase (kindNames benchLexicon) (wordNames benchLexicon) (vocabularyOf benchLexicon) (lexemes (ascii "go: wait(?n,free)")) ≡
-    got (record { label = ascii "go"; kind = 0; term = app 0 (cons (var 0) (cons (app 4 nil) nil)); variables = ascii "?n" ∷ [] }) (record { at = 17; token = [] } ∷ [])
+    parsed (record { label = ascii "go"; kind = 0; term = app 0 (cons (var 0) (cons (app 4 nil) nil)); variables = ascii "?n" ∷ [] }) (record { at = 17; token = [] } ∷ [])
 reads-phrase = refl
 
 wrong-kind : readPhrase (kindNames benchLexicon) (wordNames benchLexicon) (vocabularyOf benchLexicon) (lexemes (ascii "wait(up, up)")) ≡
     bad (record { why = otherKind; at = 9; of = 2 })
 wrong-kind = refl
 
+one-over : readPhrase (kindNames benchLexicon) (wordNames benchLexicon) (vocabularyOf benchLexicon) (lexemes (ascii "wait(up, free, up)")) ≡
+    bad (record { why = placesOver; at = 13; of = 0 })
+one-over = refl
+
 reads-lexicon : readLexicon (lexemes bench) ≡
-    got
+    parsed
     (record {
       kindNames = kindNames benchLexicon;
       wordNames = wordNames benchLexicon;
@@ -101,3 +105,7 @@ complains = refl
 complains-twice : complaint (ascii "kind a\n\tkind a") known (record { why = kindTwice; at = 13; of = 0 }) ≡
     ascii "line 2, column 7: kind a is declared twice\n\tkind a\n\t     ^\n"
 complains-twice = refl
+
+complains-over : complaint (ascii "wait(up, free, up)\r\n") known (record { why = placesOver; at = 13; of = 0 }) ≡
+    ascii "line 1, column 14: wait takes 2 places, and 3 are written\nwait(up, free, up)\n             ^\n"
+complains-over = refl

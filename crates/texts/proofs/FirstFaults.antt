@@ -1,5 +1,8 @@
 -- FirstFaults: where a pattern is refused, the place of the fault is the first byte at fault.
 --
+--   stands-before            the lexemes with the tokens that stand there
+--   going us u more, going-tokens    lexemes with the tokens us, then u, then any
+--   never-both               what is read is not at fault
 --   first-short              a name with which a good pattern begins is not too long
 --   root-first, label-first, long-first    a fault of a pattern without label, behind a label, of a label itself
 --   phrase-faults-are-first  a fault of any pattern
@@ -23,7 +26,7 @@ use Rattle.texts.specs.Names.{same, opened, mark, colon, mostName, isIde
 use Rattle.texts.specs.Spelling.{IsToken}
 use Rattle.texts.specs.Lexicon.{Lexicon, kindNames, wordNames, vocabularyOf, GoodLexicon}
 use Rattle.texts.specs.Phrases.{Phrase, IsLabel, labelTokens, phraseTokens, GoodPhrase}
-use Rattle.texts.specs.Faults.{Fault, Got, got, bad, andThen, token, longName}
+use Rattle.texts.specs.Faults.{Fault, Parsed, parsed, bad, parseThen, token, longName}
 use Rattle.texts.specs.PhraseReading.{PhraseRead, faultAt, readRoot, labelled}
 use Rattle.texts.specs.Laws.{tokensOf, FirstFault, beginsLabel, PhraseFirst, PhraseFaultsAreFirst}
 use Rattle.texts.proofs.Finding.{same-exact}
@@ -45,25 +48,24 @@ as-first : (us : List Token) → token (asLexemes us) ≡ nameAt us 0
 as-first [] = refl
 as-first (u ∷ us) = refl
 
-stands-before : (us : List Token) (l r : List Lexeme) → Stands us l r → (before : List Lexeme) × (l ≡ before ++ r) × (tokensOf before ≡ us)
+pub stands-before : (us : List Token) (l r : List Lexeme) → Stands us l r → (before : List Lexeme) × (l ≡ before ++ r) × (tokensOf before ≡ us)
 stands-before [] l r h = ([], h, refl)
 stands-before (u ∷ us) [] r h = absurd h
 stands-before (u ∷ us) (x ∷ l) r h =
     let b = stands-before us l r (h .1) in (x ∷ b .0, ap (λ (z : List Lexeme). x ∷ z) (b .1), cc)
 
--- Lexemes with the tokens us, then u, then any.
-abbrev going : List Token → Token → List Token → List Lexeme
+abbrev pub going : List Token → Token → List Token → List Lexeme
 going us u more = asLexemes us ++ (record { at = 0; token = u } ∷ asLexemes more)
 
-going-tokens : (us : List Token) (u : Token) (more : List Token) → tokensOf (going us u more) ≡ us ++ (u ∷ more)
+pub going-tokens : (us : List Token) (u : Token) (more : List Token) → tokensOf (going us u more) ≡ us ++ (u ∷ more)
 going-tokens us u more = as-tokens us (record { at = 0; token = u } ∷ asLexemes more) ∙ ap (λ (z : List Token). us ++ (u ∷ z)) (as-only more)
 
-never-both : {A : Type 0} (y : Got A) (a : A) (r : List Lexeme) (x : Fault) → y ≡ got a r → y ≡ bad x → ⊥
+pub never-both : {A : Type 0} (y : Parsed A) (a : A) (r : List Lexeme) (x : Fault) → y ≡ parsed a r → y ≡ bad x → ⊥
 never-both y a r x e h = let z : _≡_ {A = ℕ} 0 1 = cc in omega arith
 
 -- ---- names
 
-abbrev roots : Lexicon → List Lexeme → Got PhraseRead
+abbrev roots : Lexicon → List Lexeme → Parsed PhraseRead
 roots X l = readRoot (kindNames X) (wordNames X) (vocabularyOf X) l
 
 module _ (X : Lexicon) (lex : GoodLexicon X) where
@@ -172,7 +174,7 @@ module _ (X : Lexicon) (lex : GoodLexicon X) where
     label-never l z e =
         cond-true (isIdentifier (x .token) && same (y .token) (mark colon)) _ (roots X (x ∷ y ∷ l)) (and-both _ _ (is .identifier) colons)
         ∙ (cond-true (leb (length (x .token)) mostName) _ (faultAt longName 0 (x ∷ y ∷ l)) (le-leb (length (x .token)) mostName (is .short))
-        ∙ ap (λ (w : Got PhraseRead). andThen w (λ p r. got (labelled (x .token) p) r)) e)
+        ∙ ap (λ (w : Parsed PhraseRead). parseThen w (λ p r. parsed (labelled (x .token) p) r)) e)
 
     label-first : (l : List Lexeme) (f : Fault) → Stopped (roots X) (CanRoot X) l f →
         FirstFault (PhraseFirst X (beginsLabel (x ∷ y ∷ l))) (x ∷ y ∷ l) (f .at)
@@ -218,15 +220,15 @@ module _ (X : Lexicon) (lex : GoodLexicon X) where
 
   -- ---- any pattern
 
-  abbrev First : List Lexeme → Got PhraseRead → Type 0
+  abbrev First : List Lexeme → Parsed PhraseRead → Type 0
   First l y = (x : Fault) → y ≡ bad x → FirstFault (PhraseFirst X (beginsLabel l)) l (x .at)
 
   no-label : (l : List Lexeme) → Lexed l → Ended l → beginsLabel l ≡ false → First l (roots X l)
   no-label l a h e x q = root-first l x e (subst (Halts (roots X) (CanRoot X) l) q (root-halts X lex l a h))
 
-  with-label : (x y : Lexeme) → IsIdentifier (x .token) → same (y .token) (mark colon) ≡ true → (l : List Lexeme) (z : Got PhraseRead) →
-      Halts (roots X) (CanRoot X) l z → First (x ∷ y ∷ l) (andThen z (λ p r. got (labelled (x .token) p) r))
-  with-label x y is colons l (got p r) h f q = let z : _≡_ {A = ℕ} 0 1 = cc in absurd (omega arith)
+  with-label : (x y : Lexeme) → IsIdentifier (x .token) → same (y .token) (mark colon) ≡ true → (l : List Lexeme) (z : Parsed PhraseRead) →
+      Halts (roots X) (CanRoot X) l z → First (x ∷ y ∷ l) (parseThen z (λ p r. parsed (labelled (x .token) p) r))
+  with-label x y is colons l (parsed p r) h f q = let z : _≡_ {A = ℕ} 0 1 = cc in absurd (omega arith)
   with-label x y is colons l (bad b) h f q =
       label-first x y is colons l f (let e : b ≡ f = cc in subst (Stopped (roots X) (CanRoot X) l) e h)
 

@@ -18,10 +18,10 @@ use borrow.Author.Tests.{ltb-true, ltb-false, leb-true, eqb-true, eqb-false}
 use Rattle.terms.specs.Lists.{All}
 use Rattle.wire.specs.Vocabulary.{Vocabulary, word}
 use Rattle.wire.specs.TermBytes.{nameCount, mostBytes}
-use Rattle.texts.specs.Lexemes.{Token, Lexeme, isName}
+use Rattle.texts.specs.Lexemes.{Token, Lexeme, isNameByte}
 use Rattle.texts.specs.Names.{mostName, isIdentifier, isVariable, indexIn, IsIdentifier, IsVariable}
 use Rattle.texts.specs.Spelling.{IsToken, run, single}
-use Rattle.texts.specs.Faults.{token, termDue, noWord, otherKind, tooDeep, tooLong, variableTwice, manyVariables, longName}
+use Rattle.texts.specs.Faults.{token, termDue, unknownWord, otherKind, tooDeep, tooLong, variableTwice, manyVariables, longName}
 use Rattle.texts.specs.PhraseReading.{Seen, wordBytes, wordWhy, variableWhy}
 use Rattle.texts.proofs.Telling.{begins-name}
 
@@ -30,7 +30,7 @@ use Rattle.texts.proofs.Telling.{begins-name}
 abbrev pub Lexed : List Lexeme → Type 0
 Lexed l = All (λ (x : Lexeme). (x .token ≡ []) ⊎ IsToken (x .token)) l
 
-behind-names : {u : Token} → IsToken u → All (λ c. isName c ≡ true) (drop 1 u)
+behind-names : {u : Token} → IsToken u → All (λ c. isNameByte c ≡ true) (drop 1 u)
 behind-names (run b u r a) = a
 behind-names (single b r e c) = tt
 
@@ -68,7 +68,7 @@ pub record WordFits (N : List Token) (W : Vocabulary) (left due : ℕ) (s : Seen
 pub word-fits : (N : List Token) (W : Vocabulary) (left due : ℕ) (s : Seen) (u : Token) → wordWhy N W left due s u ≡ 0 → WordFits N W left due s u
 word-fits N W left due s u e =
     let a = first-fine (isIdentifier u) _ termDue (omega arith) e in
-    let b = first-fine (ltb (indexIn u N) (length N)) _ noWord (omega arith) (a .1) in
+    let b = first-fine (ltb (indexIn u N) (length N)) _ unknownWord (omega arith) (a .1) in
     let c = first-fine (eqb (word W (indexIn u N) .result) due) _ otherKind (omega arith) (b .1) in
     let d = second-fine (eqb left 0) _ tooDeep (omega arith) (c .1) in
     let f = first-fine (leb (s .used + wordBytes) mostBytes) 0 tooLong (omega arith) (d .1) in

@@ -16,7 +16,7 @@ use borrow.Author.Tests.{lt-ltb, ltb-true, ltb-false, ne-eqb}
 use Rattle.terms.specs.Lists.{All, keep}
 use Rattle.terms.proofs.Bools.{and-both}
 use Rattle.wire.specs.Vocabulary.{mostWords}
-use Rattle.texts.specs.Lexemes.{Token, isName}
+use Rattle.texts.specs.Lexemes.{Token, isNameByte}
 use Rattle.texts.specs.Names.{same, opened, IsIdentifier, indexIn}
 use Rattle.texts.proofs.Lookups.{same-eq, same-other, absent-cons, absent-first, index-le}
 
@@ -24,20 +24,20 @@ use Rattle.texts.proofs.Lookups.{same-eq, same-other, absent-cons, abse
 abbrev small : ℕ → Token
 small k = (128 + k) ∷ []
 
-beyond : (b : ℕ) → ltb 127 b ≡ true → isName b ≡ true
+beyond : (b : ℕ) → ltb 127 b ≡ true → isNameByte b ≡ true
 beyond b e = simp (e, or-true)
 
 small-name : (k : ℕ) → IsIdentifier (small k)
 small-name k = record {
   characters = (begins, tt);
   identifier =
-      and-both (isName (128 + k)) _ begins
+      and-both (isNameByte (128 + k)) _ begins
       (and-both (not (same (small k) opened)) _ (ap not (ap (λ (b : Bool). b && true) (ne-eqb (128 + k) 95 (λ e. omega arith))))
       (ap not (and-false (eqb (128 + k) 107))));
   short = omega arith;
 }
   where
-    begins : isName (128 + k) ≡ true
+    begins : isNameByte (128 + k) ≡ true
     begins = beyond (128 + k) (lt-ltb 127 (128 + k) (omega arith))
 
 small-other : (k m : ℕ) → k < m → same (small k) (small m) ≡ false

@@ -27,10 +27,10 @@ use Rattle.terms.proofs.All.{all-at, all-append, all-left, all-right}
 use Rattle.terms.proofs.Bools.{and-parts}
 use Rattle.wire.specs.Vocabulary.{mostKinds}
 use Rattle.wire.proofs.Cond.{cond-true, cond-false}
-use Rattle.texts.specs.Lexemes.{Token, Lexeme, isName, isRun, asking}
+use Rattle.texts.specs.Lexemes.{Token, Lexeme, isNameByte, isRun, asking}
 use Rattle.texts.specs.Names.{same, kindWord, mark, comma, bar, equals, opening, closing, mostName, beginsName, isIdentifier, IsIdentifier, indexIn, nameAt, Distinct}
 use Rattle.texts.specs.Spelling.{IsToken, run, single}
-use Rattle.texts.specs.Lexicon.{WordText, KindText, Lexicon, kindNames, wordsOf, placesTokens, bracketed, wordsTokens, kindsTokens, GoodWord}
+use Rattle.texts.specs.Lexicon.{WordText, KindText, Lexicon, kindNames, allWords, placeKindTokens, withPlaces, wordsTokens, kindsTokens, GoodWord}
 use Rattle.texts.specs.Faults.{token, longName, kindNameDue, kindTwice, manyKinds}
 use Rattle.texts.specs.LexiconReading.{nameWhy, kindNameWhy, named, kindNamed, readKindNames}
 use Rattle.texts.specs.Laws.{tokensOf, namesBehind}
@@ -66,7 +66,7 @@ name-fits d t m most seen u e =
       room = ltb-true _ _ s;
     }
 
-name-run : (b : ℕ) → isName b ≡ true → isRun b ≡ true
+name-run : (b : ℕ) → isNameByte b ≡ true → isRun b ≡ true
 name-run b e = ap (λ (c : Bool). c || eqb b asking) e
 
 -- A text has an empty token at its end alone.
@@ -77,11 +77,11 @@ Tokened u = (u ≡ []) ⊎ IsToken u
 pub identifier : (u : Token) → Tokened u → isIdentifier u ≡ true → length u ≤ mostName → IsIdentifier u
 identifier u t e s = record { characters = go u t e; identifier = e; short = s }
   where
-    within : (u : Token) → IsToken u → beginsName u ≡ true → All (λ b. isName b ≡ true) u
+    within : (u : Token) → IsToken u → beginsName u ≡ true → All (λ b. isNameByte b ≡ true) u
     within u (run b v r a) e = (e, a)
     within u (single b n x y) e = absurd (true≢false (sym (name-run b e) ∙ n))
 
-    go : (u : Token) → Tokened u → isIdentifier u ≡ true → All (λ b. isName b ≡ true) u
+    go : (u : Token) → Tokened u → isIdentifier u ≡ true → All (λ b. isNameByte b ≡ true) u
     go u (inl z) e = absurd (false≢true (sym (ap isIdentifier z) ∙ e))
     go u (inr t) e = within u t (and-parts (beginsName u) _ e .0)
 
@@ -115,16 +115,16 @@ pub mark-no-kind : (c : ℕ) → same (mark c) kindWord ≡ false
 mark-no-kind c = and-false (eqb c 107)
 
 module _ (K : List Token) (good : All (λ u. isIdentifier u ≡ true) K) where
-  quiet-places : (c : ℕ) (ps : List ℕ) → All (λ k. k < length K) ps → Quiet (placesTokens K c ps)
+  quiet-places : (c : ℕ) (ps : List ℕ) → All (λ k. k < length K) ps → Quiet (placeKindTokens K c ps)
   quiet-places c [] a = (mark-no-kind closing, tt)
   quiet-places c (p ∷ ps) a = (
     mark-no-kind c,
     (identifier-no-kind (nameAt K p) (all-at (λ u. isIdentifier u ≡ true) [] K good p (a .0)), quiet-places comma ps (a .1)),
   )
 
-  quiet-bracketed : (ps : List ℕ) → All (λ k. k < length K) ps → Quiet (bracketed ps (placesTokens K opening ps))
-  quiet-bracketed [] a = tt
-  quiet-bracketed (p ∷ ps) a = quiet-places opening (p ∷ ps) a
+  quiet-withPlaces : (ps : List ℕ) → All (λ k. k < length K) ps → Quiet (withPlaces ps (placeKindTokens K opening ps))
+  quiet-withPlaces [] a = tt
+  quiet-withPlaces (p ∷ ps) a = quiet-places opening (p ∷ ps) a
 
   quiet-words : (c : ℕ) (ws : List WordText) → All (GoodWord (length K)) ws → Quiet (wordsTokens K c ws)
   quiet-words c [] a = tt
@@ -132,21 +132,21 @@ module _ (K : List Token) (good : All (λ u. isIdentifier u ≡ true) K) where
     mark-no-kind c,
     (
       identifier-no-kind (w .name) (a .0 .name .identifier),
-      all-append (λ u. same u kindWord ≡ false) (bracketed (w .places) (placesTokens K opening (w .places))) (wordsTokens K bar ws)
-          (quiet-bracketed (w .places) (a .0 .places)) (quiet-words bar ws (a .1)),
+      all-append (λ u. same u kindWord ≡ false) (withPlaces (w .places) (placeKindTokens K opening (w .places))) (wordsTokens K bar ws)
+          (quiet-withPlaces (w .places) (a .0 .places)) (quiet-words bar ws (a .1)),
     ),
   )
 
   pub names-kinds : (X : Lexicon) (us : List Token) → All (λ (x : KindText). isIdentifier (x .name) ≡ true) X →
-      All (GoodWord (length K)) (wordsOf X) → namesBehind (kindsTokens K X ++ us) ≡ kindNames X ++ namesBehind us
+      All (GoodWord (length K)) (allWords X) → namesBehind (kindsTokens K X ++ us) ≡ kindNames X ++ namesBehind us
   names-kinds [] us k w = refl
   names-kinds (x ∷ X) us k w =
       ap (λ (r : List Token). x .name ∷ r)
       (cond-false (same (x .name) kindWord) _ _ (identifier-no-kind (x .name) (k .0)) ∙
       ap namesBehind (append-assoc (wordsTokens K equals (x .words)) (kindsTokens K X) us) ∙
       quiet-skips (wordsTokens K equals (x .words)) (kindsTokens K X ++ us)
-      (quiet-words equals (x .words) (all-left (GoodWord (length K)) (x .words) (wordsOf X) w)) ∙
-      names-kinds X us (k .1) (all-right (GoodWord (length K)) (x .words) (wordsOf X) w))
+      (quiet-words equals (x .words) (all-left (GoodWord (length K)) (x .words) (allWords X) w)) ∙
+      names-kinds X us (k .1) (all-right (GoodWord (length K)) (x .words) (allWords X) w))
 
 pub names-read : (seen : List Token) (l : List Lexeme) → All IsIdentifier (namesBehind (tokensOf l)) →
     Distinct (seen ++ namesBehind (tokensOf l)) → length (seen ++ namesBehind (tokensOf l)) ≤ mostKinds →

@@ -19,7 +19,7 @@ use Rattle.wire.proofs.Cond.{choice}
 use Rattle.texts.specs.Lexemes.{Token, Lexeme}
 use Rattle.texts.specs.Names.{same, kindWord, mark, opening, closing, comma, bar, equals, isIdentifier, indexIn}
 use Rattle.texts.specs.Lexicon.{kindNames, wordNames, lexiconTokens, GoodLexicon}
-use Rattle.texts.specs.Faults.{Fault, Got, got, bad, token, place, kindDue, wordDue, placeDue, placeEnd, noWords}
+use Rattle.texts.specs.Faults.{Fault, Parsed, parsed, bad, token, place, kindDue, wordDue, placeDue, placeEnd, noWords}
 use Rattle.texts.specs.LexiconReading.{wordNameWhy, placeWhy, Phase, atStart, atKind, behindKind, atWord, behindWord, atPlace, behindPlace, behindPlaces, Declaring, rowsOf, beginning, Stepped, on, over, fails, goTo, stepWord, placesLast, stepPlace, stepIn, step, LexiconRead, stepped, readRows}
 use Rattle.texts.specs.Laws.{tokensOf, lexiconRead, LexiconFirst}
 use Rattle.texts.proofs.KindNames.{Called}
@@ -73,8 +73,8 @@ split-here K x y l f (fails why) e more h =
 split-here K x y l f over e more h = go (eqb (length (x .names)) 0) refl h
   where
     go : (b : Bool) → eqb (length (x .names)) 0 ≡ b →
-        cond {A = Got LexiconRead} b (bad (record { why = noWords; at = y .at; of = 0 }))
-        (got (record { kindNames = K; wordNames = x .names; rows = rowsOf x }) (y ∷ l)) ≡ bad f →
+        cond {A = Parsed LexiconRead} b (bad (record { why = noWords; at = y .at; of = 0 }))
+        (parsed (record { kindNames = K; wordNames = x .names; rows = rowsOf x }) (y ∷ l)) ≡ bad f →
         Split K x (y ∷ l) (f .at)
     go false t h = let z : _≡_ {A = ℕ} 0 1 = cc in absurd (omega arith)
     go true t h =
@@ -198,6 +198,6 @@ no-further K us vs y u w s F kinds =
     (record { noKind = F .noKind; noEquals = F .noEquals; noBar = F .noBar; noOpening = F .noOpening }) in
     let along = rows-walk K us (u ∷ vs) beginning y l w spelt in
     let fault = stuck-bad K y u vs (drop (length us) l) s (along .1) in
-    let no : got (lexiconRead (F .lexicon)) (drop (length (lexiconTokens (F .lexicon))) l) ≡ bad (fault .0) =
+    let no : parsed (lexiconRead (F .lexicon)) (drop (length (lexiconTokens (F .lexicon))) l) ≡ bad (fault .0) =
     sym good ∙ ap (λ (M : List Token). readRows M beginning l) kinds ∙ along .0 ∙ fault .1 in
     let z : _≡_ {A = ℕ} 0 1 = cc in omega arith

@@ -17,7 +17,7 @@ use Rattle.terms.proofs.All.{all-unmap, all-left}
 use Rattle.wire.specs.Vocabulary.{mostKinds}
 use Rattle.texts.specs.Lexemes.{Token, Lexeme}
 use Rattle.texts.specs.Names.{same, kindWord, IsIdentifier, nameAt, Distinct}
-use Rattle.texts.specs.Lexicon.{KindText, Lexicon, kindNames, wordsOf, kindsTokens, lexiconTokens, GoodLexicon}
+use Rattle.texts.specs.Lexicon.{KindText, Lexicon, kindNames, allWords, kindsTokens, lexiconTokens, GoodLexicon}
 use Rattle.texts.specs.Faults.{Fault, bad, token, kindDue}
 use Rattle.texts.specs.LexiconReading.{atKind, beginning, fails, goTo, stepped, readRows, withNames}
 use Rattle.texts.specs.Laws.{tokensOf, FirstFaultIn, SoundWord, SoundLexicon, LexiconFirst, LexiconFaultsAreFirst, namesBehind}
@@ -38,9 +38,9 @@ sound-first K us ids fine some k = record {
     differentKinds = subst Distinct (sym (k .names)) (fine .different);
     someKind = subst (λ n. 1 ≤ n) count some;
     fewKinds = subst (λ n. n ≤ mostKinds) count (fine .few);
-    words = subst (λ n. All (SoundWord n) (wordsOf X)) count (k .words);
+    words = subst (λ n. All (SoundWord n) (allWords X)) count (k .words);
     differentWords = k .different;
-    someWord = subst (λ n. 1 ≤ n) (length-map (wordsOf X) name) (k .some);
+    someWord = subst (λ n. 1 ≤ n) (length-map (allWords X) name) (k .some);
   };
   kinds = inr (k .names);
   tokens = k .tokens ∙ ap (λ (M : List Token). kindsTokens M X) (sym (k .names)) ∙ sym (append-nil (lexiconTokens X));

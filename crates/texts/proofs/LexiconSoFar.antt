@@ -23,9 +23,9 @@ use Rattle.wire.specs.Vocabulary.{mostWords}
 use Rattle.wire.proofs.Cond.{cond-true, cond-false}
 use Rattle.texts.specs.Lexemes.{Token}
 use Rattle.texts.specs.Names.{same, kindWord, mark, comma, bar, equals, opening, closing, IsIdentifier, indexIn, nameAt, Distinct}
-use Rattle.texts.specs.Lexicon.{WordText, Lexicon, kindNames, wordsOf, wordNames, placesTokens, bracketed, wordsTokens, kindsTokens}
+use Rattle.texts.specs.Lexicon.{WordText, Lexicon, kindNames, allWords, wordNames, placeKindTokens, withPlaces, wordsTokens, kindsTokens}
 use Rattle.texts.specs.Faults.{kindDue, placeEnd}
-use Rattle.texts.specs.LexiconReading.{wordNameWhy, placeWhy, Row, Phase, atStart, atKind, behindKind, atWord, behindWord, atPlace, behindPlace, behindPlaces, Declaring, beginning, Stepped, on, over, fails, goTo, stepWord, placesLast, grown, stepPlace, stepOn}
+use Rattle.texts.specs.LexiconReading.{wordNameWhy, placeWhy, WordRow, Phase, atStart, atKind, behindKind, atWord, behindWord, atPlace, behindPlace, behindPlaces, Declaring, beginning, Stepped, on, over, fails, goTo, stepWord, placesLast, grown, stepPlace, stepOn}
 use Rattle.texts.specs.Laws.{SoundWord, namesBehind}
 use Rattle.texts.proofs.Lookups.{same-eq, identifier-no-kind, at-index, distinct-more}
 use Rattle.texts.proofs.KindNames.{NameFits, name-fits, Tokened, identifier, mark-no-kind}
@@ -41,7 +41,7 @@ bare-names : (Ks : List Token) → kindNames (bare Ks) ≡ Ks
 bare-names [] = refl
 bare-names (u ∷ Ks) = ap (λ (t : List Token). u ∷ t) (bare-names Ks)
 
-bare-words : (Ks : List Token) → wordsOf (bare Ks) ≡ []
+bare-words : (Ks : List Token) → allWords (bare Ks) ≡ []
 bare-words [] = refl
 bare-words (u ∷ Ks) = bare-words Ks
 
@@ -50,7 +50,7 @@ module _ (K : List Token) where
     pub kinds : Lexicon
     pub tokens : us ≡ kindsTokens K kinds
     pub names : kindNames kinds ≡ Ks
-    pub words : All (SoundWord (length K)) (wordsOf kinds)
+    pub words : All (SoundWord (length K)) (allWords kinds)
     pub different : Distinct (N ++ wordNames kinds)
     pub some : 1 ≤ length (N ++ wordNames kinds)
 
@@ -73,10 +73,10 @@ module _ (K : List Token) where
     behind : List Token
     tokens : us ≡ nameAt K place ∷ behind
     below : place < length K
-    left : PlacesLeft (placesTokens K comma) Ks N behind
+    left : PlacesLeft (placeKindTokens K comma) Ks N behind
 
   abbrev spelt : List ℕ → List Token
-  spelt ps = bracketed ps (placesTokens K opening ps)
+  spelt ps = withPlaces ps (placeKindTokens K opening ps)
 
   abbrev Outcome : Phase → List Token → List Token → List Token → Type 0
   Outcome atStart Ks N us = KindsLeft Ks N us
@@ -85,7 +85,7 @@ module _ (K : List Token) where
   Outcome atWord Ks N us = (c : ℕ) → WordsLeft c Ks N (mark c ∷ us)
   Outcome behindWord Ks N us = PlacesLeft spelt Ks N us
   Outcome atPlace Ks N us = PlaceLeft Ks N us
-  Outcome behindPlace Ks N us = PlacesLeft (placesTokens K comma) Ks N us
+  Outcome behindPlace Ks N us = PlacesLeft (placeKindTokens K comma) Ks N us
   Outcome behindPlaces Ks N us = WordsLeft bar Ks N us
 
   no-words : (c : ℕ) (Ks N us : List Token) → KindsLeft Ks N us → WordsLeft c Ks N us
@@ -101,7 +101,7 @@ module _ (K : List Token) where
   no-places spell Ks N us vs e w = record { places = []; behind = vs; tokens = e; sound = tt; left = w }
 
   one-place : (spell : List ℕ → List Token) (c : ℕ) (Ks N us : List Token) →
-      ((p : ℕ) (ps : List ℕ) → spell (p ∷ ps) ≡ placesTokens K c (p ∷ ps)) → PlaceLeft Ks N us → PlacesLeft spell Ks N (mark c ∷ us)
+      ((p : ℕ) (ps : List ℕ) → spell (p ∷ ps) ≡ placeKindTokens K c (p ∷ ps)) → PlaceLeft Ks N us → PlacesLeft spell Ks N (mark c ∷ us)
   one-place spell c Ks N us h p =
       let q = p .left in
       record {
@@ -133,14 +133,14 @@ module _ (K : List Token) where
   one-kind Ks N u us w =
       let k = w .left in
       let own : List Token = wordsTokens K equals (w .words) in
-      let names : (N ++ map name (w .words)) ++ wordNames (k .kinds) ≡ N ++ map name (w .words ++ wordsOf (k .kinds)) =
+      let names : (N ++ map name (w .words)) ++ wordNames (k .kinds) ≡ N ++ map name (w .words ++ allWords (k .kinds)) =
       append-assoc N (map name (w .words)) (wordNames (k .kinds)) ∙
-      ap (λ (t : List Token). N ++ t) (sym (map-append name (w .words) (wordsOf (k .kinds)))) in
+      ap (λ (t : List Token). N ++ t) (sym (map-append name (w .words) (allWords (k .kinds)))) in
       record {
         kinds = record { name = u; words = w .words } ∷ k .kinds;
         tokens = ap (λ (t : List Token). kindWord ∷ u ∷ t) (w .tokens ∙ ap (λ (t : List Token). own ++ t) (k .tokens));
         names = ap (λ (t : List Token). u ∷ t) (k .names);
-        words = all-append (SoundWord (length K)) (w .words) (wordsOf (k .kinds)) (w .sound) (k .words);
+        words = all-append (SoundWord (length K)) (w .words) (allWords (k .kinds)) (w .sound) (k .words);
         different = subst Distinct names (k .different);
         some = subst (λ (M : List Token). 1 ≤ length M) names (k .some);
       }
@@ -202,13 +202,13 @@ module _ (K : List Token) where
           behind = us;
           tokens = refl;
           below = omega arith;
-          left = no-places (placesTokens K comma) Ks N us (mark bar ∷ w .0) refl (w .1 bar);
+          left = no-places (placeKindTokens K comma) Ks N us (mark bar ∷ w .0) refl (w .1 bar);
         },
       )
   complete s behindPlace Ks N f d =
       let w = new-word Ks N f in
       let us : List Token = mark closing ∷ mark bar ∷ w .0 in
-      (us, no-places (placesTokens K comma) Ks N us (mark bar ∷ w .0) refl (w .1 bar))
+      (us, no-places (placeKindTokens K comma) Ks N us (mark bar ∷ w .0) refl (w .1 bar))
   complete s behindPlaces Ks N f d = let w = new-word Ks N f in (mark bar ∷ w .0, w .1 bar)
 
 -- ---- what was read
@@ -228,10 +228,10 @@ coming behindPlaces us = namesBehind us
 module _ (K : List Token) (some : 1 ≤ length K) (vs : List Token) (y : Declaring) where
   abbrev More : List Token → Type 0
   More us =
-      (p : Phase) (n : ℕ) (N : List Token) (D L : List Row) (Ks : List Token) → Fine N → All IsIdentifier Ks → All Tokened us →
+      (p : Phase) (n : ℕ) (N : List Token) (D L : List WordRow) (Ks : List Token) → Fine N → All IsIdentifier Ks → All Tokened us →
       Ks ≡ coming p (us ++ vs) → Due K p Ks → walk K (state p n N D L) us ≡ on y → (m : List Token) × Outcome K p Ks N (us ++ m)
 
-  module _ (u : Token) (us : List Token) (more : More us) (n : ℕ) (N : List Token) (fine : Fine N) (D L : List Row) (Ks : List Token)
+  module _ (u : Token) (us : List Token) (more : More us) (n : ℕ) (N : List Token) (fine : Fine N) (D L : List WordRow) (Ks : List Token)
       (identifiers : All IsIdentifier Ks) (tokens : All Tokened (u ∷ us)) where
     abbrev Follows : Stepped → Type 0
     Follows s = andOn s (λ z. walk K z us) ≡ on y
@@ -276,7 +276,7 @@ module _ (K : List Token) (some : 1 ≤ length K) (vs : List Token) (y : Declari
 
     -- The mark c and a place, or what comes where c does not stand.
     place-or : (p : Phase) (spell : List ℕ → List Token) (c : ℕ) (t : Stepped) →
-        ((p : ℕ) (ps : List ℕ) → spell (p ∷ ps) ≡ placesTokens K c (p ∷ ps)) → Ks ≡ namesBehind (u ∷ (us ++ vs)) →
+        ((p : ℕ) (ps : List ℕ) → spell (p ∷ ps) ≡ placeKindTokens K c (p ∷ ps)) → Ks ≡ namesBehind (u ∷ (us ++ vs)) →
         (Follows t → (m : List Token) × PlacesLeft K spell Ks N (u ∷ (us ++ m))) →
         Follows (cond (same u (mark c)) (goTo atPlace (state p n N D L)) t) → (m : List Token) × PlacesLeft K spell Ks N (u ∷ (us ++ m))
     place-or p spell c t spells e other f = go (same u (mark c)) refl f
@@ -291,17 +291,17 @@ module _ (K : List Token) (some : 1 ≤ length K) (vs : List Token) (y : Declari
 
     closing-or : (p : Phase) → Ks ≡ namesBehind (u ∷ (us ++ vs)) →
         Follows (cond (same u (mark closing)) (goTo behindPlaces (state p n N D L)) (fails placeEnd)) →
-        (m : List Token) × PlacesLeft K (placesTokens K comma) Ks N (u ∷ (us ++ m))
+        (m : List Token) × PlacesLeft K (placeKindTokens K comma) Ks N (u ∷ (us ++ m))
     closing-or p e f = go (same u (mark closing)) refl f
       where
         go : (b : Bool) → same u (mark closing) ≡ b → Follows (cond b (goTo behindPlaces (state p n N D L)) (fails placeEnd)) →
-            (m : List Token) × PlacesLeft K (placesTokens K comma) Ks N (u ∷ (us ++ m))
+            (m : List Token) × PlacesLeft K (placeKindTokens K comma) Ks N (u ∷ (us ++ m))
         go false h f = fails-not placeEnd f
         go true h f =
             let q : u ≡ mark closing = same-eq u (mark closing) h in
             let r = more behindPlaces n N D L Ks fine identifiers (tokens .1) (skip-mark closing q e) tt f in (
               r .0,
-              no-places K (placesTokens K comma) Ks N (u ∷ (us ++ r .0)) (us ++ r .0) (ap (λ (t : Token). t ∷ (us ++ r .0)) q) (r .1),
+              no-places K (placeKindTokens K comma) Ks N (u ∷ (us ++ r .0)) (us ++ r .0) (ap (λ (t : Token). t ∷ (us ++ r .0)) q) (r .1),
             )
 
     named-kind : Ks ≡ u ∷ namesBehind (u ∷ (us ++ vs)) → Follows (on (state behindKind (suc n) N D L)) →
@@ -367,7 +367,7 @@ module _ (K : List Token) (some : 1 ≤ length K) (vs : List Token) (y : Declari
   follow (u ∷ us) atPlace n N D L Ks fine ids tokens e due f =
       named-place u us (follow us) n N fine D L Ks ids tokens (placeWhy K (placesLast L) u) refl e f
   follow (u ∷ us) behindPlace n N D L Ks fine ids tokens e due f =
-      place-or u us (follow us) n N fine D L Ks ids tokens behindPlace (placesTokens K comma) comma _ (λ p ps. refl) e
+      place-or u us (follow us) n N fine D L Ks ids tokens behindPlace (placeKindTokens K comma) comma _ (λ p ps. refl) e
       (closing-or u us (follow us) n N fine D L Ks ids tokens behindPlace e) f
   follow (u ∷ us) behindPlaces n N D L Ks fine ids tokens e due f =
       word-or u us (follow us) n N fine D L Ks ids tokens behindPlaces bar e f

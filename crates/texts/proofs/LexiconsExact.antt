@@ -27,9 +27,9 @@ use Rattle.wire.specs.Vocabulary.{mostWords}
 use Rattle.texts.specs.Lexemes.{Token, Lexeme}
 use Rattle.texts.specs.Names.{same, kindWord, mark, comma, bar, equals, opening, closing, mostName, isIdentifier, IsIdentifier, indexIn, nameAt, Distinct}
 use Rattle.texts.specs.Spelling.{IsToken}
-use Rattle.texts.specs.Lexicon.{WordText, KindText, Lexicon, kindNames, wordsOf, wordNames, placesTokens, bracketed, wordsTokens, kindsTokens, lexiconTokens, mostPlaces, GoodWord, GoodLexicon}
-use Rattle.texts.specs.Faults.{got, bad, token, place, kindDue, placeDue, notDeclared, manyPlaces, placeEnd, noWords}
-use Rattle.texts.specs.LexiconReading.{wordNameWhy, placeWhy, Names?, named, misnamed, readKindNames, Row, Phase, atStart, atKind, behindKind, atWord, behindWord, atPlace, behindPlace, behindPlaces, Declaring, Stepped, over, fails, goTo, stepWord, grown, stepPlace, stepOn, LexiconRead, stepped, readRows, withNames, readLexicon}
+use Rattle.texts.specs.Lexicon.{WordText, KindText, Lexicon, kindNames, allWords, wordNames, placeKindTokens, withPlaces, wordsTokens, kindsTokens, lexiconTokens, mostPlaces, GoodWord, GoodLexicon}
+use Rattle.texts.specs.Faults.{parsed, bad, token, place, kindDue, placeDue, notDeclared, manyPlaces, placeEnd, noWords}
+use Rattle.texts.specs.LexiconReading.{wordNameWhy, placeWhy, Names?, named, misnamed, readKindNames, WordRow, Phase, atStart, atKind, behindKind, atWord, behindWord, atPlace, behindPlace, behindPlaces, Declaring, Stepped, over, fails, goTo, stepWord, grown, stepPlace, stepOn, LexiconRead, stepped, readRows, withNames, readLexicon}
 use Rattle.texts.specs.Laws.{tokensOf, rowsFrom, lexiconRead, Closes, LexiconsExact, namesBehind}
 use Rattle.texts.proofs.Lookups.{same-eq, identifier-some, at-index, distinct-more}
 use Rattle.texts.proofs.Closing.{closes-next}
@@ -55,11 +55,11 @@ pub record Fine (N : List Token) : Type 0 where
   pub different : Distinct N
   pub few : length N ≤ mostWords
 
-abbrev Some : List Row → Type 0
+abbrev Some : List WordRow → Type 0
 Some [] = ⊥
 Some (ρ ∷ L) = length (ρ .places) ≤ mostPlaces
 
-abbrev Ready : Phase → List Row → List Lexeme → Type 0
+abbrev Ready : Phase → List WordRow → List Lexeme → Type 0
 Ready atStart L l = Unit {0}
 Ready atKind L l = (isIdentifier (token l) ≡ true) × (length (token l) ≤ mostName)
 Ready behindKind L l = Unit {0}
@@ -70,18 +70,18 @@ Ready behindPlace L l = Some L
 Ready behindPlaces L l = Unit {0}
 
 -- A row with the places ps behind those that it has.
-abbrev longer : List ℕ → Row → Row
+abbrev longer : List ℕ → WordRow → WordRow
 longer ps ρ = record { kind = ρ .kind; places = ρ .places ++ ps }
 
-longer-none : (L : List Row) → L ≡ map (longer []) L
+longer-none : (L : List WordRow) → L ≡ map (longer []) L
 longer-none [] = refl
 longer-none (ρ ∷ L) =
-    ap₂ (λ (p : List ℕ) (M : List Row). record { kind = ρ .kind; places = p } ∷ M) (sym (append-nil (ρ .places))) (longer-none L)
+    ap₂ (λ (p : List ℕ) (M : List WordRow). record { kind = ρ .kind; places = p } ∷ M) (sym (append-nil (ρ .places))) (longer-none L)
 
-longer-grown : (p : ℕ) (ps : List ℕ) (L : List Row) → map (longer ps) (map (grown p) L) ≡ map (longer (p ∷ ps)) L
+longer-grown : (p : ℕ) (ps : List ℕ) (L : List WordRow) → map (longer ps) (map (grown p) L) ≡ map (longer (p ∷ ps)) L
 longer-grown p ps [] = refl
 longer-grown p ps (ρ ∷ L) =
-    ap₂ (λ (p : List ℕ) (M : List Row). record { kind = ρ .kind; places = p } ∷ M) (append-assoc (ρ .places) (p ∷ []) ps) (longer-grown p ps L)
+    ap₂ (λ (p : List ℕ) (M : List WordRow). record { kind = ρ .kind; places = p } ∷ M) (append-assoc (ρ .places) (p ∷ []) ps) (longer-grown p ps L)
 
 pub record PlaceFits (K : List Token) (m : ℕ) (u : Token) : Type 0 where
   pub identifier : isIdentifier u ≡ true
@@ -106,23 +106,23 @@ module _ (K : List Token) (r : List Lexeme) (a : LexiconRead) where
     few : length (a .wordNames) ≤ mostWords
     closes : Closes r
 
-  record KindsLeft (n : ℕ) (N : List Token) (R : List Row) (us : List Token) : Type 0 where
+  record KindsLeft (n : ℕ) (N : List Token) (R : List WordRow) (us : List Token) : Type 0 where
     kinds : Lexicon
     tokens : us ≡ kindsTokens K kinds ++ tokensOf r
     names : a .wordNames ≡ N ++ wordNames kinds
     rows : a .rows ≡ R ++ rowsFrom n kinds
-    goodWords : All (GoodWord (length K)) (wordsOf kinds)
+    goodWords : All (GoodWord (length K)) (allWords kinds)
     goodKinds : All (λ (x : KindText). IsIdentifier (x .name)) kinds
     end : End
 
-  record WordsLeft (c n : ℕ) (N : List Token) (R : List Row) (us : List Token) : Type 0 where
+  record WordsLeft (c n : ℕ) (N : List Token) (R : List WordRow) (us : List Token) : Type 0 where
     words : List WordText
     behind : List Token
     tokens : us ≡ wordsTokens K c words ++ behind
     good : All (GoodWord (length K)) words
     left : KindsLeft n (N ++ map name words) (R ++ map (rowOf (n - 1)) words) behind
 
-  record PlacesLeft (spell : List ℕ → List Token) (n : ℕ) (N : List Token) (D : List Row) (ρ : Row) (L : List Row) (us : List Token) : Type 0 where
+  record PlacesLeft (spell : List ℕ → List Token) (n : ℕ) (N : List Token) (D : List WordRow) (ρ : WordRow) (L : List WordRow) (us : List Token) : Type 0 where
     places : List ℕ
     behind : List Token
     tokens : us ≡ spell places ++ behind
@@ -130,45 +130,45 @@ module _ (K : List Token) (r : List Lexeme) (a : LexiconRead) where
     few : length (ρ .places) + length places ≤ mostPlaces
     left : WordsLeft bar n N (D ++ map (longer places) (ρ ∷ L)) behind
 
-  record PlaceLeft (n : ℕ) (N : List Token) (D : List Row) (ρ : Row) (L : List Row) (us : List Token) : Type 0 where
+  record PlaceLeft (n : ℕ) (N : List Token) (D : List WordRow) (ρ : WordRow) (L : List WordRow) (us : List Token) : Type 0 where
     place : ℕ
     behind : List Token
     tokens : us ≡ nameAt K place ∷ behind
     below : place < length K
-    left : PlacesLeft (placesTokens K comma) n N D (grown place ρ) (map (grown place) L) behind
+    left : PlacesLeft (placeKindTokens K comma) n N D (grown place ρ) (map (grown place) L) behind
 
-  abbrev Outcome : Phase → ℕ → List Token → List Row → List Row → List Token → Type 0
+  abbrev Outcome : Phase → ℕ → List Token → List WordRow → List WordRow → List Token → Type 0
   Outcome atStart n N D L us = KindsLeft n N (D ++ L) us
   Outcome atKind n N D L us = KindsLeft n N (D ++ L) (kindWord ∷ us)
   Outcome behindKind n N D L us = WordsLeft equals n N (D ++ L) us
   Outcome atWord n N D L us = (c : ℕ) → WordsLeft c n N (D ++ L) (mark c ∷ us)
   Outcome behindWord n N D [] us = Unit {0}
-  Outcome behindWord n N D (ρ ∷ L) us = PlacesLeft (λ ps. bracketed ps (placesTokens K opening ps)) n N D ρ L us
+  Outcome behindWord n N D (ρ ∷ L) us = PlacesLeft (λ ps. withPlaces ps (placeKindTokens K opening ps)) n N D ρ L us
   Outcome atPlace n N D [] us = Unit {0}
   Outcome atPlace n N D (ρ ∷ L) us = PlaceLeft n N D ρ L us
   Outcome behindPlace n N D [] us = Unit {0}
-  Outcome behindPlace n N D (ρ ∷ L) us = PlacesLeft (placesTokens K comma) n N D ρ L us
+  Outcome behindPlace n N D (ρ ∷ L) us = PlacesLeft (placeKindTokens K comma) n N D ρ L us
   Outcome behindPlaces n N D L us = WordsLeft bar n N (D ++ L) us
 
   abbrev More : List Lexeme → Type 0
   More l =
-      (p : Phase) (n : ℕ) (N : List Token) (D L : List Row) → Plain l → Fine N → Ready p L l →
-      readRows K (state p n N D L) l ≡ got a r → Outcome p n N D L (tokensOf l)
+      (p : Phase) (n : ℕ) (N : List Token) (D L : List WordRow) → Plain l → Fine N → Ready p L l →
+      readRows K (state p n N D L) l ≡ parsed a r → Outcome p n N D L (tokensOf l)
 
   -- ---- the same, said in another way
 
-  kinds-said : (n : ℕ) (N M : List Token) (R S : List Row) (us : List Token) → N ≡ M → R ≡ S → KindsLeft n N R us → KindsLeft n M S us
+  kinds-said : (n : ℕ) (N M : List Token) (R S : List WordRow) (us : List Token) → N ≡ M → R ≡ S → KindsLeft n N R us → KindsLeft n M S us
   kinds-said n N M R S us e f k = record {
     kinds = k .kinds;
     tokens = k .tokens;
     names = k .names ∙ ap (λ (T : List Token). T ++ wordNames (k .kinds)) e;
-    rows = k .rows ∙ ap (λ (T : List Row). T ++ rowsFrom n (k .kinds)) f;
+    rows = k .rows ∙ ap (λ (T : List WordRow). T ++ rowsFrom n (k .kinds)) f;
     goodWords = k .goodWords;
     goodKinds = k .goodKinds;
     end = k .end;
   }
 
-  no-words : (c n : ℕ) (N : List Token) (R : List Row) (us : List Token) → KindsLeft n N R us → WordsLeft c n N R us
+  no-words : (c n : ℕ) (N : List Token) (R : List WordRow) (us : List Token) → KindsLeft n N R us → WordsLeft c n N R us
   no-words c n N R us k = record {
     words = [];
     behind = us;
@@ -177,7 +177,7 @@ module _ (K : List Token) (r : List Lexeme) (a : LexiconRead) where
     left = kinds-said n N (N ++ []) R (R ++ []) us (sym (append-nil N)) (sym (append-nil R)) k;
   }
 
-  no-places : (spell : List ℕ → List Token) (n : ℕ) (N : List Token) (D : List Row) (ρ : Row) (L : List Row) (us vs : List Token) →
+  no-places : (spell : List ℕ → List Token) (n : ℕ) (N : List Token) (D : List WordRow) (ρ : WordRow) (L : List WordRow) (us vs : List Token) →
       length (ρ .places) ≤ mostPlaces → us ≡ spell [] ++ vs → WordsLeft bar n N (D ++ (ρ ∷ L)) vs → PlacesLeft spell n N D ρ L us
   no-places spell n N D ρ L us vs h e w = record {
     places = [];
@@ -185,11 +185,11 @@ module _ (K : List Token) (r : List Lexeme) (a : LexiconRead) where
     tokens = e;
     good = tt;
     few = omega arith;
-    left = subst (λ (M : List Row). WordsLeft bar n N (D ++ M) vs) (longer-none (ρ ∷ L)) w;
+    left = subst (λ (M : List WordRow). WordsLeft bar n N (D ++ M) vs) (longer-none (ρ ∷ L)) w;
   }
 
-  one-place : (spell : List ℕ → List Token) (c n : ℕ) (N : List Token) (D : List Row) (ρ : Row) (L : List Row) (us : List Token) →
-      ((p : ℕ) (ps : List ℕ) → spell (p ∷ ps) ≡ placesTokens K c (p ∷ ps)) → PlaceLeft n N D ρ L us →
+  one-place : (spell : List ℕ → List Token) (c n : ℕ) (N : List Token) (D : List WordRow) (ρ : WordRow) (L : List WordRow) (us : List Token) →
+      ((p : ℕ) (ps : List ℕ) → spell (p ∷ ps) ≡ placeKindTokens K c (p ∷ ps)) → PlaceLeft n N D ρ L us →
       PlacesLeft spell n N D ρ L (mark c ∷ us)
   one-place spell c n N D ρ L us h p =
       let q = p .left in
@@ -201,16 +201,16 @@ module _ (K : List Token) (r : List Lexeme) (a : LexiconRead) where
             ap (λ (t : List Token). t ++ q .behind) (sym (h (p .place) (q .places)));
         good = (p .below, q .good);
         few = omega (arith, q .few, length-append (ρ .places) (p .place ∷ []));
-        left = subst (λ (M : List Row). WordsLeft bar n N (D ++ M) (q .behind)) (longer-grown (p .place) (q .places) (ρ ∷ L)) (q .left);
+        left = subst (λ (M : List WordRow). WordsLeft bar n N (D ++ M) (q .behind)) (longer-grown (p .place) (q .places) (ρ ∷ L)) (q .left);
       }
 
-  one-word : (c n : ℕ) (N : List Token) (R : List Row) (u : Token) (us : List Token) → IsIdentifier u →
-      PlacesLeft (λ ps. bracketed ps (placesTokens K opening ps)) n (N ++ (u ∷ [])) R (record { kind = n - 1; places = [] }) [] us →
+  one-word : (c n : ℕ) (N : List Token) (R : List WordRow) (u : Token) (us : List Token) → IsIdentifier u →
+      PlacesLeft (λ ps. withPlaces ps (placeKindTokens K opening ps)) n (N ++ (u ∷ [])) R (record { kind = n - 1; places = [] }) [] us →
       WordsLeft c n N R (mark c ∷ u ∷ us)
   one-word c n N R u us i q =
       let m = q .left in
       let w : WordText = record { name = u; places = q .places } in
-      let own : List Token = bracketed (q .places) (placesTokens K opening (q .places)) in
+      let own : List Token = withPlaces (q .places) (placeKindTokens K opening (q .places)) in
       record {
         words = w ∷ m .words;
         behind = m .behind;
@@ -224,7 +224,7 @@ module _ (K : List Token) (r : List Lexeme) (a : LexiconRead) where
             (m .left);
       }
 
-  one-kind : (n : ℕ) (N : List Token) (R : List Row) (u : Token) (us : List Token) → IsIdentifier u → WordsLeft equals (suc n) N R us →
+  one-kind : (n : ℕ) (N : List Token) (R : List WordRow) (u : Token) (us : List Token) → IsIdentifier u → WordsLeft equals (suc n) N R us →
       KindsLeft n N R (kindWord ∷ u ∷ us)
   one-kind n N R u us i w =
       let k = w .left in
@@ -237,32 +237,32 @@ module _ (K : List Token) (r : List Lexeme) (a : LexiconRead) where
             (w .tokens ∙ ap (λ (t : List Token). own ++ t) (k .tokens) ∙ sym (append-assoc own (kindsTokens K (k .kinds)) (tokensOf r)));
         names =
             k .names ∙ append-assoc N (map name (w .words)) (wordNames (k .kinds)) ∙
-            ap (λ (t : List Token). N ++ t) (sym (map-append name (w .words) (wordsOf (k .kinds))));
+            ap (λ (t : List Token). N ++ t) (sym (map-append name (w .words) (allWords (k .kinds))));
         rows =
             k .rows ∙ append-assoc R (map (rowOf (suc n - 1)) (w .words)) (rowsFrom (suc n) (k .kinds)) ∙
             ap (λ (m : ℕ). R ++ (map (rowOf m) (w .words) ++ rowsFrom (suc n) (k .kinds))) before;
-        goodWords = all-append (GoodWord (length K)) (w .words) (wordsOf (k .kinds)) (w .good) (k .goodWords);
+        goodWords = all-append (GoodWord (length K)) (w .words) (allWords (k .kinds)) (w .good) (k .goodWords);
         goodKinds = (i, k .goodKinds);
         end = k .end;
       }
 
   -- ---- one token
 
-  module _ (y : Lexeme) (l : List Lexeme) (more : More l) (plain : Plain (y ∷ l)) (n : ℕ) (N : List Token) (fine : Fine N) (D : List Row) where
+  module _ (y : Lexeme) (l : List Lexeme) (more : More l) (plain : Plain (y ∷ l)) (n : ℕ) (N : List Token) (fine : Fine N) (D : List WordRow) where
     abbrev Follows : Declaring → Stepped → Type 0
-    Follows x s = stepped (λ z. readRows K z l) K x (y ∷ l) s ≡ got a r
+    Follows x s = stepped (λ z. readRows K z l) K x (y ∷ l) s ≡ parsed a r
 
     fails-not : {A : Type 0} (x : Declaring) (why : ℕ) → Follows x (fails why) → A
     fails-not x why e = let z : _≡_ {A = ℕ} 0 1 = cc in absurd (omega arith)
 
-    finish : (p : Phase) (L : List Row) → Follows (state p n N D L) over → KindsLeft n N (D ++ L) (tokensOf (y ∷ l))
+    finish : (p : Phase) (L : List WordRow) → Follows (state p n N D L) over → KindsLeft n N (D ++ L) (tokensOf (y ∷ l))
     finish p L e = go (eqb (length N) 0) refl e
       where
         read : LexiconRead
         read = record { kindNames = K; wordNames = N; rows = D ++ L }
 
         go : (b : Bool) → eqb (length N) 0 ≡ b →
-            cond b (bad (record { why = noWords; at = place (y ∷ l); of = 0 })) (got read (y ∷ l)) ≡ got a r →
+            cond b (bad (record { why = noWords; at = place (y ∷ l); of = 0 })) (parsed read (y ∷ l)) ≡ parsed a r →
             KindsLeft n N (D ++ L) (tokensOf (y ∷ l))
         go true h e = let z : _≡_ {A = ℕ} 0 1 = cc in absurd (omega arith)
         go false h e =
@@ -290,7 +290,7 @@ module _ (K : List Token) (r : List Lexeme) (a : LexiconRead) where
             positive (suc m) f = omega arith
 
     -- A `kind`, or what comes where none stands.
-    kind-or : (p : Phase) (L : List Row) (s : Stepped) → (Follows (state p n N D L) s → KindsLeft n N (D ++ L) (tokensOf (y ∷ l))) →
+    kind-or : (p : Phase) (L : List WordRow) (s : Stepped) → (Follows (state p n N D L) s → KindsLeft n N (D ++ L) (tokensOf (y ∷ l))) →
         Follows (state p n N D L) (cond (same (y .token) kindWord) (goTo atKind (state p n N D L)) s) →
         KindsLeft n N (D ++ L) (tokensOf (y ∷ l))
     kind-or p L s other e = go (same (y .token) kindWord) refl e
@@ -304,7 +304,7 @@ module _ (K : List Token) (r : List Lexeme) (a : LexiconRead) where
             (more atKind n N D L (plain-next y l plain (some-token (y .token) kindWord _ _ u refl)) fine (plain .called .0 h) e)
 
     -- The mark c and a word, or none.
-    word-or : (p : Phase) (L : List Row) (c : ℕ) →
+    word-or : (p : Phase) (L : List WordRow) (c : ℕ) →
         Follows (state p n N D L)
         (cond (same (y .token) (mark c)) (goTo atWord (state p n N D L)) (stepOn (state p n N D L) (y .token))) →
         WordsLeft c n N (D ++ L) (tokensOf (y ∷ l))
@@ -320,8 +320,8 @@ module _ (K : List Token) (r : List Lexeme) (a : LexiconRead) where
             (more atWord n N D L (plain-next y l plain (some-token (y .token) (mark c) _ _ u refl)) fine tt e c)
 
     -- The mark c and a place, or what comes where c does not stand.
-    place-or : (p : Phase) (ρ : Row) (L : List Row) (c : ℕ) (spell : List ℕ → List Token) (s : Stepped) →
-        ((p : ℕ) (ps : List ℕ) → spell (p ∷ ps) ≡ placesTokens K c (p ∷ ps)) → length (ρ .places) ≤ mostPlaces →
+    place-or : (p : Phase) (ρ : WordRow) (L : List WordRow) (c : ℕ) (spell : List ℕ → List Token) (s : Stepped) →
+        ((p : ℕ) (ps : List ℕ) → spell (p ∷ ps) ≡ placeKindTokens K c (p ∷ ps)) → length (ρ .places) ≤ mostPlaces →
         (Follows (state p n N D (ρ ∷ L)) s → PlacesLeft spell n N D ρ L (tokensOf (y ∷ l))) →
         Follows (state p n N D (ρ ∷ L)) (cond (same (y .token) (mark c)) (goTo atPlace (state p n N D (ρ ∷ L))) s) →
         PlacesLeft spell n N D ρ L (tokensOf (y ∷ l))
@@ -337,13 +337,13 @@ module _ (K : List Token) (r : List Lexeme) (a : LexiconRead) where
             (one-place spell c n N D ρ L (tokensOf l) spelt
             (more atPlace n N D (ρ ∷ L) (plain-next y l plain (some-token (y .token) (mark c) _ _ u refl)) fine ready e))
 
-    named-kind : (L : List Row) → (isIdentifier (y .token) ≡ true) × (length (y .token) ≤ mostName) →
-        readRows K (state behindKind (suc n) N D L) l ≡ got a r → KindsLeft n N (D ++ L) (kindWord ∷ tokensOf (y ∷ l))
+    named-kind : (L : List WordRow) → (isIdentifier (y .token) ≡ true) × (length (y .token) ≤ mostName) →
+        readRows K (state behindKind (suc n) N D L) l ≡ parsed a r → KindsLeft n N (D ++ L) (kindWord ∷ tokensOf (y ∷ l))
     named-kind L i e =
         one-kind n N (D ++ L) (y .token) (tokensOf l) (identifier (y .token) (plain .tokens .0) (i .0) (i .1))
         (more behindKind (suc n) N D L (plain-next y l plain (identifier-some (y .token) (i .0))) fine tt e)
 
-    named-word : (L : List Row) (why c : ℕ) → wordNameWhy N (y .token) ≡ why →
+    named-word : (L : List WordRow) (why c : ℕ) → wordNameWhy N (y .token) ≡ why →
         Follows (state atWord n N D L) (stepWord (state atWord n N D L) (y .token) why) → WordsLeft c n N (D ++ L) (mark c ∷ tokensOf (y ∷ l))
     named-word L (suc why) c h e = fails-not (state atWord n N D L) (suc why) e
     named-word L zero c h e =
@@ -357,7 +357,7 @@ module _ (K : List Token) (r : List Lexeme) (a : LexiconRead) where
         })
         (omega arith) e)
 
-    named-place : (ρ : Row) (L : List Row) (why : ℕ) → placeWhy K (length (ρ .places)) (y .token) ≡ why →
+    named-place : (ρ : WordRow) (L : List WordRow) (why : ℕ) → placeWhy K (length (ρ .places)) (y .token) ≡ why →
         Follows (state atPlace n N D (ρ ∷ L)) (stepPlace (state atPlace n N D (ρ ∷ L)) (indexIn (y .token) K) why) →
         PlaceLeft n N D ρ L (tokensOf (y ∷ l))
     named-place ρ L (suc why) h e = fails-not (state atPlace n N D (ρ ∷ L)) (suc why) e
@@ -374,19 +374,19 @@ module _ (K : List Token) (r : List Lexeme) (a : LexiconRead) where
               (omega (arith, f .room, length-append (ρ .places) (indexIn (y .token) K ∷ []))) e;
         }
 
-    closing-or : (ρ : Row) (L : List Row) → length (ρ .places) ≤ mostPlaces →
+    closing-or : (ρ : WordRow) (L : List WordRow) → length (ρ .places) ≤ mostPlaces →
         Follows (state behindPlace n N D (ρ ∷ L))
         (cond (same (y .token) (mark closing)) (goTo behindPlaces (state behindPlace n N D (ρ ∷ L))) (fails placeEnd)) →
-        PlacesLeft (placesTokens K comma) n N D ρ L (tokensOf (y ∷ l))
+        PlacesLeft (placeKindTokens K comma) n N D ρ L (tokensOf (y ∷ l))
     closing-or ρ L ready e = go (same (y .token) (mark closing)) refl e
       where
         go : (b : Bool) → same (y .token) (mark closing) ≡ b →
             Follows (state behindPlace n N D (ρ ∷ L)) (cond b (goTo behindPlaces (state behindPlace n N D (ρ ∷ L))) (fails placeEnd)) →
-            PlacesLeft (placesTokens K comma) n N D ρ L (tokensOf (y ∷ l))
+            PlacesLeft (placeKindTokens K comma) n N D ρ L (tokensOf (y ∷ l))
         go false h e = fails-not (state behindPlace n N D (ρ ∷ L)) placeEnd e
         go true h e =
             let u : y .token ≡ mark closing = same-eq (y .token) (mark closing) h in
-            no-places (placesTokens K comma) n N D ρ L (tokensOf (y ∷ l)) (tokensOf l) ready (ap (λ (t : Token). t ∷ tokensOf l) u)
+            no-places (placeKindTokens K comma) n N D ρ L (tokensOf (y ∷ l)) (tokensOf l) ready (ap (λ (t : Token). t ∷ tokensOf l) u)
             (more behindPlaces n N D (ρ ∷ L) (plain-next y l plain (some-token (y .token) (mark closing) _ _ u refl)) fine tt e)
 
   outcome : (l : List Lexeme) → More l
@@ -398,8 +398,8 @@ module _ (K : List Token) (r : List Lexeme) (a : LexiconRead) where
   outcome (y ∷ l) atWord n N D L plain fine ready e = λ c. named-word y l (outcome l) plain n N fine D L (wordNameWhy N (y .token)) c refl e
   outcome (y ∷ l) behindWord n N D [] plain fine ready e = tt
   outcome (y ∷ l) behindWord n N D (ρ ∷ L) plain fine ready e =
-      place-or y l (outcome l) plain n N fine D behindWord ρ L opening (λ ps. bracketed ps (placesTokens K opening ps)) _ (λ p ps. refl) ready
-      (λ e. no-places (λ ps. bracketed ps (placesTokens K opening ps)) n N D ρ L (tokensOf (y ∷ l)) (tokensOf (y ∷ l)) ready refl
+      place-or y l (outcome l) plain n N fine D behindWord ρ L opening (λ ps. withPlaces ps (placeKindTokens K opening ps)) _ (λ p ps. refl) ready
+      (λ e. no-places (λ ps. withPlaces ps (placeKindTokens K opening ps)) n N D ρ L (tokensOf (y ∷ l)) (tokensOf (y ∷ l)) ready refl
       (word-or y l (outcome l) plain n N fine D behindWord (ρ ∷ L) bar e))
       e
   outcome (y ∷ l) atPlace n N D [] plain fine ready e = tt
@@ -407,11 +407,11 @@ module _ (K : List Token) (r : List Lexeme) (a : LexiconRead) where
       named-place y l (outcome l) plain n N fine D ρ L (placeWhy K (length (ρ .places)) (y .token)) refl e
   outcome (y ∷ l) behindPlace n N D [] plain fine ready e = tt
   outcome (y ∷ l) behindPlace n N D (ρ ∷ L) plain fine ready e =
-      place-or y l (outcome l) plain n N fine D behindPlace ρ L comma (placesTokens K comma) _ (λ p ps. refl) ready
+      place-or y l (outcome l) plain n N fine D behindPlace ρ L comma (placeKindTokens K comma) _ (λ p ps. refl) ready
       (closing-or y l (outcome l) plain n N fine D ρ L ready) e
   outcome (y ∷ l) behindPlaces n N D L plain fine ready e = word-or y l (outcome l) plain n N fine D behindPlaces L bar e
 
-some-kind : (X : Lexicon) → 1 ≤ length (wordsOf X) → 1 ≤ length X
+some-kind : (X : Lexicon) → 1 ≤ length (allWords X) → 1 ≤ length X
 some-kind [] h = h
 some-kind (x ∷ X) h = omega arith
 
@@ -441,10 +441,10 @@ exact l r a K quiet m k = (X, good, read, k .tokens ∙ ap (λ (M : List Token).
     count : length K ≡ length X
     count = ap length kinds ∙ length-map X (λ (x : KindText). x .name)
 
-    words : length (a .wordNames) ≡ length (wordsOf X)
-    words = ap length (k .names) ∙ length-map (wordsOf X) name
+    words : length (a .wordNames) ≡ length (allWords X)
+    words = ap length (k .names) ∙ length-map (allWords X) name
 
-    some : 1 ≤ length (wordsOf X)
+    some : 1 ≤ length (allWords X)
     some = omega (arith, k .end .some, words)
 
     good : GoodLexicon X
@@ -453,7 +453,7 @@ exact l r a K quiet m k = (X, good, read, k .tokens ∙ ap (λ (M : List Token).
       differentKinds = subst Distinct kinds (m .fine .different);
       someKind = some-kind X some;
       fewKinds = omega (arith, m .fine .few, count);
-      words = subst (λ n. All (GoodWord n) (wordsOf X)) count (k .goodWords);
+      words = subst (λ n. All (GoodWord n) (allWords X)) count (k .goodWords);
       differentWords = subst Distinct (k .names) (k .end .different);
       someWord = some;
       fewWords = omega (arith, k .end .few, words);
@@ -463,11 +463,11 @@ exact l r a K quiet m k = (X, good, read, k .tokens ∙ ap (λ (M : List Token).
     read = λ i. record { kindNames = (k .end .kinds ∙ kinds) i; wordNames = k .names i; rows = k .rows i }
 
 -- What was read, and the names of its kinds, before it is known that no `kind` stands behind.
-kinds-left : (l r : List Lexeme) (a : LexiconRead) → All Tokened l → Closes l → readLexicon l ≡ got a r →
+kinds-left : (l r : List Lexeme) (a : LexiconRead) → All Tokened l → Closes l → readLexicon l ≡ parsed a r →
     (K : List Token) × NamesRead [] K l × KindsLeft K r a 0 [] [] (tokensOf l)
 kinds-left l r a tokened closes e = go (readKindNames [] l) refl e
   where
-    go : (n : Names?) → readKindNames [] l ≡ n → withNames l n ≡ got a r → (K : List Token) × NamesRead [] K l × KindsLeft K r a 0 [] [] (tokensOf l)
+    go : (n : Names?) → readKindNames [] l ≡ n → withNames l n ≡ parsed a r → (K : List Token) × NamesRead [] K l × KindsLeft K r a 0 [] [] (tokensOf l)
     go (misnamed x) h e = let z : _≡_ {A = ℕ} 0 1 = cc in absurd (omega arith)
     go (named K) h e =
         let m : NamesRead [] K l = read-names [] K l no-kinds h in (
@@ -477,7 +477,7 @@ kinds-left l r a tokened closes e = go (readKindNames [] l) refl e
               (record { different = tt; few = omega arith }) tt e,
         )
 
-pub lexicon-rest : (l r : List Lexeme) (a : LexiconRead) → All Tokened l → Closes l → readLexicon l ≡ got a r →
+pub lexicon-rest : (l r : List Lexeme) (a : LexiconRead) → All Tokened l → Closes l → readLexicon l ≡ parsed a r →
     Closes r × ((us : List Token) × (tokensOf l ≡ us ++ tokensOf r))
 lexicon-rest l r a tokened closes e =
     let h = kinds-left l r a tokened closes e in

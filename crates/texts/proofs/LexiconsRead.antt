@@ -29,17 +29,17 @@ use Rattle.wire.specs.Vocabulary.{mostKinds, mostWords}
 use Rattle.wire.proofs.Cond.{cond-true, cond-false}
 use Rattle.texts.specs.Lexemes.{Token, Lexeme}
 use Rattle.texts.specs.Names.{same, kindWord, mark, comma, bar, equals, opening, isIdentifier, IsIdentifier, indexIn, nameAt, Distinct}
-use Rattle.texts.specs.Lexicon.{WordText, KindText, Lexicon, kindNames, wordsOf, wordNames, placesTokens, bracketed, wordTokens, wordsTokens, kindsTokens, lexiconTokens, mostPlaces, GoodWord, GoodLexicon}
-use Rattle.texts.specs.Faults.{Got, got, token, wordDue, wordTwice, manyWords, placeDue, notDeclared, manyPlaces}
-use Rattle.texts.specs.LexiconReading.{placeWhy, Row, Phase, atStart, atKind, behindKind, atWord, behindWord, atPlace, behindPlace, behindPlaces, Declaring, rowsOf, beginning, Stepped, on, over, fails, stepWord, stepPlace, stepIn, step, LexiconRead, ended, stepped, named, readKindNames, readRows, withNames}
+use Rattle.texts.specs.Lexicon.{WordText, KindText, Lexicon, kindNames, allWords, wordNames, placeKindTokens, withPlaces, wordTokens, wordsTokens, kindsTokens, lexiconTokens, mostPlaces, GoodWord, GoodLexicon}
+use Rattle.texts.specs.Faults.{Parsed, parsed, token, wordDue, wordTwice, manyWords, placeDue, notDeclared, manyPlaces}
+use Rattle.texts.specs.LexiconReading.{placeWhy, WordRow, Phase, atStart, atKind, behindKind, atWord, behindWord, atPlace, behindPlace, behindPlaces, Declaring, rowsOf, beginning, Stepped, on, over, fails, stepWord, stepPlace, stepIn, step, LexiconRead, ended, stepped, named, readKindNames, readRows, withNames}
 use Rattle.texts.specs.Laws.{tokensOf, rowsFrom, lexiconRead, Stops, LexiconsRead, namesBehind}
 use Rattle.texts.proofs.Lookups.{index-at, distinct-front}
 use Rattle.texts.proofs.KindNames.{NameFits, fits-name, names-kinds, names-quiet, names-read}
 
-abbrev pub state : Phase → ℕ → List Token → List Row → List Row → Declaring
+abbrev pub state : Phase → ℕ → List Token → List WordRow → List WordRow → Declaring
 state p n N D L = record { phase = p; kinds = n; names = N; done = D; last = L }
 
-abbrev pub rowOf : ℕ → WordText → Row
+abbrev pub rowOf : ℕ → WordText → WordRow
 rowOf k w = record { kind = k; places = w .places }
 
 abbrev pub andOn : Stepped → (Declaring → Stepped) → Stepped
@@ -72,7 +72,7 @@ rows-walk K (u ∷ us) vs x y [] e t = let z : _≡_ {A = ℕ} 0 1 = cc in absur
 rows-walk K (u ∷ us) vs x y (b ∷ l) e t =
     go (step K x (b .token)) (λ z e. rows-walk K us vs z y l e (cc)) (subst (λ v. andOn (step K x v) (λ z. walk K z us) ≡ on y) (cc) e)
   where
-    Goal : Got LexiconRead → Type 0
+    Goal : Parsed LexiconRead → Type 0
     Goal g = (g ≡ readRows K y (drop (length us) l)) × (tokensOf (drop (length us) l) ≡ vs)
 
     go : (s : Stepped) → ((z : Declaring) → walk K z us ≡ on y → Goal (readRows K z l)) → andOn s (λ z. walk K z us) ≡ on y →
@@ -113,7 +113,7 @@ Rests atPlace = ⊥
 Rests behindPlace = ⊥
 Rests behindPlaces = Unit {0}
 
-record Reached (K : List Token) (x : Declaring) (us : List Token) (n : ℕ) (N : List Token) (R : List Row) : Type 0 where
+record Reached (K : List Token) (x : Declaring) (us : List Token) (n : ℕ) (N : List Token) (R : List WordRow) : Type 0 where
   state : Declaring
   walked : walk K x us ≡ on state
   rests : Rests (state .phase)
@@ -121,7 +121,7 @@ record Reached (K : List Token) (x : Declaring) (us : List Token) (n : ℕ) (N :
   names : state .names ≡ N
   rows : rowsOf state ≡ R
 
-chain : (K : List Token) (x y : Declaring) (us vs : List Token) (n : ℕ) (N : List Token) (R : List Row) → walk K x us ≡ on y →
+chain : (K : List Token) (x y : Declaring) (us vs : List Token) (n : ℕ) (N : List Token) (R : List WordRow) → walk K x us ≡ on y →
     Reached K y vs n N R → Reached K x (us ++ vs) n N R
 chain K x y us vs n N R e r = record {
   state = r .state;
@@ -133,7 +133,7 @@ chain K x y us vs n N R e r = record {
 }
 
 -- The same place, with what was read said in another way.
-said : (K : List Token) (x : Declaring) (us : List Token) (n m : ℕ) (N M : List Token) (R S : List Row) → n ≡ m → N ≡ M → R ≡ S →
+said : (K : List Token) (x : Declaring) (us : List Token) (n m : ℕ) (N M : List Token) (R S : List WordRow) → n ≡ m → N ≡ M → R ≡ S →
     Reached K x us n N R → Reached K x us m M S
 said K x us n m N M R S e f g r = record {
   state = r .state;
@@ -151,12 +151,12 @@ rests-after : (ps : List ℕ) → Rests (after ps)
 rests-after [] = tt
 rests-after (p ∷ ps) = tt
 
-bar-step : (K : List Token) (ps : List ℕ) (n : ℕ) (N : List Token) (D L : List Row) →
+bar-step : (K : List Token) (ps : List ℕ) (n : ℕ) (N : List Token) (D L : List WordRow) →
     step K (state (after ps) n N D L) (mark bar) ≡ on (state atWord n N D L)
 bar-step K [] n N D L = refl
 bar-step K (p ∷ ps) n N D L = refl
 
-kind-step : (K : List Token) (p : Phase) (n : ℕ) (N : List Token) (D L : List Row) → Rests p →
+kind-step : (K : List Token) (p : Phase) (n : ℕ) (N : List Token) (D L : List WordRow) → Rests p →
     step K (state p n N D L) kindWord ≡ on (state atKind n N D L)
 kind-step K behindKind n N D L h = refl
 kind-step K behindWord n N D L h = refl
@@ -175,42 +175,42 @@ module _ (K : List Token) (good : All (λ u. isIdentifier u ≡ true) K) (differ
       (lt-ltb _ _ (subst (λ i. i < length K) (sym (index-at K p different h)) h)) ∙
       cond-true (ltb m mostPlaces) 0 manyPlaces (lt-ltb _ _ f)
 
-  place-step : (us : List Token) (p k n : ℕ) (N : List Token) (D : List Row) (qs : List ℕ) → p < length K → length qs < mostPlaces →
+  place-step : (us : List Token) (p k n : ℕ) (N : List Token) (D : List WordRow) (qs : List ℕ) → p < length K → length qs < mostPlaces →
       walk K (state atPlace n N D (record { kind = k; places = qs } ∷ [])) (nameAt K p ∷ us) ≡
       walk K (state behindPlace n N D (record { kind = k; places = qs ++ (p ∷ []) } ∷ [])) us
   place-step us p k n N D qs h f =
       ap (λ s. andOn s (λ z. walk K z us))
       (ap₂ (stepPlace (state atPlace n N D (record { kind = k; places = qs } ∷ []))) (index-at K p different h) (place-fits (length qs) p h f))
 
-  walk-places : (ps : List ℕ) (k n : ℕ) (N : List Token) (D : List Row) (qs : List ℕ) → All (λ i. i < length K) ps →
+  walk-places : (ps : List ℕ) (k n : ℕ) (N : List Token) (D : List WordRow) (qs : List ℕ) → All (λ i. i < length K) ps →
       length (qs ++ ps) ≤ mostPlaces →
-      walk K (state behindPlace n N D (record { kind = k; places = qs } ∷ [])) (placesTokens K comma ps) ≡
+      walk K (state behindPlace n N D (record { kind = k; places = qs } ∷ [])) (placeKindTokens K comma ps) ≡
       on (state behindPlaces n N D (record { kind = k; places = qs ++ ps } ∷ []))
   walk-places [] k n N D qs a f = ap (λ ps. on (state behindPlaces n N D (record { kind = k; places = ps } ∷ []))) (sym (append-nil qs))
   walk-places (p ∷ ps) k n N D qs a f =
       let e : (qs ++ (p ∷ [])) ++ ps ≡ qs ++ (p ∷ ps) = append-assoc qs (p ∷ []) ps in
-      place-step (placesTokens K comma ps) p k n N D qs (a .0) (omega (arith, length-append qs (p ∷ ps))) ∙
+      place-step (placeKindTokens K comma ps) p k n N D qs (a .0) (omega (arith, length-append qs (p ∷ ps))) ∙
       walk-places ps k n N D (qs ++ (p ∷ [])) (a .1) (subst (λ (l : List ℕ). length l ≤ mostPlaces) (sym e) f) ∙
       ap (λ l. on (state behindPlaces n N D (record { kind = k; places = l } ∷ []))) e
 
-  walk-bracketed : (ps : List ℕ) (k n : ℕ) (N : List Token) (D : List Row) → All (λ i. i < length K) ps → length ps ≤ mostPlaces →
-      walk K (state behindWord n N D (record { kind = k; places = [] } ∷ [])) (bracketed ps (placesTokens K opening ps)) ≡
+  walk-withPlaces : (ps : List ℕ) (k n : ℕ) (N : List Token) (D : List WordRow) → All (λ i. i < length K) ps → length ps ≤ mostPlaces →
+      walk K (state behindWord n N D (record { kind = k; places = [] } ∷ [])) (withPlaces ps (placeKindTokens K opening ps)) ≡
       on (state (after ps) n N D (record { kind = k; places = ps } ∷ []))
-  walk-bracketed [] k n N D a f = refl
-  walk-bracketed (p ∷ ps) k n N D a f =
-      place-step (placesTokens K comma ps) p k n N D [] (a .0) (omega arith) ∙ walk-places ps k n N D (p ∷ []) (a .1) f
+  walk-withPlaces [] k n N D a f = refl
+  walk-withPlaces (p ∷ ps) k n N D a f =
+      place-step (placeKindTokens K comma ps) p k n N D [] (a .0) (omega arith) ∙ walk-places ps k n N D (p ∷ []) (a .1) f
 
-  walk-word : (w : WordText) (n : ℕ) (N : List Token) (D L : List Row) → GoodWord (length K) w → NameFits mostWords N (w .name) →
+  walk-word : (w : WordText) (n : ℕ) (N : List Token) (D L : List WordRow) → GoodWord (length K) w → NameFits mostWords N (w .name) →
       walk K (state atWord n N D L) (wordTokens K w) ≡
       on (state (after (w .places)) n (N ++ (w .name ∷ [])) (D ++ L) (rowOf (n - 1) w ∷ []))
   walk-word w n N D L g f =
-      ap (λ s. andOn s (λ z. walk K z (bracketed (w .places) (placesTokens K opening (w .places)))))
+      ap (λ s. andOn s (λ z. walk K z (withPlaces (w .places) (placeKindTokens K opening (w .places)))))
       (ap (stepWord (state atWord n N D L) (w .name)) (fits-name wordDue wordTwice manyWords mostWords N (w .name) f)) ∙
-      walk-bracketed (w .places) (n - 1) n (N ++ (w .name ∷ [])) (D ++ L) (g .places) (g .few)
+      walk-withPlaces (w .places) (n - 1) n (N ++ (w .name ∷ [])) (D ++ L) (g .places) (g .few)
 
   -- A word, and those behind it.
-  word-then : (w : WordText) (ws : List WordText) (vs : List Token) (n : ℕ) (N : List Token) (D L : List Row) →
-      ((ps : List ℕ) (N : List Token) (D L : List Row) → Room N (map name ws ++ vs) →
+  word-then : (w : WordText) (ws : List WordText) (vs : List Token) (n : ℕ) (N : List Token) (D L : List WordRow) →
+      ((ps : List ℕ) (N : List Token) (D L : List WordRow) → Room N (map name ws ++ vs) →
       Reached K (state (after ps) n N D L) (wordsTokens K bar ws) n (N ++ map name ws) ((D ++ L) ++ map (rowOf (n - 1)) ws)) →
       GoodWord (length K) w → Room N (map name (w ∷ ws) ++ vs) →
       Reached K (state atWord n N D L) (wordTokens K w ++ wordsTokens K bar ws) n (N ++ map name (w ∷ ws))
@@ -224,7 +224,7 @@ module _ (K : List Token) (good : All (λ u. isIdentifier u ≡ true) K) (differ
       (append-assoc (D ++ L) (rowOf (n - 1) w ∷ []) (map (rowOf (n - 1)) ws))
       (more (w .places) (N ++ (w .name ∷ [])) (D ++ L) (rowOf (n - 1) w ∷ []) (room-next N (w .name ∷ []) (map name ws ++ vs) r)))
 
-  walk-words : (ws : List WordText) (vs : List Token) (n : ℕ) → All (GoodWord (length K)) ws → (ps : List ℕ) (N : List Token) (D L : List Row) →
+  walk-words : (ws : List WordText) (vs : List Token) (n : ℕ) → All (GoodWord (length K)) ws → (ps : List ℕ) (N : List Token) (D L : List WordRow) →
       Room N (map name ws ++ vs) →
       Reached K (state (after ps) n N D L) (wordsTokens K bar ws) n (N ++ map name ws) ((D ++ L) ++ map (rowOf (n - 1)) ws)
   walk-words [] vs n a ps N D L r = record {
@@ -240,7 +240,7 @@ module _ (K : List Token) (good : All (λ u. isIdentifier u ≡ true) K) (differ
       (ap (λ s. andOn s on) (bar-step K ps n N D L))
       (word-then w ws vs n N D L (walk-words ws vs n (a .1)) (a .0) r)
 
-  walk-first : (ws : List WordText) (vs : List Token) (n : ℕ) → All (GoodWord (length K)) ws → (N : List Token) (D L : List Row) →
+  walk-first : (ws : List WordText) (vs : List Token) (n : ℕ) → All (GoodWord (length K)) ws → (N : List Token) (D L : List WordRow) →
       Room N (map name ws ++ vs) →
       Reached K (state behindKind n N D L) (wordsTokens K equals ws) n (N ++ map name ws) ((D ++ L) ++ map (rowOf (n - 1)) ws)
   walk-first [] vs n a N D L r = record {
@@ -255,7 +255,7 @@ module _ (K : List Token) (good : All (λ u. isIdentifier u ≡ true) K) (differ
       chain K (state behindKind n N D L) (state atWord n N D L) (mark equals ∷ []) (wordTokens K w ++ wordsTokens K bar ws) n _ _ refl
       (word-then w ws vs n N D L (walk-words ws vs n (a .1)) (a .0) r)
 
-  kind-then : (x : KindText) (X : Lexicon) (n : ℕ) (N : List Token) (D L : List Row) →
+  kind-then : (x : KindText) (X : Lexicon) (n : ℕ) (N : List Token) (D L : List WordRow) →
       ((y : Declaring) → Rests (y .phase) → Room (y .names) (wordNames X) →
       (m : ℕ) × Reached K y (kindsTokens K X) m (y .names ++ wordNames X) (rowsOf y ++ rowsFrom (y .kinds) X)) →
       All (GoodWord (length K)) (x .words) → Room N (wordNames (x ∷ X)) →
@@ -268,8 +268,8 @@ module _ (K : List Token) (good : All (λ u. isIdentifier u ≡ true) K) (differ
         (wordsTokens K equals (x .words) ++ kindsTokens K X) (rest .0) _ _ refl
         (said K _ _ (rest .0) (rest .0) _ _ _ _ refl
         (ap (λ (M : List Token). M ++ wordNames X) (front .names) ∙ append-assoc N (map name (x .words)) (wordNames X) ∙
-        ap (λ (M : List Token). N ++ M) (sym (map-append name (x .words) (wordsOf X))))
-        (ap₂ (λ (R : List Row) (k : ℕ). R ++ rowsFrom k X) (front .rows) (front .kinds) ∙
+        ap (λ (M : List Token). N ++ M) (sym (map-append name (x .words) (allWords X))))
+        (ap₂ (λ (R : List WordRow) (k : ℕ). R ++ rowsFrom k X) (front .rows) (front .kinds) ∙
         ap (λ (k : ℕ). ((D ++ L) ++ map (rowOf k) (x .words)) ++ rowsFrom (suc n) X) before ∙
         append-assoc (D ++ L) (map (rowOf n) (x .words)) (rowsFrom (suc n) X))
         (chain K (state behindKind (suc n) N D L) (front .state) (wordsTokens K equals (x .words)) (kindsTokens K X) (rest .0) _ _
@@ -280,7 +280,7 @@ module _ (K : List Token) (good : All (λ u. isIdentifier u ≡ true) K) (differ
       before = omega arith
 
       split : Room N (map name (x .words) ++ wordNames X)
-      split = subst (Room N) (map-append name (x .words) (wordsOf X)) r
+      split = subst (Room N) (map-append name (x .words) (allWords X)) r
 
       front : Reached K (state behindKind (suc n) N D L) (wordsTokens K equals (x .words)) (suc n) (N ++ map name (x .words))
           ((D ++ L) ++ map (rowOf (suc n - 1)) (x .words))
@@ -293,7 +293,7 @@ module _ (K : List Token) (good : All (λ u. isIdentifier u ≡ true) K) (differ
           more (front .state) (front .rests)
           (subst (λ M. Room M (wordNames X)) (sym (front .names)) (room-next N (map name (x .words)) (wordNames X) split))
 
-  walk-kinds : (X : Lexicon) → All (GoodWord (length K)) (wordsOf X) → (y : Declaring) → Rests (y .phase) → Room (y .names) (wordNames X) →
+  walk-kinds : (X : Lexicon) → All (GoodWord (length K)) (allWords X) → (y : Declaring) → Rests (y .phase) → Room (y .names) (wordNames X) →
       (m : ℕ) × Reached K y (kindsTokens K X) m (y .names ++ wordNames X) (rowsOf y ++ rowsFrom (y .kinds) X)
   walk-kinds [] a y h r = (
     y .kinds,
@@ -308,20 +308,20 @@ module _ (K : List Token) (good : All (λ u. isIdentifier u ≡ true) K) (differ
   )
   walk-kinds (x ∷ X) a y h r =
       let b = kind-then x X (y .kinds) (y .names) (y .done) (y .last)
-      (walk-kinds X (all-right (GoodWord (length K)) (x .words) (wordsOf X) a))
-      (all-left (GoodWord (length K)) (x .words) (wordsOf X) a) r in (
+      (walk-kinds X (all-right (GoodWord (length K)) (x .words) (allWords X) a))
+      (all-left (GoodWord (length K)) (x .words) (allWords X) a) r in (
         b .0,
         chain K y (state atKind (y .kinds) (y .names) (y .done) (y .last)) (kindWord ∷ [])
             (x .name ∷ (wordsTokens K equals (x .words) ++ kindsTokens K X)) (b .0) _ _
             (ap (λ s. andOn s on) (kind-step K (y .phase) (y .kinds) (y .names) (y .done) (y .last) h)) (b .1),
       )
 
-  walk-all : (X : Lexicon) → 1 ≤ length X → All (GoodWord (length K)) (wordsOf X) → Room [] (wordNames X) →
+  walk-all : (X : Lexicon) → 1 ≤ length X → All (GoodWord (length K)) (allWords X) → Room [] (wordNames X) →
       (m : ℕ) × Reached K beginning (kindsTokens K X) m (wordNames X) (rowsFrom 0 X)
   walk-all [] h a r = absurd (omega arith)
   walk-all (x ∷ X) h a r =
-      let b = kind-then x X 0 [] [] [] (walk-kinds X (all-right (GoodWord (length K)) (x .words) (wordsOf X) a))
-      (all-left (GoodWord (length K)) (x .words) (wordsOf X) a) r in (
+      let b = kind-then x X 0 [] [] [] (walk-kinds X (all-right (GoodWord (length K)) (x .words) (allWords X) a))
+      (all-left (GoodWord (length K)) (x .words) (allWords X) a) r in (
         b .0,
         chain K beginning (state atKind 0 [] [] []) (kindWord ∷ []) (x .name ∷ (wordsTokens K equals (x .words) ++ kindsTokens K X)) (b .0)
             _ _ refl (b .1),
@@ -342,7 +342,7 @@ step-over K x u atPlace h k e b o = absurd h
 step-over K x u behindPlace h k e b o = absurd h
 
 ends : (K : List Token) (y : Declaring) (l : List Lexeme) → 1 ≤ length (y .names) →
-    ended K y l ≡ got (record { kindNames = K; wordNames = y .names; rows = rowsOf y }) l
+    ended K y l ≡ parsed (record { kindNames = K; wordNames = y .names; rows = rowsOf y }) l
 ends K y l h = cond-false (eqb (length (y .names)) 0) _ _ (ne-eqb (length (y .names)) 0 (λ e. omega arith))
 
 -- No declaration goes on with the token u.
@@ -353,7 +353,7 @@ pub record Over (u : Token) : Type 0 where
   pub noOpening : same u (mark opening) ≡ false
 
 stop : (K : List Token) (y : Declaring) (l : List Lexeme) → Rests (y .phase) → Over (nameAt (tokensOf l) 0) → 1 ≤ length (y .names) →
-    readRows K y l ≡ got (record { kindNames = K; wordNames = y .names; rows = rowsOf y }) l
+    readRows K y l ≡ parsed (record { kindNames = K; wordNames = y .names; rows = rowsOf y }) l
 stop K y [] p o h = ends K y [] h
 stop K y (b ∷ l) p o h =
     ap (stepped (λ z. readRows K z l) K y (b ∷ l))
@@ -367,16 +367,16 @@ module _ (X : Lexicon) (g : GoodLexicon X) where
   plain : All (λ u. isIdentifier u ≡ true) (kindNames X)
   plain = all-implies IsIdentifier (λ u. isIdentifier u ≡ true) (λ u i. i .identifier) (kindNames X) identifiers
 
-  words : All (GoodWord (length (kindNames X))) (wordsOf X)
-  words = subst (λ n. All (GoodWord n) (wordsOf X)) (sym (length-map X (λ (x : KindText). x .name))) (g .words)
+  words : All (GoodWord (length (kindNames X))) (allWords X)
+  words = subst (λ n. All (GoodWord n) (allWords X)) (sym (length-map X (λ (x : KindText). x .name))) (g .words)
 
   -- Where the names of the kinds are known, the rest is read whatever stands behind it.
   pub rows-read : (l : List Lexeme) (us : List Token) → tokensOf l ≡ lexiconTokens X ++ us → Over (nameAt us 0) →
-      readRows (kindNames X) beginning l ≡ got (lexiconRead X) (drop (length (lexiconTokens X)) l)
+      readRows (kindNames X) beginning l ≡ parsed (lexiconRead X) (drop (length (lexiconTokens X)) l)
   rows-read l us e o =
       along .0 ∙
       stop K (y .state) behind (y .rests) (subst (λ (r : List Token). Over (nameAt r 0)) (sym (along .1)) o) some ∙
-      ap₂ (λ (N : List Token) (R : List Row). got (record { kindNames = K; wordNames = N; rows = R }) behind) (y .names) (y .rows)
+      ap₂ (λ (N : List Token) (R : List WordRow). parsed (record { kindNames = K; wordNames = N; rows = R }) behind) (y .names) (y .rows)
     where
       K : List Token
       K = kindNames X
@@ -385,7 +385,7 @@ module _ (X : Lexicon) (g : GoodLexicon X) where
       behind = drop (length (lexiconTokens X)) l
 
       room : Room [] (wordNames X)
-      room = record { different = g .differentWords; few = subst (λ n. n ≤ mostWords) (sym (length-map (wordsOf X) name)) (g .fewWords) }
+      room = record { different = g .differentWords; few = subst (λ n. n ≤ mostWords) (sym (length-map (allWords X) name)) (g .fewWords) }
 
       reached : (m : ℕ) × Reached K beginning (kindsTokens K X) m (wordNames X) (rowsFrom 0 X)
       reached = walk-all K plain (g .differentKinds) X (g .someKind) words room
@@ -397,7 +397,7 @@ module _ (X : Lexicon) (g : GoodLexicon X) where
       along = rows-walk K (lexiconTokens X) us beginning (y .state) l (y .walked) e
 
       some : 1 ≤ length (y .state .names)
-      some = subst (λ (N : List Token). 1 ≤ length N) (sym (y .names)) (subst (λ n. 1 ≤ n) (sym (length-map (wordsOf X) name)) (g .someWord))
+      some = subst (λ (N : List Token). 1 ≤ length N) (sym (y .names)) (subst (λ n. 1 ≤ n) (sym (length-map (allWords X) name)) (g .someWord))
 
 stops-over : (r : List Lexeme) → Stops r → Over (nameAt (tokensOf r) 0)
 stops-over [] s = record { noKind = refl; noEquals = refl; noBar = refl; noOpening = refl }

@@ -19,7 +19,7 @@ use Rattle.wire.specs.Text.{ascii, newline}
 use Rattle.texts.specs.Lexemes.{Token, isBlank, comment, isRun, runSize}
 use Rattle.texts.specs.Names.{kindWord, mark, opening, closing, comma, bar, equals, nameAt, IsIdentifier}
 use Rattle.texts.specs.Spelling.{none, space, whole, IsToken, run, single, Spells, end, next}
-use Rattle.texts.specs.Lexicon.{WordText, KindText, Lexicon, kindNames, wordsOf, placesTokens, bracketed, wordTokens, wordsTokens, kindTokens, kindsTokens, placesDeclared, wordDeclared, wordsDeclared, kindLine, kindLines, GoodWord}
+use Rattle.texts.specs.Lexicon.{WordText, KindText, Lexicon, kindNames, allWords, placeKindTokens, withPlaces, wordTokens, wordsTokens, kindTokens, kindsTokens, placesDeclared, wordDeclared, wordsDeclared, kindLine, kindLines, GoodWord}
 use Rattle.texts.specs.Laws.{LexiconsAreSpelled}
 use Rattle.texts.proofs.Lexicon.{kind-name}
 use Rattle.texts.proofs.Spelling.{ends-single}
@@ -66,14 +66,14 @@ puts-bar = puts-apart bar refl refl refl
 
 module _ (n : ℕ) (K : List Token) (names : (k : ℕ) → k < n → IsIdentifier (nameAt K k)) where
   places-spelt : (c : ℕ) (cs : List ℕ) → Puts c cs → (ps : List ℕ) → All (λ k. k < n) ps → (z : List ℕ) (us : List Token) →
-      Spells z us → Spells (placesDeclared K cs ps ++ z) (placesTokens K c ps ++ us)
+      Spells z us → Spells (placesDeclared K cs ps ++ z) (placeKindTokens K c ps ++ us)
   places-spelt c cs puts [] h z us s = put-mark closing z us refl refl refl s
   places-spelt c cs puts (p ∷ ps) h z us s =
       let rest = placesDeclared K (ascii ", ") ps in
-      subst (λ (x : List ℕ). Spells x (placesTokens K c (p ∷ ps) ++ us))
+      subst (λ (x : List ℕ). Spells x (placeKindTokens K c (p ∷ ps) ++ us))
       (sym (append-assoc cs (nameAt K p ++ rest) z ∙ ap (λ (x : List ℕ). cs ++ x) (append-assoc (nameAt K p) rest z)))
-      (puts .spells (nameAt K p ++ (rest ++ z)) (nameAt K p ∷ (placesTokens K comma ps ++ us))
-      (put-name (nameAt K p) (rest ++ z) (placesTokens K comma ps ++ us) (names p (h .0)) (stops ps)
+      (puts .spells (nameAt K p ++ (rest ++ z)) (nameAt K p ∷ (placeKindTokens K comma ps ++ us))
+      (put-name (nameAt K p) (rest ++ z) (placeKindTokens K comma ps ++ us) (names p (h .0)) (stops ps)
       (places-spelt comma (ascii ", ") puts-comma ps (h .1) z us s)))
     where
       stops : (ps : List ℕ) → runSize (placesDeclared K (ascii ", ") ps ++ z) ≡ 0
@@ -81,11 +81,11 @@ module _ (n : ℕ) (K : List Token) (names : (k : ℕ) → k < n → IsIdentifie
       stops (p ∷ ps) = refl
 
   word-spelt : (u : Token) (ps : List ℕ) → IsIdentifier u → All (λ k. k < n) ps → (z : List ℕ) (us : List Token) → runSize z ≡ 0 →
-      Spells z us → Spells (wordDeclared K u ps ++ z) (u ∷ (bracketed ps (placesTokens K opening ps) ++ us))
+      Spells z us → Spells (wordDeclared K u ps ++ z) (u ∷ (withPlaces ps (placeKindTokens K opening ps) ++ us))
   word-spelt u [] name h z us stops s = put-name u z us name stops s
   word-spelt u (p ∷ ps) name h z us stops s =
       let places = placesDeclared K (mark opening) (p ∷ ps) in
-      let all = placesTokens K opening (p ∷ ps) ++ us in
+      let all = placeKindTokens K opening (p ∷ ps) ++ us in
       subst (λ (x : List ℕ). Spells x (u ∷ all)) (sym (append-assoc u places z))
       (put-name u (places ++ z) all name refl (places-spelt opening (mark opening) puts-opening (p ∷ ps) h z us s))
 
@@ -121,12 +121,12 @@ module _ (n : ℕ) (K : List Token) (names : (k : ℕ) → k < n → IsIdentifie
       (put-name (x .name) (words ++ (10 ∷ z)) behind name (words-stop equals (ascii " = ") puts-equals (x .words) (10 ∷ z) refl)
       (words-spelt equals (ascii " = ") puts-equals (x .words) good (10 ∷ z) us refl (blank-before (space 10 [] refl none) s)))))
 
-  kinds-spelt : (X : Lexicon) → All (λ (x : KindText). IsIdentifier (x .name)) X → All (GoodWord n) (wordsOf X) →
+  kinds-spelt : (X : Lexicon) → All (λ (x : KindText). IsIdentifier (x .name)) X → All (GoodWord n) (allWords X) →
       Spells (kindLines K X) (kindsTokens K X)
   kinds-spelt [] named good = end [] (whole none)
   kinds-spelt (x ∷ X) named good =
-      kind-spelt x (named .0) (all-left (GoodWord n) (x .words) (wordsOf X) good) (kindLines K X) (kindsTokens K X)
-      (kinds-spelt X (named .1) (all-right (GoodWord n) (x .words) (wordsOf X) good))
+      kind-spelt x (named .0) (all-left (GoodWord n) (x .words) (allWords X) good) (kindLines K X) (kindsTokens K X)
+      (kinds-spelt X (named .1) (all-right (GoodWord n) (x .words) (allWords X) good))
 
 pub lexicons-are-spelled : LexiconsAreSpelled
 lexicons-are-spelled X good = kinds-spelt (length X) (kindNames X) (kind-name X good) X (good .kinds) (good .words)

@@ -19,7 +19,7 @@ use Prim.Native.Nat.{ℕ, _+_}
 use native.Mathlib.Omega.{arith}
 use lib.ListN.{length}
 use Rattle.texts.specs.Lexemes.{Token, Lexeme}
-use Rattle.texts.specs.Faults.{Fault, Got, got, bad, andThen}
+use Rattle.texts.specs.Faults.{Fault, Parsed, parsed, bad, parseThen}
 use Rattle.texts.specs.Laws.{tokensOf}
 use Rattle.texts.proofs.Standing.{Stands, stands-append, stands-split}
 
@@ -68,13 +68,13 @@ ended-rest test x l n e (inr h) = h
 
 -- ---- what a reader does
 
-pub record Took {A : Type 0} (read : List Lexeme → Got A) (l : List Lexeme) (a : A) (r : List Lexeme) : Type 0 where
+pub record Took {A : Type 0} (read : List Lexeme → Parsed A) (l : List Lexeme) (a : A) (r : List Lexeme) : Type 0 where
   pub us : List Token
   pub stands : Stands us l r
   pub ended : Ended r
-  pub again : (l′ r′ : List Lexeme) → Stands us l′ r′ → read l′ ≡ got a r′
+  pub again : (l′ r′ : List Lexeme) → Stands us l′ r′ → read l′ ≡ parsed a r′
 
-pub record Stopped {A : Type 0} (read : List Lexeme → Got A) (Can : List Token → Type 0) (l : List Lexeme) (x : Fault) : Type 0 where
+pub record Stopped {A : Type 0} (read : List Lexeme → Parsed A) (Can : List Token → Type 0) (l : List Lexeme) (x : Fault) : Type 0 where
   pub us : List Token
   pub here : Lexeme
   pub behind : List Lexeme
@@ -84,13 +84,13 @@ pub record Stopped {A : Type 0} (read : List Lexeme → Got A) (Can : List Token
   pub never : (l′ : List Lexeme) (at : ℕ) (r′ : List Lexeme) → Stands us l′ (record { at = at; token = here .token } ∷ r′) →
       (y : Fault) × (read l′ ≡ bad y)
 
-abbrev pub Ran : {A : Type 0} → (List Lexeme → Got A) → (List Token → Type 0) → List Lexeme → Got A → Type 0
-Ran read Can l (got a r) = Took read l a r
+abbrev pub Ran : {A : Type 0} → (List Lexeme → Parsed A) → (List Token → Type 0) → List Lexeme → Parsed A → Type 0
+Ran read Can l (parsed a r) = Took read l a r
 Ran read Can l (bad x) = Stopped read Can l x
 
-module _ {A : Type 0} (read : List Lexeme → Got A) (l : List Lexeme) (Can Can′ : List Token → Type 0) (weaker : (us : List Token) → Can us → Can′ us) where
-  pub ran-weaker : (y : Got A) → Ran read Can l y → Ran read Can′ l y
-  ran-weaker (got a r) h = h
+module _ {A : Type 0} (read : List Lexeme → Parsed A) (l : List Lexeme) (Can Can′ : List Token → Type 0) (weaker : (us : List Token) → Can us → Can′ us) where
+  pub ran-weaker : (y : Parsed A) → Ran read Can l y → Ran read Can′ l y
+  ran-weaker (parsed a r) h = h
   ran-weaker (bad x) h = record {
     us = h .us;
     here = h .here;
@@ -103,16 +103,16 @@ module _ {A : Type 0} (read : List Lexeme → Got A) (l : List Lexeme) (Can Can�
 
 -- ---- a reader behind another
 
-module _ {A B : Type 0} (read : List Lexeme → Got A) (k : A → List Lexeme → Got B) (Can : List Token → Type 0) (l : List Lexeme) where
-  took-then : (a : A) (r : List Lexeme) (t : Took read l a r) (y : Got B) → Ran (k a) (λ ws. Can (t .us ++ ws)) r y →
-      Ran (λ l′. andThen (read l′) k) Can l y
-  took-then a r t (got b q) h = record {
+module _ {A B : Type 0} (read : List Lexeme → Parsed A) (k : A → List Lexeme → Parsed B) (Can : List Token → Type 0) (l : List Lexeme) where
+  took-then : (a : A) (r : List Lexeme) (t : Took read l a r) (y : Parsed B) → Ran (k a) (λ ws. Can (t .us ++ ws)) r y →
+      Ran (λ l′. parseThen (read l′) k) Can l y
+  took-then a r t (parsed b q) h = record {
     us = t .us ++ h .us;
     stands = stands-append (t .us) (h .us) l r q (t .stands) (h .stands);
     ended = h .ended;
     again = λ l′ r′ s.
         let cut = stands-split (t .us) (h .us) l′ r′ s in
-        ap (λ (z : Got A). andThen z k) (t .again l′ (cut .0) (cut .1)) ∙ h .again (cut .0) r′ (cut .2);
+        ap (λ (z : Parsed A). parseThen z k) (t .again l′ (cut .0) (cut .1)) ∙ h .again (cut .0) r′ (cut .2);
   }
   took-then a r t (bad x) h = record {
     us = t .us ++ h .us;
@@ -124,13 +124,13 @@ module _ {A B : Type 0} (read : List Lexeme → Got A) (k : A → List Lexeme �
     never = λ l′ at r′ s.
         let cut = stands-split (t .us) (h .us) l′ (record { at = at; token = h .here .token } ∷ r′) s in
         let n = h .never (cut .0) at r′ (cut .2) in
-        (n .0, ap (λ (z : Got A). andThen z k) (t .again l′ (cut .0) (cut .1)) ∙ n .1);
+        (n .0, ap (λ (z : Parsed A). parseThen z k) (t .again l′ (cut .0) (cut .1)) ∙ n .1);
   }
 
-  pub ran-then : (Can′ : List Token → Type 0) (y : Got A) → Ran read Can′ l y → ((us : List Token) → Can′ us → Can us) →
-      ((a : A) (r : List Lexeme) (t : Took read l a r) → y ≡ got a r → Ran (k a) (λ ws. Can (t .us ++ ws)) r (k a r)) →
-      Ran (λ l′. andThen (read l′) k) Can l (andThen y k)
-  ran-then Can′ (got a r) t first behind = took-then a r t (k a r) (behind a r t refl)
+  pub ran-then : (Can′ : List Token → Type 0) (y : Parsed A) → Ran read Can′ l y → ((us : List Token) → Can′ us → Can us) →
+      ((a : A) (r : List Lexeme) (t : Took read l a r) → y ≡ parsed a r → Ran (k a) (λ ws. Can (t .us ++ ws)) r (k a r)) →
+      Ran (λ l′. parseThen (read l′) k) Can l (parseThen y k)
+  ran-then Can′ (parsed a r) t first behind = took-then a r t (k a r) (behind a r t refl)
   ran-then Can′ (bad x) h first behind = record {
     us = h .us;
     here = h .here;
@@ -139,23 +139,23 @@ module _ {A B : Type 0} (read : List Lexeme → Got A) (k : A → List Lexeme �
     place = h .place;
     can = first (h .us) (h .can);
     never = λ l′ at r′ s.
-        let n = h .never l′ at r′ s in (n .0, ap (λ (z : Got A). andThen z k) (n .1));
+        let n = h .never l′ at r′ s in (n .0, ap (λ (z : Parsed A). parseThen z k) (n .1));
   }
 
 -- ---- a reader by its first token
 
-module _ {A : Type 0} (read : List Lexeme → Got A) (Can : List Token → Type 0) (x : Lexeme) (l : List Lexeme) where
-  pub ran-cons : (below : List Lexeme → Got A) →
-      ((at : ℕ) (l′ : List Lexeme) → read (record { at = at; token = x .token } ∷ l′) ≡ below l′) → (y : Got A) →
+module _ {A : Type 0} (read : List Lexeme → Parsed A) (Can : List Token → Type 0) (x : Lexeme) (l : List Lexeme) where
+  pub ran-cons : (below : List Lexeme → Parsed A) →
+      ((at : ℕ) (l′ : List Lexeme) → read (record { at = at; token = x .token } ∷ l′) ≡ below l′) → (y : Parsed A) →
       Ran below (λ ws. Can (x .token ∷ ws)) l y → Ran read Can (x ∷ l) y
-  ran-cons below same (got a r) h = record {
+  ran-cons below same (parsed a r) h = record {
     us = x .token ∷ h .us;
     stands = (refl, h .stands);
     ended = h .ended;
     again = λ l′ r′ s. again l′ r′ s;
   }
     where
-      again : (l′ r′ : List Lexeme) → Stands (x .token ∷ h .us) l′ r′ → read l′ ≡ got a r′
+      again : (l′ r′ : List Lexeme) → Stands (x .token ∷ h .us) l′ r′ → read l′ ≡ parsed a r′
       again [] r′ s = absurd s
       again (y ∷ l′) r′ s =
           ap (λ (u : Token). read (record { at = y .at; token = u } ∷ l′)) (s .0) ∙ (same (y .at) l′ ∙ h .again l′ r′ (s .1))
@@ -189,5 +189,5 @@ module _ {A : Type 0} (read : List Lexeme → Got A) (Can : List Token → Type 
     never = λ l′ at r′ s. (why at, ap read s ∙ same at r′);
   }
 
-pub ran-return : {A : Type 0} (a : A) (l : List Lexeme) → Ended l → Took (λ l′. got a l′) l a l
-ran-return a l e = record { us = []; stands = refl; ended = e; again = λ l′ r′ s. ap (λ (z : List Lexeme). got a z) s }
+pub ran-return : {A : Type 0} (a : A) (l : List Lexeme) → Ended l → Took (λ l′. parsed a l′) l a l
+ran-return a l e = record { us = []; stands = refl; ended = e; again = λ l′ r′ s. ap (λ (z : List Lexeme). parsed a z) s }

@@ -33,8 +33,8 @@ use Rattle.texts.specs.Lexemes.{Token, Lexeme}
 use Rattle.texts.specs.Names.{same, opened, mark, colon, mostName, isIdentifier, isVariable, indexIn, nameAt, IsIdentifier, IsVariable}
 use Rattle.texts.specs.Lexicon.{Lexicon, kindNames, wordNames, vocabularyOf, GoodLexicon}
 use Rattle.texts.specs.Phrases.{IsLabel, labelTokens, phraseTokens, termTokens, GoodPhrase}
-use Rattle.texts.specs.Faults.{Got, got, bad, andThen, token, longName, patternDue, notDeclared, placeDue, colonDue}
-use Rattle.texts.specs.PhraseReading.{TermRead, PhraseRead, phraseRead, variableWhy, faultAt, readVariable, readTerm, readRootKind, readRoot, labelled}
+use Rattle.texts.specs.Faults.{Parsed, parsed, bad, parseThen, token, longName, patternDue, notDeclared, placeDue, colonDue}
+use Rattle.texts.specs.PhraseReading.{TermRead, PhraseRead, phraseRead, variableWhy, faultAt, readVariable, parseTerm, readRootKind, readRoot, labelled}
 use Rattle.texts.specs.Laws.{tokensOf, PhrasesExact}
 use Rattle.texts.proofs.Finding.{same-exact, at-index}
 use Rattle.texts.proofs.Standing.{Stands, stands-tokens, Counts, counts-range}
@@ -54,13 +54,13 @@ consistent-once (o ∷ l) h =
           (all-both (λ (x : Occurrence). o .name ≡ x .name → ⊥) (λ (x : Occurrence). All (Agree x) l) l others (consistent-once l (h .1))),
     )
 
-abbrev pub RootExact : Lexicon → List Lexeme → Got PhraseRead → Type 0
-RootExact X l (got p r) =
+abbrev pub RootExact : Lexicon → List Lexeme → Parsed PhraseRead → Type 0
+RootExact X l (parsed p r) =
     (p .label ≡ []) × GoodPhrase X (p .variables) (p .kind) (p .term) × Stands (phraseTokens X (p .variables) (p .kind) (p .term)) l r
 RootExact X l (bad x) = Unit {0}
 
-abbrev pub Exact : Lexicon → List Lexeme → Got PhraseRead → Type 0
-Exact X l (got p r) =
+abbrev pub Exact : Lexicon → List Lexeme → Parsed PhraseRead → Type 0
+Exact X l (parsed p r) =
     IsLabel (p .label) × GoodPhrase X (p .variables) (p .kind) (p .term)
     × Stands (labelTokens (p .label) ++ phraseTokens X (p .variables) (p .kind) (p .term)) l r
 Exact X l (bad x) = Unit {0}
@@ -149,14 +149,14 @@ module _ (X : Lexicon) (named : Named (kindNames X) (wordNames X) (vocabularyOf 
   -- The kind behind a root that is open or a variable.
   kind-exact : (a : TermRead) (x : Lexeme) (l : List Lexeme) →
       ((k : ℕ) (y z : Lexeme) (r : List Lexeme) → k < length X → y .token ≡ mark colon → z .token ≡ nameAt (kindNames X) k →
-      RootExact X (x ∷ y ∷ z ∷ r) (got (phraseRead k a) r)) →
+      RootExact X (x ∷ y ∷ z ∷ r) (parsed (phraseRead k a) r)) →
       RootExact X (x ∷ l) (readRootKind (kindNames X) a l)
   kind-exact a x [] h = tt
   kind-exact a x (y ∷ []) h = choice (RootExact X (x ∷ y ∷ [])) (same (y .token) (mark colon)) _ (faultAt colonDue 0 (y ∷ [])) (λ e. tt) (λ e. tt)
   kind-exact a x (y ∷ z ∷ l) h =
       choice (RootExact X (x ∷ y ∷ z ∷ l)) (same (y .token) (mark colon)) _ (faultAt colonDue 0 (y ∷ z ∷ l))
       (λ e. choice (RootExact X (x ∷ y ∷ z ∷ l)) (isIdentifier (z .token)) _ (faultAt placeDue 0 (z ∷ l))
-      (λ i. choice (RootExact X (x ∷ y ∷ z ∷ l)) (ltb (indexIn (z .token) K) (length K)) (got (phraseRead (indexIn (z .token) K) a) l) (faultAt notDeclared 0 (z ∷ l))
+      (λ i. choice (RootExact X (x ∷ y ∷ z ∷ l)) (ltb (indexIn (z .token) K) (length K)) (parsed (phraseRead (indexIn (z .token) K) a) l) (faultAt notDeclared 0 (z ∷ l))
       (λ k. let low : indexIn (z .token) K < length K = ltb-true (indexIn (z .token) K) (length K) k in
       let n = named .kindCount in
       h (indexIn (z .token) K) y z l (omega arith) (same-exact (y .token) (mark colon) e) (sym (at-index (z .token) K low)))
@@ -165,11 +165,11 @@ module _ (X : Lexicon) (named : Named (kindNames X) (wordNames X) (vocabularyOf 
       K : List Token
       K = kindNames X
 
-  pub word-root : (x : Lexeme) (l : List Lexeme) → isIdentifier (x .token) ≡ true → (due : ℕ) (y : Got TermRead) →
+  pub word-root : (x : Lexeme) (l : List Lexeme) → isIdentifier (x .token) ≡ true → (due : ℕ) (y : Parsed TermRead) →
       Reads (wordNames X) (vocabularyOf X) mostLevels due start (x ∷ l) y →
-      RootExact X (x ∷ l) (andThen y (λ a r. got (phraseRead due a) r))
+      RootExact X (x ∷ l) (parseThen y (λ a r. parsed (phraseRead due a) r))
   word-root x l e due (bad y) h = tt
-  word-root x l e due (got b r) h =
+  word-root x l e due (parsed b r) h =
       let used = h .grows .used in
       let few = h .grows .within (omega arith) in
       let grown : b .seen .variables ≡ h .grows .new = h .grows .grown in
@@ -182,7 +182,7 @@ module _ (X : Lexicon) (named : Named (kindNames X) (wordNames X) (vocabularyOf 
   module _ (below : Below) (x : Lexeme) (l : List Lexeme) (a : Lexed (x ∷ l))
       (reads : (due : ℕ) → Reads (wordNames X) (vocabularyOf X) mostLevels due start (x ∷ l) (below due start (x ∷ l))) where
     from-variable : isVariable (x .token) ≡ true → (why : ℕ) → variableWhy mostLevels start (x .token) ≡ why →
-        RootExact X (x ∷ l) (andThen (readVariable 0 start (x ∷ l) why) (readRootKind (kindNames X)))
+        RootExact X (x ∷ l) (parseThen (readVariable 0 start (x ∷ l) why) (readRootKind (kindNames X)))
     from-variable e zero q =
         let fit = variable-fits mostLevels start (x .token) q in
         kind-exact (record { term = var 0; seen = record { variables = x .token ∷ []; used = 1 + 1 } }) x l
@@ -206,7 +206,7 @@ root-of : (X : Lexicon) → GoodLexicon X → (l : List Lexeme) → Lexed l → 
 root-of X lex [] a = tt
 root-of X lex (x ∷ l) a =
     let named = lexicon-named X lex in
-    root-exact X named (readTerm (wordNames X) (vocabularyOf X) mostLevels) x l a
+    root-exact X named (parseTerm (wordNames X) (vocabularyOf X) mostLevels) x l a
     (λ due. term-exact (kindNames X) (wordNames X) (vocabularyOf X) named mostLevels due start (x ∷ l) a)
 
 -- ---- labels
@@ -216,25 +216,25 @@ label-tokens [] e = absurd (false≢true e)
 label-tokens (b ∷ u) e = refl
 
 module _ (X : Lexicon) where
-  unlabelled : (l : List Lexeme) (y : Got PhraseRead) → RootExact X l y → Exact X l y
+  unlabelled : (l : List Lexeme) (y : Parsed PhraseRead) → RootExact X l y → Exact X l y
   unlabelled l (bad y) h = tt
-  unlabelled l (got p r) h = (
+  unlabelled l (parsed p r) h = (
     inl (h .0),
     h .1,
     subst (λ (u : Token). Stands (labelTokens u ++ phraseTokens X (p .variables) (p .kind) (p .term)) l r) (sym (h .0)) (h .2),
   )
 
-  with-label : (x y : Lexeme) (l : List Lexeme) → IsIdentifier (x .token) → y .token ≡ mark colon → (z : Got PhraseRead) → RootExact X l z →
-      Exact X (x ∷ y ∷ l) (andThen z (λ p r. got (labelled (x .token) p) r))
+  with-label : (x y : Lexeme) (l : List Lexeme) → IsIdentifier (x .token) → y .token ≡ mark colon → (z : Parsed PhraseRead) → RootExact X l z →
+      Exact X (x ∷ y ∷ l) (parseThen z (λ p r. parsed (labelled (x .token) p) r))
   with-label x y l is e (bad z) h = tt
-  with-label x y l is e (got p r) h = (
+  with-label x y l is e (parsed p r) h = (
     inr is,
     h .1,
     subst (λ (us : List Token). Stands (us ++ phraseTokens X (p .variables) (p .kind) (p .term)) (x ∷ y ∷ l) r)
         (sym (label-tokens (x .token) (is .identifier))) (refl, (e, h .2)),
   )
 
-  phrase-exact : (root : List Lexeme → Got PhraseRead) → ((l : List Lexeme) → Lexed l → RootExact X l (root l)) → (l : List Lexeme) → Lexed l →
+  phrase-exact : (root : List Lexeme → Parsed PhraseRead) → ((l : List Lexeme) → Lexed l → RootExact X l (root l)) → (l : List Lexeme) → Lexed l →
       Exact X l (phraseFrom root l)
   phrase-exact root good [] a = unlabelled [] (root []) (good [] a)
   phrase-exact root good (x ∷ []) a =
@@ -251,7 +251,7 @@ module _ (X : Lexicon) where
 
 pub phrases-exact : PhrasesExact
 phrases-exact X l r p lex a e =
-    let h : Exact X l (got p r) =
+    let h : Exact X l (parsed p r) =
     subst (Exact X l) e (phrase-exact X (readRoot (kindNames X) (wordNames X) (vocabularyOf X)) (root-of X lex) l a) in
     let us : List Token = phraseTokens X (p .variables) (p .kind) (p .term) in
     (h .0, h .1, stands-tokens (labelTokens (p .label) ++ us) l r (h .2) ∙ append-assoc (labelTokens (p .label)) us (tokensOf r))

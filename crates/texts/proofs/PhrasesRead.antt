@@ -32,8 +32,8 @@ use Rattle.texts.specs.Lexemes.{Token, Lexeme}
 use Rattle.texts.specs.Names.{same, opened, mark, colon, mostName, isIdentifier, isVariable, indexIn, nameAt, IsIdentifier, IsVariable}
 use Rattle.texts.specs.Lexicon.{Lexicon, kindNames, wordNames, vocabularyOf, GoodLexicon}
 use Rattle.texts.specs.Phrases.{phraseTokens, termTokens, GoodPhrase}
-use Rattle.texts.specs.Faults.{Got, got, andThen, token, rest, longName, patternDue}
-use Rattle.texts.specs.PhraseReading.{Seen, TermRead, PhraseRead, phraseRead, variableWhy, readVariable, faultAt, readTerm, readRootKind, readRoot, labelled}
+use Rattle.texts.specs.Faults.{Parsed, parsed, parseThen, token, rest, longName, patternDue}
+use Rattle.texts.specs.PhraseReading.{Seen, TermRead, PhraseRead, phraseRead, variableWhy, readVariable, faultAt, parseTerm, readRootKind, readRoot, labelled}
 use Rattle.texts.specs.Laws.{tokensOf, PhrasesRead}
 use Rattle.texts.proofs.Finding.{index-at}
 use Rattle.texts.proofs.Standing.{Stands, tokens-stand, Counts, range-counts}
@@ -47,12 +47,12 @@ abbrev pub start : Seen
 start = record { variables = []; used = 1 }
 
 -- A pattern without label, where `below` reads what begins with a word.
-abbrev pub rootFrom : Below → List Token → List Token → Vocabulary → List Lexeme → Got PhraseRead
+abbrev pub rootFrom : Below → List Token → List Token → Vocabulary → List Lexeme → Parsed PhraseRead
 rootFrom below K N W l =
     cond (same (token l) opened) (readRootKind K (record { term = any; seen = start }) (rest l))
-    (cond (isVariable (token l)) (andThen (readVariable 0 start l (variableWhy mostLevels start (token l))) (readRootKind K))
+    (cond (isVariable (token l)) (parseThen (readVariable 0 start l (variableWhy mostLevels start (token l))) (readRootKind K))
     (cond (isIdentifier (token l))
-    (andThen (below (word W (indexIn (token l) N) .result) start l) (λ a r. got (phraseRead (word W (indexIn (token l) N) .result) a) r))
+    (parseThen (below (word W (indexIn (token l) N) .result) start l) (λ a r. parsed (phraseRead (word W (indexIn (token l) N) .result) a) r))
     (faultAt patternDue 0 l)))
 
 -- Where the tests before it fail, an arm is the one whose test holds.
@@ -67,19 +67,19 @@ module _ (below : Below) (K N : List Token) (W : Vocabulary) (x : Lexeme) (l : L
   root-open e = cond-true (same (x .token) opened) _ _ (ap (λ (u : Token). same u opened) e)
 
   root-variable : isVariable (x .token) ≡ true →
-      rootFrom below K N W (x ∷ l) ≡ andThen (readVariable 0 start (x ∷ l) (variableWhy mostLevels start (x .token))) (readRootKind K)
+      rootFrom below K N W (x ∷ l) ≡ parseThen (readVariable 0 start (x ∷ l) (variableWhy mostLevels start (x .token))) (readRootKind K)
   root-variable e = second (same (x .token) opened) (isVariable (x .token)) _ _ _ (variable-not-opened (x .token) e) e
 
   root-word : isIdentifier (x .token) ≡ true →
       rootFrom below K N W (x ∷ l) ≡
-      andThen (below (word W (indexIn (x .token) N) .result) start (x ∷ l)) (λ a r. got (phraseRead (word W (indexIn (x .token) N) .result) a) r)
+      parseThen (below (word W (indexIn (x .token) N) .result) start (x ∷ l)) (λ a r. parsed (phraseRead (word W (indexIn (x .token) N) .result) a) r)
   root-word e =
       third (same (x .token) opened) (isVariable (x .token)) (isIdentifier (x .token)) _ _ _ _
       (not-opened (x .token) e) (not-variable (x .token) e) e
 
 module _ (K : List Token) (N : List Token) (W : Vocabulary) (named : Named K N W) where
   kind-read : (s : ℕ) (a : TermRead) (y z : Lexeme) (l r : List Lexeme) → s < W .kinds → y .token ≡ mark colon → z .token ≡ nameAt K s → l ≡ r →
-      readRootKind K a (y ∷ z ∷ l) ≡ got (phraseRead s a) r
+      readRootKind K a (y ∷ z ∷ l) ≡ parsed (phraseRead s a) r
   kind-read s a y z l r h e k q =
       let n = named .kindCount in
       let found : indexIn (z .token) K ≡ s = ap (λ (t : Token). indexIn t K) k ∙ index-at K s (named .differentKinds) (omega arith) in
@@ -112,20 +112,20 @@ module _ (X : Lexicon) (lex : GoodLexicon X) (below : Below)
     (reads : (t : Term) (s : ℕ) (vs : List Token) (r : List Lexeme) → GoodVariables vs → Sorted (signature (vocabularyOf X)) t s → levels t ≤ mostLevels →
     1 + length (encodeAt (vocabularyOf X) t) ≤ mostBytes → Counts 0 (names t) → 0 + length (names t) ≤ length vs → (l : List Lexeme) →
     Stands (termTokens (wordNames X) vs t) l r →
-    below s start l ≡ got (record { term = t; seen = seenAt vs (0 + length (names t)) (1 + length (encodeAt (vocabularyOf X) t)) }) r) where
+    below s start l ≡ parsed (record { term = t; seen = seenAt vs (0 + length (names t)) (1 + length (encodeAt (vocabularyOf X) t)) }) r) where
   open-read : (vs : List Token) (s : ℕ) → GoodPhrase X vs s any → (x y z : Lexeme) (l r : List Lexeme) →
       Stands (phraseTokens X vs s any) (x ∷ y ∷ z ∷ l) r →
-      rootFrom below (kindNames X) (wordNames X) (vocabularyOf X) (x ∷ y ∷ z ∷ l) ≡ got (bare s any vs) r
+      rootFrom below (kindNames X) (wordNames X) (vocabularyOf X) (x ∷ y ∷ z ∷ l) ≡ parsed (bare s any vs) r
   open-read vs s good x y z l r e =
       let empty : vs ≡ [] = no-more vs (sym (name-count X lex vs s any good)) in
       root-open below (kindNames X) (wordNames X) (vocabularyOf X) x (y ∷ z ∷ l) (e .0)
       ∙ (kind-read (kindNames X) (wordNames X) (vocabularyOf X) (lexicon-named X lex) s (record { term = any; seen = start }) y z l r
       (good .term .good .kind) (e .1 .0) (e .1 .1 .0) (e .1 .1 .1)
-      ∙ ap (λ (w : List Token). got (bare s any w) r) (sym empty))
+      ∙ ap (λ (w : List Token). parsed (bare s any w) r) (sym empty))
 
   variable-read : (v : Token) (n s : ℕ) → GoodPhrase X (v ∷ []) s (var n) → (x y z : Lexeme) (l r : List Lexeme) →
       Stands (phraseTokens X (v ∷ []) s (var n)) (x ∷ y ∷ z ∷ l) r →
-      rootFrom below (kindNames X) (wordNames X) (vocabularyOf X) (x ∷ y ∷ z ∷ l) ≡ got (bare s (var n) (v ∷ [])) r
+      rootFrom below (kindNames X) (wordNames X) (vocabularyOf X) (x ∷ y ∷ z ∷ l) ≡ parsed (bare s (var n) (v ∷ [])) r
   variable-read v n s good x y z l r e =
       let first : n ≡ 0 = counted X lex (v ∷ []) s (var n) good .0 in
       let is-v : x .token ≡ v = e .0 ∙ ap (nameAt (v ∷ [])) first in
@@ -133,7 +133,7 @@ module _ (X : Lexicon) (lex : GoodLexicon X) (below : Below)
       let why : variableWhy mostLevels start (x .token) ≡ 0 =
       variable-stands mostLevels start (x .token) (is .short) refl (omega arith) (omega arith) (omega arith) in
       root-variable below (kindNames X) (wordNames X) (vocabularyOf X) x (y ∷ z ∷ l) (is .variable)
-      ∙ (ap (λ (w : ℕ). andThen (readVariable 0 start (x ∷ y ∷ z ∷ l) w) (readRootKind (kindNames X))) why
+      ∙ (ap (λ (w : ℕ). parseThen (readVariable 0 start (x ∷ y ∷ z ∷ l) w) (readRootKind (kindNames X))) why
       ∙ kind-read (kindNames X) (wordNames X) (vocabularyOf X) (lexicon-named X lex) s
       (record { term = var 0; seen = record { variables = x .token ∷ []; used = 1 + 1 } }) y z l r
       (good .term .good .kind) (e .1 .0) (e .1 .1 .0) (e .1 .1 .1)
@@ -141,7 +141,7 @@ module _ (X : Lexicon) (lex : GoodLexicon X) (below : Below)
 
   word-read : (vs : List Token) (s f : ℕ) (ts : Terms) → GoodPhrase X vs s (app f ts) → (x : Lexeme) (l r : List Lexeme) →
       Stands (phraseTokens X vs s (app f ts)) (x ∷ l) r →
-      rootFrom below (kindNames X) (wordNames X) (vocabularyOf X) (x ∷ l) ≡ got (bare s (app f ts) vs) r
+      rootFrom below (kindNames X) (wordNames X) (vocabularyOf X) (x ∷ l) ≡ parsed (bare s (app f ts) vs) r
   word-read vs s f ts good x l r e =
       let N : List Token = wordNames X in
       let W : Vocabulary = vocabularyOf X in
@@ -157,14 +157,14 @@ module _ (X : Lexicon) (lex : GoodLexicon X) (below : Below)
       let due : word W (indexIn (x .token) N) .result ≡ s = ap (λ (g : ℕ). word W g .result) found ∙ sym (result-word W f) ∙ sorted .1 in
       let count = name-count X lex vs s (app f ts) good in
       root-word below (kindNames X) N W x l (is .identifier)
-      ∙ (ap (λ (k : ℕ). andThen (below k start (x ∷ l)) (λ a r. got (phraseRead k a) r)) due
-      ∙ ap (λ (z : Got TermRead). andThen z (λ a r. got (phraseRead s a) r))
+      ∙ (ap (λ (k : ℕ). parseThen (below k start (x ∷ l)) (λ a r. parsed (phraseRead k a) r)) due
+      ∙ ap (λ (z : Parsed TermRead). parseThen z (λ a r. parsed (phraseRead s a) r))
       (reads (app f ts) s vs r (good-variables X lex vs s (app f ts) good) sorted (omega arith)
       (omega arith) (counted X lex vs s (app f ts) good) (omega arith) (x ∷ l) e)
-      ∙ ap (λ (w : List Token). got (bare s (app f ts) w) r) (all-taken X lex vs s (app f ts) good))
+      ∙ ap (λ (w : List Token). parsed (bare s (app f ts) w) r) (all-taken X lex vs s (app f ts) good))
 
   root-read : (t : Term) (vs : List Token) (s : ℕ) → GoodPhrase X vs s t → (l r : List Lexeme) → Stands (phraseTokens X vs s t) l r →
-      rootFrom below (kindNames X) (wordNames X) (vocabularyOf X) l ≡ got (bare s t vs) r
+      rootFrom below (kindNames X) (wordNames X) (vocabularyOf X) l ≡ parsed (bare s t vs) r
   root-read any vs s good [] r e = absurd e
   root-read any vs s good (x ∷ []) r e = absurd (e .1)
   root-read any vs s good (x ∷ y ∷ []) r e = absurd (e .1 .1)
@@ -179,19 +179,19 @@ module _ (X : Lexicon) (lex : GoodLexicon X) (below : Below)
   root-read (app f ts) vs s good (x ∷ l) r e = word-read vs s f ts good x l r e
 
 pub rooted : (X : Lexicon) → GoodLexicon X → (t : Term) (vs : List Token) (s : ℕ) → GoodPhrase X vs s t → (l r : List Lexeme) →
-    Stands (phraseTokens X vs s t) l r → readRoot (kindNames X) (wordNames X) (vocabularyOf X) l ≡ got (bare s t vs) r
+    Stands (phraseTokens X vs s t) l r → readRoot (kindNames X) (wordNames X) (vocabularyOf X) l ≡ parsed (bare s t vs) r
 rooted X lex t vs s good l r e =
-    root-read X lex (readTerm (wordNames X) (vocabularyOf X) mostLevels)
+    root-read X lex (parseTerm (wordNames X) (vocabularyOf X) mostLevels)
     (λ t s vs r gv h d b c k l e. read-term (kindNames X) (wordNames X) (vocabularyOf X) (lexicon-named X lex) vs gv t mostLevels s 0 1 l r h d b c k e)
     t vs s good l r e
 
 -- ---- labels
 
 -- A pattern, where `root` reads it without label.
-abbrev pub phraseFrom : (List Lexeme → Got PhraseRead) → List Lexeme → Got PhraseRead
+abbrev pub phraseFrom : (List Lexeme → Parsed PhraseRead) → List Lexeme → Parsed PhraseRead
 phraseFrom root l =
     cond (isIdentifier (token l) && same (token (rest l)) (mark colon))
-    (cond (leb (length (token l)) mostName) (andThen (root (rest (rest l))) (λ p r. got (labelled (token l) p) r)) (faultAt longName 0 l)) (root l)
+    (cond (leb (length (token l)) mostName) (parseThen (root (rest (rest l))) (λ p r. parsed (labelled (token l) p) r)) (faultAt longName 0 l)) (root l)
 
 -- What stands behind a pattern is no colon, so the pattern's first token is no label.
 unlabelled : (X : Lexicon) → GoodLexicon X → (t : Term) (vs : List Token) (s : ℕ) → GoodPhrase X vs s t → (l r : List Lexeme) →
@@ -225,8 +225,8 @@ first-token (x ∷ l) [] e = let z : _≡_ {A = ℕ} 0 1 = cc in absurd (omega a
 first-token (x ∷ l) (y ∷ r) e = cc
 
 -- A label with its colon, then a pattern that is read.
-label-read : (root : List Lexeme → Got PhraseRead) (u : Token) (p : PhraseRead) (l r : List Lexeme) → IsIdentifier u →
-    Stands (u ∷ mark colon ∷ []) l (rest (rest l)) → root (rest (rest l)) ≡ got p r → phraseFrom root l ≡ got (labelled u p) r
+label-read : (root : List Lexeme → Parsed PhraseRead) (u : Token) (p : PhraseRead) (l r : List Lexeme) → IsIdentifier u →
+    Stands (u ∷ mark colon ∷ []) l (rest (rest l)) → root (rest (rest l)) ≡ parsed p r → phraseFrom root l ≡ parsed (labelled u p) r
 label-read root u p [] r is e h = absurd e
 label-read root u p (x ∷ []) r is e h = absurd (e .1)
 label-read root u p (x ∷ y ∷ l) r is e h =
@@ -235,8 +235,8 @@ label-read root u p (x ∷ y ∷ l) r is e h =
     let n : length (x .token) ≤ mostName = subst (λ (z : Token). length z ≤ mostName) (sym (e .0)) (is .short) in
     cond-true (isIdentifier (x .token) && same (y .token) (mark colon)) _ (root (x ∷ y ∷ l)) (and-both _ _ i c)
     ∙ cond-true (leb (length (x .token)) mostName) _ (faultAt longName 0 (x ∷ y ∷ l)) (le-leb (length (x .token)) mostName n)
-    ∙ ap (λ (z : Got PhraseRead). andThen z (λ p r. got (labelled (x .token) p) r)) h
-    ∙ ap (λ (z : Token). got (labelled z p) r) (e .0)
+    ∙ ap (λ (z : Parsed PhraseRead). parseThen z (λ p r. parsed (labelled (x .token) p) r)) h
+    ∙ ap (λ (z : Token). parsed (labelled z p) r) (e .0)
 
 pub phrases-read : PhrasesRead
 phrases-read X [] vs s t l r lex label good e c =

@@ -12,7 +12,7 @@ use Prim.Native.Nat.{ℕ}
 use lib.Dec.{eqb}
 use borrow.Author.Tests.{eqb-true}
 use Rattle.terms.proofs.Bools.{and-parts, false-of-not}
-use Rattle.texts.specs.Lexemes.{Token, isName, asking}
+use Rattle.texts.specs.Lexemes.{Token, isNameByte, asking}
 use Rattle.texts.specs.Names.{comma, colon, IsIdentifier, IsVariable}
 use Rattle.texts.specs.Phrases.{spelled, spell}
 
@@ -29,8 +29,8 @@ apart test b c e h = false-of-not (eqb b c) (λ q. true≢false (sym e ∙ (ap t
 pub plain-name : (u : Token) → IsIdentifier u → Plain u
 plain-name [] h = refl
 plain-name (b ∷ u) h =
-    let name = and-parts (isName b) _ (h .identifier) .0 in
-    plain-byte b u (apart isName b comma name refl) (apart isName b colon name refl)
+    let name = and-parts (isNameByte b) _ (h .identifier) .0 in
+    plain-byte b u (apart isNameByte b comma name refl) (apart isNameByte b colon name refl)
 
 pub plain-variable : (u : Token) → IsVariable u → Plain u
 plain-variable [] h = refl

@@ -21,8 +21,8 @@ use Rattle.texts.specs.Lexemes.{Token, Lexeme}
 use Rattle.texts.specs.Names.{same, opened, mark, colon, isIdentifier, isVariable, indexIn, nameAt, IsVariable}
 use Rattle.texts.specs.Lexicon.{Lexicon, kindNames, wordNames, vocabularyOf, GoodLexicon}
 use Rattle.texts.specs.Phrases.{phraseTokens, GoodPhrase}
-use Rattle.texts.specs.Faults.{Got, got, bad, andThen, token, rest, colonDue, placeDue, notDeclared, patternDue}
-use Rattle.texts.specs.PhraseReading.{TermRead, PhraseRead, phraseRead, variableWhy, faultAt, readVariable, readTerm, readRootKind, readRoot}
+use Rattle.texts.specs.Faults.{Parsed, parsed, bad, parseThen, token, rest, colonDue, placeDue, notDeclared, patternDue}
+use Rattle.texts.specs.PhraseReading.{TermRead, PhraseRead, phraseRead, variableWhy, faultAt, readVariable, parseTerm, readRootKind, readRoot}
 use Rattle.texts.specs.Laws.{tokensOf}
 use Rattle.texts.proofs.Finding.{same-exact}
 use Rattle.texts.proofs.Standing.{Stands, stands-tokens}
@@ -43,22 +43,22 @@ pub record CanRoot (X : Lexicon) (us : List Token) : Type 0 where
   pub more : List Token
   pub tokens : us ++ more ≡ phraseTokens X variables kind term ++ []
 
-abbrev pub Halts : {A : Type 0} → (List Lexeme → Got A) → (List Token → Type 0) → List Lexeme → Got A → Type 0
-Halts read Can l (got a r) = Unit {0}
+abbrev pub Halts : {A : Type 0} → (List Lexeme → Parsed A) → (List Token → Type 0) → List Lexeme → Parsed A → Type 0
+Halts read Can l (parsed a r) = Unit {0}
 Halts read Can l (bad x) = Stopped read Can l x
 
-ran-halts : {A : Type 0} (read : List Lexeme → Got A) (Can : List Token → Type 0) (l : List Lexeme) (y : Got A) → Ran read Can l y → Halts read Can l y
-ran-halts read Can l (got a r) h = tt
+ran-halts : {A : Type 0} (read : List Lexeme → Parsed A) (Can : List Token → Type 0) (l : List Lexeme) (y : Parsed A) → Ran read Can l y → Halts read Can l y
+ran-halts read Can l (parsed a r) h = tt
 ran-halts read Can l (bad x) h = h
 
 -- The name of a kind, behind the colon.
-abbrev kindName : List Token → TermRead → List Lexeme → Got PhraseRead
+abbrev kindName : List Token → TermRead → List Lexeme → Parsed PhraseRead
 kindName K a l =
     cond (isIdentifier (token l))
-    (cond (ltb (indexIn (token l) K) (length K)) (got (phraseRead (indexIn (token l) K) a) (rest l)) (faultAt notDeclared 0 l))
+    (cond (ltb (indexIn (token l) K) (length K)) (parsed (phraseRead (indexIn (token l) K) a) (rest l)) (faultAt notDeclared 0 l))
     (faultAt placeDue 0 l)
 
-abbrev rootOf : Lexicon → Below → List Lexeme → Got PhraseRead
+abbrev rootOf : Lexicon → Below → List Lexeme → Parsed PhraseRead
 rootOf X below l = rootFrom below (kindNames X) (wordNames X) (vocabularyOf X) l
 
 abbrev kindOf : Lexicon → Token → ℕ
@@ -81,9 +81,9 @@ module _ (X : Lexicon) (lex : GoodLexicon X) where
     name-ran Can can [] h = absurd h
     name-ran Can can (z ∷ l) h =
         choice (Ran (kindName (kindNames X) a) Can (z ∷ l)) (isIdentifier (z .token)) _ (faultAt placeDue 0 (z ∷ l))
-        (λ i. choice (Ran (kindName (kindNames X) a) Can (z ∷ l)) known (got (phraseRead n a) l) (faultAt notDeclared 0 (z ∷ l))
-        (λ k. ran-cons (kindName (kindNames X) a) Can z l (λ l′. got (phraseRead n a) l′)
-        (λ at l′. cond-true (isIdentifier (z .token)) _ _ i ∙ cond-true known _ _ k) (got (phraseRead n a) l)
+        (λ i. choice (Ran (kindName (kindNames X) a) Can (z ∷ l)) known (parsed (phraseRead n a) l) (faultAt notDeclared 0 (z ∷ l))
+        (λ k. ran-cons (kindName (kindNames X) a) Can z l (λ l′. parsed (phraseRead n a) l′)
+        (λ at l′. cond-true (isIdentifier (z .token)) _ _ i ∙ cond-true known _ _ k) (parsed (phraseRead n a) l)
         (ran-return (phraseRead n a) l (ended-rest isIdentifier z l refl i h)))
         (λ k. ran-fault (kindName (kindNames X) a) Can z l (λ at. record { why = notDeclared; at = at; of = 0 }) refl
         (λ at l′. cond-true (isIdentifier (z .token)) _ _ i ∙ cond-false known _ _ k) can))
@@ -124,7 +124,7 @@ module _ (X : Lexicon) (lex : GoodLexicon X) where
       go [] has e = let z : _≡_ {A = ℕ} 0 1 = cc in absurd (omega arith)
       go (y ∷ m) has e =
           let first : y .token ≡ x .token = let a = st .0 in cc in
-          let g = word-root X (lexicon-named X lex) y m (ap isIdentifier first ∙ i) due (got (h .read) []) has in
+          let g = word-root X (lexicon-named X lex) y m (ap isIdentifier first ∙ i) due (parsed (h .read) []) has in
           record {
             variables = h .read .seen .variables;
             kind = due;
@@ -153,13 +153,13 @@ module _ (X : Lexicon) (lex : GoodLexicon X) where
         (λ us more k. can-first [] any (open-good X 0 some-kind) (x .token ∷ us) more (ap₂ {C = List Token} _∷_ (same-exact (x .token) opened e) k)) l (ended-rest (λ u. same u opened) x l refl e h))
 
     from-variable : same (x .token) opened ≡ false → isVariable (x .token) ≡ true → (why : ℕ) → variableWhy mostLevels start (x .token) ≡ why →
-        Ran (rootOf X below) (CanRoot X) (x ∷ l) (andThen (readVariable 0 start (x ∷ l) why) (readRootKind (kindNames X)))
+        Ran (rootOf X below) (CanRoot X) (x ∷ l) (parseThen (readVariable 0 start (x ∷ l) why) (readRootKind (kindNames X)))
     from-variable e v zero q =
         let fit = variable-fits mostLevels start (x .token) q in
         let is : IsVariable (x .token) = variable-good (x .token) (a .0) v (fit .short) in
         ran-cons (rootOf X below) (CanRoot X) x l (readRootKind (kindNames X) b)
         (λ at l′. second (same (x .token) opened) (isVariable (x .token)) _ _ _ e v
-        ∙ ap (λ (w : ℕ). andThen (readVariable 0 start (record { at = at; token = x .token } ∷ l′) w) (readRootKind (kindNames X))) q)
+        ∙ ap (λ (w : ℕ). parseThen (readVariable 0 start (record { at = at; token = x .token } ∷ l′) w) (readRootKind (kindNames X))) q)
         (readRootKind (kindNames X) b l) (kind-ran b x
         (λ us more k. can-first (x .token ∷ []) (var 0) (variable-root X 0 some-kind (x .token) is) (x .token ∷ us) more
         (ap (λ (z : List Token). x .token ∷ z) k)) l (ended-rest isVariable x l refl v h))
@@ -169,14 +169,14 @@ module _ (X : Lexicon) (lex : GoodLexicon X) where
     from-variable e v (suc why) q =
         ran-fault (rootOf X below) (CanRoot X) x l (λ at. record { why = suc why; at = at; of = 0 }) refl
         (λ at l′. second (same (x .token) opened) (isVariable (x .token)) _ _ _ e v
-        ∙ ap (λ (w : ℕ). andThen (readVariable 0 start (record { at = at; token = x .token } ∷ l′) w) (readRootKind (kindNames X))) q)
+        ∙ ap (λ (w : ℕ). parseThen (readVariable 0 start (record { at = at; token = x .token } ∷ l′) w) (readRootKind (kindNames X))) q)
         open-root
 
     -- The kind of a word is known from its first token.
-    from-word : isIdentifier (x .token) ≡ true → (y : Got TermRead) →
+    from-word : isIdentifier (x .token) ≡ true → (y : Parsed TermRead) →
         Ran (below (kindOf X (x .token)) start) (CanTerm (wordNames X) (vocabularyOf X) mostLevels (kindOf X (x .token)) start) (x ∷ l) y →
-        Halts (rootOf X below) (CanRoot X) (x ∷ l) (andThen y (λ b r. got (phraseRead (kindOf X (x .token)) b) r))
-    from-word i (got b r) q = tt
+        Halts (rootOf X below) (CanRoot X) (x ∷ l) (parseThen y (λ b r. parsed (phraseRead (kindOf X (x .token)) b) r))
+    from-word i (parsed b r) q = tt
     from-word i (bad f) q = record {
       us = q .us;
       here = q .here;
@@ -191,8 +191,8 @@ module _ (X : Lexicon) (lex : GoodLexicon X) where
             n .0,
             third (same (token l′) opened) (isVariable (token l′)) (isIdentifier (token l′)) _ _ _ _ (not-opened (token l′) i′)
                 (not-variable (token l′) i′) i′
-                ∙ (ap (λ (u : Token). andThen (below (kindOf X u) start l′) (λ b r. got (phraseRead (kindOf X u) b) r)) e
-                ∙ ap (λ (z : Got TermRead). andThen z (λ b r. got (phraseRead (kindOf X (x .token)) b) r)) (n .1)),
+                ∙ (ap (λ (u : Token). parseThen (below (kindOf X u) start l′) (λ b r. parsed (phraseRead (kindOf X u) b) r)) e
+                ∙ ap (λ (z : Parsed TermRead). parseThen z (λ b r. parsed (phraseRead (kindOf X (x .token)) b) r)) (n .1)),
           );
     }
 
@@ -202,7 +202,7 @@ module _ (X : Lexicon) (lex : GoodLexicon X) where
         (λ e. ran-halts (rootOf X below) (CanRoot X) (x ∷ l) (readRootKind (kindNames X) (record { term = any; seen = start }) l) (from-open e))
         (λ e. choice P (isVariable (x .token)) _ _
         (λ v. ran-halts (rootOf X below) (CanRoot X) (x ∷ l)
-        (andThen (readVariable 0 start (x ∷ l) (variableWhy mostLevels start (x .token))) (readRootKind (kindNames X)))
+        (parseThen (readVariable 0 start (x ∷ l) (variableWhy mostLevels start (x .token))) (readRootKind (kindNames X)))
         (from-variable e v (variableWhy mostLevels start (x .token)) refl))
         (λ v. choice P (isIdentifier (x .token)) _ (faultAt patternDue 0 (x ∷ l))
         (λ i. from-word i (below (kindOf X (x .token)) start (x ∷ l)) (runs (kindOf X (x .token)) (x ∷ l) a h))
@@ -210,12 +210,12 @@ module _ (X : Lexicon) (lex : GoodLexicon X) where
         (λ at l′. cond-false (same (x .token) opened) _ _ e ∙ (cond-false (isVariable (x .token)) _ _ v ∙ cond-false (isIdentifier (x .token)) _ _ i))
         open-root)))
       where
-        P : Got PhraseRead → Type 0
+        P : Parsed PhraseRead → Type 0
         P = Halts (rootOf X below) (CanRoot X) (x ∷ l)
 
   pub root-halts : (l : List Lexeme) → Lexed l → Ended l →
       Halts (readRoot (kindNames X) (wordNames X) (vocabularyOf X)) (CanRoot X) l (readRoot (kindNames X) (wordNames X) (vocabularyOf X) l)
   root-halts [] a h = absurd h
   root-halts (x ∷ l) a h =
-      halts (readTerm (wordNames X) (vocabularyOf X) mostLevels)
+      halts (parseTerm (wordNames X) (vocabularyOf X) mostLevels)
       (λ due l a h. term-ran (kindNames X) (wordNames X) (vocabularyOf X) (lexicon-named X lex) mostLevels due start l a h) x l a h

@@ -28,7 +28,7 @@ use Rattle.wire.specs.Text.{ascii}
 use Rattle.wire.proofs.Cond.{cond-true, cond-false}
 use Rattle.texts.specs.Lexemes.{Token}
 use Rattle.texts.specs.Names.{opened, mark, opening, comma, colon, nameAt, IsVariable}
-use Rattle.texts.specs.Lexicon.{Lexicon, kindNames, wordNames, wordsOf, fullMap, vocabularyOf, GoodLexicon}
+use Rattle.texts.specs.Lexicon.{Lexicon, kindNames, wordNames, allWords, gaplessMap, vocabularyOf, GoodLexicon}
 use Rattle.texts.specs.Phrases.{termTokens, placesTokens, spelled, spell, phraseText, GoodPhrase}
 use Rattle.texts.specs.Saying.{Tables, tablesOf, TablesFor, Said, commaText, sayPlaces, sayBehind, sayWord, sayTerm, sayPhrase}
 use Rattle.texts.specs.Laws.{Sayable, SaysTerms, SaysPhrases}
@@ -49,7 +49,7 @@ pub some-power : (n : ℕ) → 0 < 2 ^ n
 some-power zero = omega arith
 some-power (suc n) = omega (arith, some-power n, pow-suc 2 n)
 
-written-bits : (d : ℕ) (ts : Terms) → count ts ≤ d → number (writtenFlags (flagsIn d (fullMap (count ts))) ts) ≡ number (bitsOf ts)
+written-bits : (d : ℕ) (ts : Terms) → count ts ≤ d → number (writtenFlags (flagsIn d (gaplessMap (count ts))) ts) ≡ number (bitsOf ts)
 written-bits zero nil h = refl
 written-bits zero (cons t ts) h = absurd (omega arith)
 written-bits (suc d) nil h = let ih = written-bits d nil (omega arith) in omega arith
@@ -94,11 +94,11 @@ module _ (X : Lexicon) (vs : List Token) (T : Tables) (good : GoodLexicon X) (va
       tables .variables n h
       ∙ (sym (plain-variable (nameAt vs n) (all-at IsVariable [] vs variables n h)) ∙ sym (append-nil (spelled (nameAt vs n))))
 
-  word-said : (f : ℕ) → f < length (wordsOf X) → nameAt (T .words) f ≡ spelled (nameAt (wordNames X) f)
+  word-said : (f : ℕ) → f < length (allWords X) → nameAt (T .words) f ≡ spelled (nameAt (wordNames X) f)
   word-said f h = tables .words f (rw (count-names X) h) ∙ sym (plain-name (nameAt (wordNames X) f) (word-name X good f h))
 
   -- A word, where the walk over its places is right.
-  word-walk : (sayer : List ℕ → Said) (f m : ℕ) (ts : Terms) (r : List ℕ) → f < length (wordsOf X) →
+  word-walk : (sayer : List ℕ → Said) (f m : ℕ) (ts : Terms) (r : List ℕ) → f < length (allWords X) →
       getD (T .places) f 0 ≡ count ts → m ≡ number (bitsOf ts) →
       sayPlaces sayer (count ts) (mark opening) (number (bitsOf ts)) (encodeAll (vocabularyOf X) ts ++ r) ≡
       said (spell (placesTokens (wordNames X) vs opening ts)) r →
@@ -124,7 +124,7 @@ module _ (X : Lexicon) (vs : List Token) (T : Tables) (good : GoodLexicon X) (va
     say-place zero (app f ts) s r h sorted named = absurd (omega arith)
     say-place (suc left) (app f ts) s r h sorted named =
         let W = vocabularyOf X in
-        let known : f < length (wordsOf X) = rw (← count-records X) (sorted .0) in
+        let known : f < length (allWords X) = rw (← count-records X) (sorted .0) in
         let few = good .fewWords in
         let kinds : SortedAll (signature W) ts (wordAt X f .places) = rw (← word-kinds X f) (sorted .2) in
         let size : count ts ≡ length (wordAt X f .places) = count-sorted (signature W) ts (wordAt X f .places) kinds in
@@ -173,7 +173,7 @@ module _ (X : Lexicon) (vs : List Token) (T : Tables) (good : GoodLexicon X) (va
       ∙ (ap₂ (λ x y. x ++ (mark colon ++ (ascii " " ++ y))) (root-text (var n) s refl h sorted named) (kind-said s k)
       ∙ append-assoc (spelled (nameAt vs n)) [] (mark colon ++ (ascii " " ++ spell (nameAt (kindNames X) s ∷ [])))))
   say-root (app f ts) s k h sorted named low =
-      let known : f < length (wordsOf X) = rw (← count-records X) (sorted .0) in
+      let known : f < length (allWords X) = rw (← count-records X) (sorted .0) in
       let few = good .fewWords in
       cond-false _ _ _ (ne-eqb f wholeByte (omega arith))
       ∙ (cond-true _ _ _ (lt-ltb f firstNameByte (omega arith)) ∙ root-text (app f ts) s refl h sorted named)

@@ -23,7 +23,7 @@ use lib.Seq.{drop-cons, drop-drop, length-take-le}
 use borrow.Author.Tests.{eqb-true, ltb-true, ltb-false}
 use Rattle.terms.proofs.Bools.{eqb-refl, and-parts, and-both}
 use Rattle.wire.proofs.Cond.{choice}
-use Rattle.texts.specs.Lexemes.{Token, Lexeme, isBlank, isName, isRun, comment, blanksIn, blanks, runSize, tokenSize, lexemesBehind, lexemesIn, lexemes, lexemesFrom, tokenAt}
+use Rattle.texts.specs.Lexemes.{Token, Lexeme, isBlank, isNameByte, isRun, comment, blanksIn, blanks, runSize, tokenSize, lexemesBehind, lexemesIn, lexemes, lexemesFrom, tokenAt}
 use Rattle.texts.specs.Names.{same}
 
 -- ---- what stands at the front of a list lies in it
@@ -43,7 +43,7 @@ pub run-within : (l : List ℕ) → runSize l ≤ length l
 run-within [] = omega arith
 run-within (b ∷ l) =
     let h = run-within l in
-    choice (λ n. n ≤ suc (length l)) (isName b) (suc (runSize l)) 0 (λ e. omega arith) (λ e. omega arith)
+    choice (λ n. n ≤ suc (length l)) (isNameByte b) (suc (runSize l)) 0 (λ e. omega arith) (λ e. omega arith)
 
 pub token-within : (l : List ℕ) → tokenSize l ≤ length l
 token-within [] = omega arith

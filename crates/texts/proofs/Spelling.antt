@@ -22,7 +22,7 @@ use borrow.Author.Tests.{eqb-true}
 use Rattle.terms.specs.Lists.{All}
 use Rattle.terms.proofs.Bools.{or-neither}
 use Rattle.wire.proofs.Cond.{cond-true, cond-false}
-use Rattle.texts.specs.Lexemes.{Token, isBlank, isName, comment, isRun, blanksIn, blanks, runSize, tokenSize, lexemesBehind, lexemesIn}
+use Rattle.texts.specs.Lexemes.{Token, isBlank, isNameByte, comment, isRun, blanksIn, blanks, runSize, tokenSize, lexemesBehind, lexemesIn}
 use Rattle.texts.specs.Spelling.{Blank, none, space, remark, Trailing, whole, unended, IsToken, run, single, Ends, Spells, end, next}
 use Rattle.texts.specs.Laws.{SpellingIsExact, tokensOf}
 use Rattle.texts.proofs.Plain.{apart}
@@ -71,13 +71,13 @@ token-front : {u : Token} (r : List ℕ) → IsToken u → blanks (u ++ r) ≡ 0
 token-front r (run b u e all) = no-blank b (u ++ r) (run-blank b e) (apart isRun b comment e refl)
 token-front r (single b e h k) = no-blank b r h k
 
-run-size : (u r : List ℕ) → All (λ c. isName c ≡ true) u → runSize r ≡ 0 → runSize (u ++ r) ≡ length u
+run-size : (u r : List ℕ) → All (λ c. isNameByte c ≡ true) u → runSize r ≡ 0 → runSize (u ++ r) ≡ length u
 run-size [] r all e = e
-run-size (c ∷ u) r all e = cond-true (isName c) _ _ (all .0) ∙ ap suc (run-size u r (all .1) e)
+run-size (c ∷ u) r all e = cond-true (isNameByte c) _ _ (all .0) ∙ ap suc (run-size u r (all .1) e)
 
 run-ends : (b : ℕ) (u : Token) (r : List ℕ) → isRun b ≡ true → Ends (b ∷ u) r → runSize r ≡ 0
 run-ends b u [] e h = refl
-run-ends b u (c ∷ r) e h = cond-false (isName c) _ _ (h e)
+run-ends b u (c ∷ r) e h = cond-false (isNameByte c) _ _ (h e)
 
 token-size : {u : Token} (r : List ℕ) → IsToken u → Ends u r → tokenSize (u ++ r) ≡ length u
 token-size r (run b u e all) h = ap suc (cond-true (isRun b) _ _ e ∙ run-size u r all (run-ends b u r e h))
@@ -181,14 +181,14 @@ record Run (l : List ℕ) : Type 0 where
   name : List ℕ
   rest : List ℕ
   same : l ≡ name ++ rest
-  characters : All (λ c. isName c ≡ true) name
+  characters : All (λ c. isNameByte c ≡ true) name
   stops : runSize rest ≡ 0
 
 runs : (l : List ℕ) → Run l
 runs [] = record { name = []; rest = []; same = refl; characters = tt; stops = refl }
-runs (c ∷ l) = go (isName c) refl (runs l)
+runs (c ∷ l) = go (isNameByte c) refl (runs l)
   where
-    go : (t : Bool) → isName c ≡ t → Run l → Run (c ∷ l)
+    go : (t : Bool) → isNameByte c ≡ t → Run l → Run (c ∷ l)
     go true e q = record {
       name = c ∷ q .name;
       rest = q .rest;
@@ -196,11 +196,11 @@ runs (c ∷ l) = go (isName c) refl (runs l)
       characters = (e, q .characters);
       stops = q .stops;
     }
-    go false e q = record { name = []; rest = c ∷ l; same = refl; characters = tt; stops = cond-false (isName c) _ _ e }
+    go false e q = record { name = []; rest = c ∷ l; same = refl; characters = tt; stops = cond-false (isNameByte c) _ _ e }
 
 pub ends-run : (b : ℕ) (u : Token) (r : List ℕ) → runSize r ≡ 0 → Ends (b ∷ u) r
 ends-run b u [] h = tt
-ends-run b u (c ∷ r) h = λ e. go (isName c) h
+ends-run b u (c ∷ r) h = λ e. go (isNameByte c) h
   where
     go : (t : Bool) → cond t (suc (runSize r)) 0 ≡ 0 → t ≡ false
     go true h = absurd (omega arith)

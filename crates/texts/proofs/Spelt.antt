@@ -2,7 +2,7 @@
 --
 --   token-name, token-variable     names and variables are tokens
 --   Spelt us           the tokens us as they are written spell us
---   blank-before       blanks before what is spelt
+--   blank-append, blank-before     blanks before blanks, and before what is spelt
 --   ends-name          a token ends before what begins with no name
 --   put-name, put-mark     a name, a mark before what is spelt
 --   place-spelt, places-spelt     a term before what begins with no name, and the terms of a word's places
@@ -22,10 +22,10 @@ use Rattle.terms.proofs.Bools.{and-parts, or-left, or-right}
 use Rattle.wire.specs.Vocabulary.{signature}
 use Rattle.wire.specs.TermBytes.{nameCount}
 use Rattle.wire.specs.Text.{ascii}
-use Rattle.texts.specs.Lexemes.{Token, isBlank, isName, comment, asking, isRun, runSize}
+use Rattle.texts.specs.Lexemes.{Token, isBlank, isNameByte, comment, asking, isRun, runSize}
 use Rattle.texts.specs.Names.{same, opened, mark, opening, closing, comma, colon, nameAt, IsIdentifier, IsVariable}
 use Rattle.texts.specs.Spelling.{Blank, none, space, remark, whole, unended, IsToken, run, single, Ends, Spells, end, next}
-use Rattle.texts.specs.Lexicon.{Lexicon, kindNames, wordNames, wordsOf, vocabularyOf, GoodLexicon}
+use Rattle.texts.specs.Lexicon.{Lexicon, kindNames, wordNames, allWords, vocabularyOf, GoodLexicon}
 use Rattle.texts.specs.Phrases.{termTokens, placesTokens, phraseTokens, spell}
 use Rattle.texts.specs.Laws.{TermsAreSpelled, PhrasesAreSpelled}
 use Rattle.texts.proofs.Lexicon.{count-records, word-name, kind-name}
@@ -37,11 +37,11 @@ use Rattle.texts.proofs.Spelling.{ends-run, ends-single}
 
 pub token-name : (u : Token) → IsIdentifier u → IsToken u
 token-name [] h = absurd (false≢true (h .identifier))
-token-name (b ∷ u) h = run b u (or-left (isName b) (eqb b asking) (h .characters .0)) (h .characters .1)
+token-name (b ∷ u) h = run b u (or-left (isNameByte b) (eqb b asking) (h .characters .0)) (h .characters .1)
 
 pub token-variable : (u : Token) → IsVariable u → IsToken u
 token-variable [] h = absurd (false≢true (h .variable))
-token-variable (b ∷ u) h = run b u (or-right (isName b) (eqb b asking) (and-parts (eqb b asking) _ (h .variable) .0)) (h .characters)
+token-variable (b ∷ u) h = run b u (or-right (isNameByte b) (eqb b asking) (and-parts (eqb b asking) _ (h .variable) .0)) (h .characters)
 
 -- ---- one token more
 
@@ -49,7 +49,7 @@ abbrev Spelt : List Token → Type 0
 Spelt us = Spells (spell us) us
 
 -- Blanks before the first token.
-blank-append : {w v : List ℕ} → Blank w → Blank v → Blank (w ++ v)
+pub blank-append : {w v : List ℕ} → Blank w → Blank v → Blank (w ++ v)
 blank-append none k = k
 blank-append {v = v} (space b w e h) k = space b (w ++ v) e (blank-append h k)
 blank-append {v = v} (remark c w x all q h) k =
@@ -96,7 +96,7 @@ token-opened = run 95 [] refl tt
 -- ---- terms
 
 module _ (X : Lexicon) (vs : List Token) (good : GoodLexicon X) (variables : All IsVariable vs) where
-  put-word : (f : ℕ) (us : List Token) → f < length (wordsOf X) → runSize (spell us) ≡ 0 → Spelt us → Spelt (nameAt (wordNames X) f ∷ us)
+  put-word : (f : ℕ) (us : List Token) → f < length (allWords X) → runSize (spell us) ≡ 0 → Spelt us → Spelt (nameAt (wordNames X) f ∷ us)
   put-word f us h stops s =
       let name = word-name X good f h in
       put-name (nameAt (wordNames X) f) us (token-name _ name) (plain-name _ name) stops s
@@ -112,7 +112,7 @@ module _ (X : Lexicon) (vs : List Token) (good : GoodLexicon X) (variables : All
   places-stop (cons t ts) us = refl
 
   -- A word without places has no parentheses.
-  word-spelt : (f : ℕ) (ts : Terms) (us : List Token) → f < length (wordsOf X) → runSize (spell us) ≡ 0 → Spelt us →
+  word-spelt : (f : ℕ) (ts : Terms) (us : List Token) → f < length (allWords X) → runSize (spell us) ≡ 0 → Spelt us →
       Spelt (placesTokens (wordNames X) vs opening ts ++ us) → Spelt (termTokens (wordNames X) vs (app f ts) ++ us)
   word-spelt f nil us known stops h places = put-word f us known stops h
   word-spelt f (cons t ts) us known stops h places = put-word f (placesTokens (wordNames X) vs opening (cons t ts) ++ us) known refl places

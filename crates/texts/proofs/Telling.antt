@@ -21,9 +21,9 @@ use Rattle.terms.proofs.All.{all-append, all-implies, all-map, all-always}
 use Rattle.terms.proofs.Bools.{and-parts, false-of-not}
 use Rattle.wire.specs.Vocabulary.{Word, Vocabulary}
 use Rattle.wire.specs.TermBytes.{nameCount}
-use Rattle.texts.specs.Lexemes.{Token, isName, asking}
+use Rattle.texts.specs.Lexemes.{Token, isNameByte, asking}
 use Rattle.texts.specs.Names.{same, opened, kindWord, beginsName, isIdentifier, isVariable, IsIdentifier, IsVariable, Distinct}
-use Rattle.texts.specs.Lexicon.{WordText, KindText, Lexicon, kindNames, wordsOf, wordNames, asWord, recordsFrom, vocabularyOf, GoodWord, GoodLexicon}
+use Rattle.texts.specs.Lexicon.{WordText, KindText, Lexicon, kindNames, allWords, wordNames, asWord, recordsFrom, vocabularyOf, GoodWord, GoodLexicon}
 use Rattle.texts.proofs.Finding.{same-exact}
 
 pub not-opened : (u : Token) → isIdentifier u ≡ true → same u opened ≡ false
@@ -41,7 +41,7 @@ not-variable (b ∷ u) e = false-of-not (eqb b asking && beginsName u) asks
     asks : (eqb b asking && beginsName u) ≡ true → ⊥
     asks h =
         let at : b ≡ asking = eqb-true b asking (and-parts (eqb b asking) (beginsName u) h .0) in
-        false≢true (subst (λ (c : ℕ). isName c ≡ true) at (begins-name (b ∷ u) e))
+        false≢true (subst (λ (c : ℕ). isNameByte c ≡ true) at (begins-name (b ∷ u) e))
 
 pub variable-not-opened : (u : Token) → isVariable u ≡ true → same u opened ≡ false
 variable-not-opened u e =
@@ -65,12 +65,12 @@ pub record Named (K N : List Token) (W : Vocabulary) : Type 0 where
   pub different : Distinct N
   pub results : All (λ (w : Word). w .result < W .kinds) (W .words)
 
-length-records : (k : ℕ) (X : Lexicon) → length (recordsFrom k X) ≡ length (wordsOf X)
+length-records : (k : ℕ) (X : Lexicon) → length (recordsFrom k X) ≡ length (allWords X)
 length-records k [] = refl
 length-records k (x ∷ X) =
     let h = length-records (suc k) X in
     let a = length-append (map (asWord k) (x .words)) (recordsFrom (suc k) X) in
-    let b = length-append (x .words) (wordsOf X) in
+    let b = length-append (x .words) (allWords X) in
     let c = length-map (x .words) (asWord k) in omega arith
 
 results-below : (k : ℕ) (X : Lexicon) → All (λ (w : Word). w .result < k + length X) (recordsFrom k X)
@@ -87,10 +87,10 @@ lexicon-named X good = record {
   kindCount = length-map X (λ (x : KindText). x .name);
   kinds = all-map IsIdentifier (λ (x : KindText). x .name) X (good .kinds);
   differentKinds = good .differentKinds;
-  count = length-map (wordsOf X) (λ (w : WordText). w .name) ∙ sym (length-records 0 X);
+  count = length-map (allWords X) (λ (w : WordText). w .name) ∙ sym (length-records 0 X);
   words =
-      all-map IsIdentifier (λ (w : WordText). w .name) (wordsOf X)
-      (all-implies (GoodWord (length X)) (λ (w : WordText). IsIdentifier (w .name)) (λ w g. g .name) (wordsOf X) (good .words));
+      all-map IsIdentifier (λ (w : WordText). w .name) (allWords X)
+      (all-implies (GoodWord (length X)) (λ (w : WordText). IsIdentifier (w .name)) (λ w g. g .name) (allWords X) (good .words));
   different = good .differentWords;
   results =
       all-implies (λ (w : Word). w .result < 0 + length X) (λ (w : Word). w .result < length X) (λ w h. omega arith) (recordsFrom 0 X)

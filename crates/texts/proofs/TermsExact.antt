@@ -26,8 +26,8 @@ use Rattle.texts.specs.Lexemes.{Token, Lexeme}
 use Rattle.texts.specs.Names.{same, opened, mark, opening, closing, comma, isVariable, indexIn, nameAt, IsVariable}
 use Rattle.texts.specs.Spelling.{IsToken}
 use Rattle.texts.specs.Phrases.{termTokens, placesTokens, bracketed}
-use Rattle.texts.specs.Faults.{Got, got, bad, andThen, token, placesWrong, tooDeep}
-use Rattle.texts.specs.PhraseReading.{Seen, TermRead, TermsRead, wordBytes, wordWhy, variableWhy, faultAt, withFirst, readPlaces, readBehind, readWord, readVariable, readNode, readTerm}
+use Rattle.texts.specs.Faults.{Parsed, parsed, bad, parseThen, token, placesWrong, placesOver, tooDeep}
+use Rattle.texts.specs.PhraseReading.{Seen, TermRead, TermsRead, wordBytes, wordWhy, variableWhy, faultAt, putFirst, parsePlaces, readBehind, parseWord, readVariable, readNode, parseTerm}
 use Rattle.texts.proofs.Finding.{same-exact, at-index, distinct-last}
 use Rattle.texts.proofs.Standing.{Stands, stands-append, stands-all, Counts, counts-append}
 use Rattle.texts.proofs.Telling.{Named, GoodVariables}
@@ -94,12 +94,12 @@ pub record HasReadAll (said : List Token → Terms → List Token) (W : Vocabula
   pub deep : levelsAll (a .terms) ≤ left
   pub grows : Grows s (length (encodeAll W (a .terms))) (namesAll (a .terms)) (a .seen)
 
-abbrev pub Reads : List Token → Vocabulary → ℕ → ℕ → Seen → List Lexeme → Got TermRead → Type 0
-Reads N W left due s l (got a r) = HasRead N W left due s l a r
+abbrev pub Reads : List Token → Vocabulary → ℕ → ℕ → Seen → List Lexeme → Parsed TermRead → Type 0
+Reads N W left due s l (parsed a r) = HasRead N W left due s l a r
 Reads N W left due s l (bad x) = Unit {0}
 
-abbrev pub ReadsAll : (List Token → Terms → List Token) → Vocabulary → ℕ → List ℕ → Seen → List Lexeme → Got TermsRead → Type 0
-ReadsAll said W left ks s l (got a r) = HasReadAll said W left ks s l a r
+abbrev pub ReadsAll : (List Token → Terms → List Token) → Vocabulary → ℕ → List ℕ → Seen → List Lexeme → Parsed TermsRead → Type 0
+ReadsAll said W left ks s l (parsed a r) = HasReadAll said W left ks s l a r
 ReadsAll said W left ks s l (bad x) = Unit {0}
 
 abbrev pub inPlaces : List Token → ℕ → List Token → Terms → List Token
@@ -117,10 +117,10 @@ module _ (N : List Token) (W : Vocabulary) (left : ℕ) where
 
   -- A term, then the terms behind it.
   pub next-exact : (c k : ℕ) (ks : List ℕ) (s : Seen) (x : Lexeme) (l : List Lexeme) → x .token ≡ mark c → (a : TermRead) (r : List Lexeme) →
-      HasRead N W left k s l a r → (y : Got TermsRead) → ReadsAll (inPlaces N comma) W left ks (a .seen) r y →
-      ReadsAll (inPlaces N c) W left (k ∷ ks) s (x ∷ l) (andThen y (λ ts r′. got (withFirst (a .term) ts) r′))
+      HasRead N W left k s l a r → (y : Parsed TermsRead) → ReadsAll (inPlaces N comma) W left ks (a .seen) r y →
+      ReadsAll (inPlaces N c) W left (k ∷ ks) s (x ∷ l) (parseThen y (λ ts r′. parsed (putFirst (a .term) ts) r′))
   next-exact c k ks s x l e a r h (bad y) g = tt
-  next-exact c k ks s x l e a r h (got b r′) g = record {
+  next-exact c k ks s x l e a r h (parsed b r′) g = record {
     stands = λ w. (
       e,
       stands-append (termTokens N (b .seen .variables ++ w) (a .term)) (placesTokens N (b .seen .variables ++ w) comma (b .terms)) l r r′
@@ -139,24 +139,24 @@ module _ (N : List Token) (W : Vocabulary) (left : ℕ) where
 
   module _ (below : Below) (f : ℕ) (good : (k : ℕ) (s : Seen) (l : List Lexeme) → Lexed l → Reads N W left k s l (below k s l)) where
     pub places-exact : (ks : List ℕ) (c : ℕ) (s : Seen) (l : List Lexeme) → Lexed l →
-        ReadsAll (inPlaces N c) W left ks s l (readPlaces below f c ks s l)
+        ReadsAll (inPlaces N c) W left ks s l (parsePlaces below f c ks s l)
     places-exact [] c s [] a = tt
     places-exact [] c s (x ∷ l) a =
-        choice (ReadsAll (inPlaces N c) W left [] s (x ∷ l)) (same (x .token) (mark closing)) (got (record { terms = nil; seen = s }) l)
-        (faultAt placesWrong f (x ∷ l)) (λ e. end-exact c s x l (same-exact (x .token) (mark closing) e)) (λ e. tt)
+        choice (ReadsAll (inPlaces N c) W left [] s (x ∷ l)) (same (x .token) (mark closing)) (parsed (record { terms = nil; seen = s }) l)
+        (faultAt placesOver f (x ∷ l)) (λ e. end-exact c s x l (same-exact (x .token) (mark closing) e)) (λ e. tt)
     places-exact (k ∷ ks) c s [] a = tt
     places-exact (k ∷ ks) c s (x ∷ l) a =
-        choice (ReadsAll (inPlaces N c) W left (k ∷ ks) s (x ∷ l)) (same (x .token) (mark c)) (andThen (below k s l) behind)
+        choice (ReadsAll (inPlaces N c) W left (k ∷ ks) s (x ∷ l)) (same (x .token) (mark c)) (parseThen (below k s l) behind)
         (faultAt placesWrong f (x ∷ l)) (λ e. go (places-exact ks comma) (same-exact (x .token) (mark c) e) (below k s l) (good k s l (a .1))) (λ e. tt)
       where
-        behind : TermRead → List Lexeme → Got TermsRead
-        behind b r = andThen (readPlaces below f comma ks (b .seen) r) (λ ts r′. got (withFirst (b .term) ts) r′)
+        behind : TermRead → List Lexeme → Parsed TermsRead
+        behind b r = parseThen (parsePlaces below f comma ks (b .seen) r) (λ ts r′. parsed (putFirst (b .term) ts) r′)
 
-        go : ((s : Seen) (l : List Lexeme) → Lexed l → ReadsAll (inPlaces N comma) W left ks s l (readPlaces below f comma ks s l)) →
-            x .token ≡ mark c → (y : Got TermRead) → Reads N W left k s l y → ReadsAll (inPlaces N c) W left (k ∷ ks) s (x ∷ l) (andThen y behind)
+        go : ((s : Seen) (l : List Lexeme) → Lexed l → ReadsAll (inPlaces N comma) W left ks s l (parsePlaces below f comma ks s l)) →
+            x .token ≡ mark c → (y : Parsed TermRead) → Reads N W left k s l y → ReadsAll (inPlaces N c) W left (k ∷ ks) s (x ∷ l) (parseThen y behind)
         go ih e (bad y) h = tt
-        go ih e (got b r) h =
-            next-exact c k ks s x l e b r h (readPlaces below f comma ks (b .seen) r)
+        go ih e (parsed b r) h =
+            next-exact c k ks s x l e b r h (parsePlaces below f comma ks (b .seen) r)
             (ih (b .seen) r (stands-all (λ (x : Lexeme). (x .token ≡ []) ⊎ IsToken (x .token)) (termTokens N (b .seen .variables ++ []) (b .term)) l r (h .stands []) (a .1)))
 
     -- A word without places has no parentheses behind it.
@@ -167,11 +167,11 @@ module _ (N : List Token) (W : Vocabulary) (left : ℕ) where
 
     pub behind-exact : (ks : List ℕ) (s : Seen) (l : List Lexeme) → Lexed l → ReadsAll (inBrackets N) W left ks s l (readBehind below f ks s l)
     behind-exact [] s l a = record { stands = λ w. refl; sorted = tt; deep = omega arith; grows = grows-none s }
-    behind-exact (k ∷ ks) s l a = go (readPlaces below f opening (k ∷ ks) s l) (places-exact (k ∷ ks) opening s l a)
+    behind-exact (k ∷ ks) s l a = go (parsePlaces below f opening (k ∷ ks) s l) (places-exact (k ∷ ks) opening s l a)
       where
-        go : (y : Got TermsRead) → ReadsAll (inPlaces N opening) W left (k ∷ ks) s l y → ReadsAll (inBrackets N) W left (k ∷ ks) s l y
+        go : (y : Parsed TermsRead) → ReadsAll (inPlaces N opening) W left (k ∷ ks) s l y → ReadsAll (inBrackets N) W left (k ∷ ks) s l y
         go (bad y) h = tt
-        go (got b r) h = record {
+        go (parsed b r) h = record {
           stands = λ w. bracket ks k (b .seen .variables ++ w) (b .terms) l r (h .sorted) (h .stands w);
           sorted = h .sorted;
           deep = h .deep;
@@ -214,12 +214,12 @@ module _ (K N : List Token) (W : Vocabulary) (named : Named K N W) (due : ℕ) (
     };
   }
 
-  pub word-exact : (left : ℕ) → WordFits N W (suc left) due s (x .token) → (y : Got TermsRead) →
+  pub word-exact : (left : ℕ) → WordFits N W (suc left) due s (x .token) → (y : Parsed TermsRead) →
       ReadsAll (inBrackets N) W left (word W (indexIn (x .token) N) .kinds) (record { variables = s .variables; used = s .used + wordBytes }) l y →
       Reads N W (suc left) due s (x ∷ l)
-      (andThen y (λ ts r. got (record { term = app (indexIn (x .token) N) (ts .terms); seen = ts .seen }) r))
+      (parseThen y (λ ts r. parsed (record { term = app (indexIn (x .token) N) (ts .terms); seen = ts .seen }) r))
   word-exact left fit (bad y) h = tt
-  word-exact left fit (got b r) h =
+  word-exact left fit (parsed b r) h =
       let f : ℕ = indexIn (x .token) N in
       let c₁ = named .count in
       let c₂ = length-symbols W in
@@ -253,33 +253,33 @@ module _ (K N : List Token) (W : Vocabulary) (named : Named K N W) (due : ℕ) (
         let fit = variable-fits left s (x .token) q in variable-exact left (variable-good (x .token) (a .0) e (fit .short)) fit
     from-variable e (suc why) q = tt
 
-    from-word : (why : ℕ) → wordWhy N W left due s (x .token) ≡ why → Reads N W left due s (x ∷ l) (readWord below N W left due s (x ∷ l) why)
+    from-word : (why : ℕ) → wordWhy N W left due s (x .token) ≡ why → Reads N W left due s (x ∷ l) (parseWord below N W left due s (x ∷ l) why)
     from-word zero q =
         let f : ℕ = indexIn (x .token) N in
         let fit = word-fits N W left due s (x .token) q in
         let e : left ≡ suc under = next (fit .deep) in
         let s′ : Seen = record { variables = s .variables; used = s .used + wordBytes } in
         subst (λ (n : ℕ). Reads N W n due s (x ∷ l)
-        (andThen (readBehind below f (word W f .kinds) s′ l) (λ ts r. got (record { term = app f (ts .terms); seen = ts .seen }) r))) (sym e)
+        (parseThen (readBehind below f (word W f .kinds) s′ l) (λ ts r. parsed (record { term = app f (ts .terms); seen = ts .seen }) r))) (sym e)
         (word-exact under (subst (λ (n : ℕ). WordFits N W n due s (x .token)) e fit) (readBehind below f (word W f .kinds) s′ l)
         (behind-exact N W under below f good (word W f .kinds) s′ l (a .1)))
     from-word (suc why) q = tt
 
     node-exact : Reads N W left due s (x ∷ l) (readNode below N W left due s (x ∷ l))
     node-exact =
-        choice (Reads N W left due s (x ∷ l)) (same (x .token) opened) (got (record { term = any; seen = s }) l)
+        choice (Reads N W left due s (x ∷ l)) (same (x .token) opened) (parsed (record { term = any; seen = s }) l)
         (cond (isVariable (x .token)) (readVariable due s (x ∷ l) (variableWhy left s (x .token)))
-        (readWord below N W left due s (x ∷ l) (wordWhy N W left due s (x .token))))
+        (parseWord below N W left due s (x ∷ l) (wordWhy N W left due s (x .token))))
         (λ e. open-exact left (same-exact (x .token) opened e))
         (λ e. choice (Reads N W left due s (x ∷ l)) (isVariable (x .token)) (readVariable due s (x ∷ l) (variableWhy left s (x .token)))
-        (readWord below N W left due s (x ∷ l) (wordWhy N W left due s (x .token)))
+        (parseWord below N W left due s (x ∷ l) (wordWhy N W left due s (x .token)))
         (λ v. from-variable v (variableWhy left s (x .token)) refl) (λ v. from-word (wordWhy N W left due s (x .token)) refl))
 
 pub term-exact : (K N : List Token) (W : Vocabulary) → Named K N W → (left due : ℕ) (s : Seen) (l : List Lexeme) → Lexed l →
-    Reads N W left due s l (readTerm N W left due s l)
+    Reads N W left due s l (parseTerm N W left due s l)
 term-exact K N W named zero due s [] a = tt
 term-exact K N W named zero due s (x ∷ l) a =
     node-exact K N W named due s x l (λ k s′ l′. faultAt tooDeep k l′) zero zero (λ h. absurd (omega arith)) a (λ k s l b. tt)
 term-exact K N W named (suc left) due s [] a = tt
 term-exact K N W named (suc left) due s (x ∷ l) a =
-    node-exact K N W named due s x l (readTerm N W left) (suc left) left (λ h. refl) a (λ k s l b. term-exact K N W named left k s l b)
+    node-exact K N W named due s x l (parseTerm N W left) (suc left) left (λ h. refl) a (λ k s l b. term-exact K N W named left k s l b)

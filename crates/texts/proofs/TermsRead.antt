@@ -27,26 +27,26 @@ use Rattle.wire.proofs.Cond.{cond-true}
 use Rattle.texts.specs.Lexemes.{Token, Lexeme}
 use Rattle.texts.specs.Names.{same, opened, mark, opening, closing, comma, mostName, isIdentifier, isVariable, indexIn, nameAt, IsIdentifier, IsVariable}
 use Rattle.texts.specs.Phrases.{termTokens, placesTokens, bracketed}
-use Rattle.texts.specs.Faults.{Got, got, andThen, placesWrong, tooDeep}
-use Rattle.texts.specs.PhraseReading.{Seen, TermRead, TermsRead, wordBytes, wordWhy, variableWhy, faultAt, withFirst, readPlaces, readBehind, readWord, readVariable, readNode, readTerm}
+use Rattle.texts.specs.Faults.{Parsed, parsed, parseThen, placesWrong, placesOver, tooDeep}
+use Rattle.texts.specs.PhraseReading.{Seen, TermRead, TermsRead, wordBytes, wordWhy, variableWhy, faultAt, putFirst, parsePlaces, readBehind, parseWord, readVariable, readNode, parseTerm}
 use Rattle.texts.proofs.Finding.{index-at, new-name, same-refl}
 use Rattle.texts.proofs.Standing.{Stands, stands-split, Counts, counts-split}
 use Rattle.texts.proofs.Telling.{not-opened, not-variable, variable-not-opened, Named, GoodVariables}
 
 abbrev pub Below : Type 0
-Below = ℕ → Seen → List Lexeme → Got TermRead
+Below = ℕ → Seen → List Lexeme → Parsed TermRead
 
 abbrev pub belowOf : List Token → Vocabulary → ℕ → Below
 belowOf N W zero k s l = faultAt tooDeep k l
-belowOf N W (suc left) k s l = readTerm N W left k s l
+belowOf N W (suc left) k s l = parseTerm N W left k s l
 
 pub term-node : (N : List Token) (W : Vocabulary) (left due : ℕ) (s : Seen) (l : List Lexeme) →
-    readTerm N W left due s l ≡ readNode (belowOf N W left) N W left due s l
+    parseTerm N W left due s l ≡ readNode (belowOf N W left) N W left due s l
 term-node N W zero due s l = refl
 term-node N W (suc left) due s l = refl
 
 module _ (below : Below) (N : List Token) (W : Vocabulary) (left due : ℕ) (s : Seen) (x : Lexeme) (l : List Lexeme) where
-  pub node-open : x .token ≡ opened → readNode below N W left due s (x ∷ l) ≡ got (record { term = any; seen = s }) l
+  pub node-open : x .token ≡ opened → readNode below N W left due s (x ∷ l) ≡ parsed (record { term = any; seen = s }) l
   node-open e = simp (ap (λ (u : Token). same u opened) e)
 
   pub node-variable : isVariable (x .token) ≡ true →
@@ -54,7 +54,7 @@ module _ (below : Below) (N : List Token) (W : Vocabulary) (left due : ℕ) (s :
   node-variable e = simp (variable-not-opened (x .token) e, e)
 
   pub node-word : isIdentifier (x .token) ≡ true →
-      readNode below N W left due s (x ∷ l) ≡ readWord below N W left due s (x ∷ l) (wordWhy N W left due s (x .token))
+      readNode below N W left due s (x ∷ l) ≡ parseWord below N W left due s (x ∷ l) (wordWhy N W left due s (x .token))
   node-word e = simp (not-opened (x .token) e, not-variable (x .token) e)
 
 module _ (left : ℕ) (s : Seen) (u : Token) where
@@ -78,13 +78,13 @@ abbrev asRead : Terms → Seen → TermsRead
 asRead ts s = record { terms = ts; seen = s }
 
 same-end : {A : Type 0} (made : Seen → A) (vs : List Token) (m n u v : ℕ) (l r : List Lexeme) → m ≡ n → u ≡ v → l ≡ r →
-    got (made (seenAt vs m u)) l ≡ got (made (seenAt vs n v)) r
+    parsed (made (seenAt vs m u)) l ≡ parsed (made (seenAt vs n v)) r
 same-end made vs m n u v l r p q e = rw (p, q, e)
 
 module _ (K N : List Token) (W : Vocabulary) (named : Named K N W) (vs : List Token) (good : GoodVariables vs) where
   variable-read : (n left s m u : ℕ) (x : Lexeme) (l r : List Lexeme) → 1 ≤ left → u + 1 ≤ mostBytes → n ≡ m → m + 1 ≤ length vs →
       x .token ≡ nameAt vs n → l ≡ r →
-      readTerm N W left s (seenAt vs m u) (x ∷ l) ≡ got (record { term = var n; seen = seenAt vs (m + 1) (u + 1) }) r
+      parseTerm N W left s (seenAt vs m u) (x ∷ l) ≡ parsed (record { term = var n; seen = seenAt vs (m + 1) (u + 1) }) r
   variable-read n left s m u x l r d b c k e h =
       let few = good .few in
       let size : length (take m vs) ≡ m = length-take-le m vs (omega arith) in
@@ -102,29 +102,29 @@ module _ (K N : List Token) (W : Vocabulary) (named : Named K N W) (vs : List To
   -- The terms of a word's places are read, so the word is.
   word-read : (f : ℕ) (ts : Terms) (left s : ℕ) (seen seen′ : Seen) (x : Lexeme) (l r : List Lexeme) → f < length N →
       word W f .result ≡ s → seen .used + wordBytes ≤ mostBytes → x .token ≡ nameAt N f →
-      readBehind (readTerm N W left) f (word W f .kinds) (record { variables = seen .variables; used = seen .used + wordBytes }) l
-      ≡ got (record { terms = ts; seen = seen′ }) r →
-      readTerm N W (suc left) s seen (x ∷ l) ≡ got (record { term = app f ts; seen = seen′ }) r
+      readBehind (parseTerm N W left) f (word W f .kinds) (record { variables = seen .variables; used = seen .used + wordBytes }) l
+      ≡ parsed (record { terms = ts; seen = seen′ }) r →
+      parseTerm N W (suc left) s seen (x ∷ l) ≡ parsed (record { term = app f ts; seen = seen′ }) r
   word-read f ts left s seen seen′ x l r known due b e h =
       let found : indexIn (x .token) N ≡ f = ap (λ (z : Token). indexIn z N) e ∙ index-at N f (named .different) known in
       let is : IsIdentifier (x .token) = subst IsIdentifier (sym e) (all-at IsIdentifier [] N (named .words) f known) in
-      node-word (readTerm N W left) N W (suc left) s seen x l (is .identifier)
-      ∙ ap (readWord (readTerm N W left) N W (suc left) s seen (x ∷ l))
+      node-word (parseTerm N W left) N W (suc left) s seen x l (is .identifier)
+      ∙ ap (parseWord (parseTerm N W left) N W (suc left) s seen (x ∷ l))
       (word-stands (suc left) seen (x .token) N W s (is .identifier) (subst (λ (g : ℕ). g < length N) (sym found) known)
       (ap (λ (g : ℕ). word W g .result) found ∙ due) (omega arith) b)
-      ∙ ap (λ (g : ℕ). andThen
-      (readBehind (readTerm N W left) g (word W g .kinds) (record { variables = seen .variables; used = seen .used + wordBytes }) l)
-      (λ ts r. got (record { term = app g (ts .terms); seen = ts .seen }) r)) found
-      ∙ ap (λ (z : Got TermsRead). andThen z (λ ts r. got (record { term = app f (ts .terms); seen = ts .seen }) r)) h
+      ∙ ap (λ (g : ℕ). parseThen
+      (readBehind (parseTerm N W left) g (word W g .kinds) (record { variables = seen .variables; used = seen .used + wordBytes }) l)
+      (λ ts r. parsed (record { term = app g (ts .terms); seen = ts .seen }) r)) found
+      ∙ ap (λ (z : Parsed TermsRead). parseThen z (λ ts r. parsed (record { term = app f (ts .terms); seen = ts .seen }) r)) h
 
   -- A word without places has no parentheses behind it.
   behind-read : (ts : Terms) (left f m u : ℕ) (ks : List ℕ) (l r : List Lexeme) → SortedAll (signature W) ts ks →
       (Stands (placesTokens N vs opening ts) l r →
-      readPlaces (readTerm N W left) f opening ks (seenAt vs m u) l
-      ≡ got (asRead ts (seenAt vs (m + length (namesAll ts)) (u + length (encodeAll W ts)))) r) →
+      parsePlaces (parseTerm N W left) f opening ks (seenAt vs m u) l
+      ≡ parsed (asRead ts (seenAt vs (m + length (namesAll ts)) (u + length (encodeAll W ts)))) r) →
       Stands (bracketed ts (placesTokens N vs opening ts)) l r →
-      readBehind (readTerm N W left) f ks (seenAt vs m u) l
-      ≡ got (asRead ts (seenAt vs (m + length (namesAll ts)) (u + length (encodeAll W ts)))) r
+      readBehind (parseTerm N W left) f ks (seenAt vs m u) l
+      ≡ parsed (asRead ts (seenAt vs (m + length (namesAll ts)) (u + length (encodeAll W ts)))) r
   behind-read nil left f m u [] l r h all e = same-end (asRead nil) vs m (m + 0) u (u + 0) l r (omega arith) (omega arith) e
   behind-read nil left f m u (i ∷ ks) l r h all e = absurd h
   behind-read (cons t ts) left f m u [] l r h all e = absurd h
@@ -133,8 +133,8 @@ module _ (K N : List Token) (W : Vocabulary) (named : Named K N W) (vs : List To
   mutual
     pub read-term : (t : Term) (left s m u : ℕ) (l r : List Lexeme) → Sorted (signature W) t s → levels t ≤ left →
         u + length (encodeAt W t) ≤ mostBytes → Counts m (names t) → m + length (names t) ≤ length vs → Stands (termTokens N vs t) l r →
-        readTerm N W left s (seenAt vs m u) l
-        ≡ got (record { term = t; seen = seenAt vs (m + length (names t)) (u + length (encodeAt W t)) }) r
+        parseTerm N W left s (seenAt vs m u) l
+        ≡ parsed (record { term = t; seen = seenAt vs (m + length (names t)) (u + length (encodeAt W t)) }) r
     read-term any left s m u [] r h d b c k e = absurd e
     read-term any left s m u (x ∷ l) r h d b c k e =
         term-node N W left s (seenAt vs m u) (x ∷ l)
@@ -154,17 +154,17 @@ module _ (K N : List Token) (W : Vocabulary) (named : Named K N W) (vs : List To
         (sym (result-word W f) ∙ h .1) (omega arith) (e .0)
         (behind-read ts left f m (u + wordBytes) (word W f .kinds) l r sorted
         (λ z. read-places ts left f opening m (u + wordBytes) (word W f .kinds) l r sorted (omega arith) (omega arith) c k z) (e .1)
-        ∙ ap (λ (z : ℕ). got (record { terms = ts; seen = seenAt vs (m + length (namesAll ts)) z }) r) bytes)
+        ∙ ap (λ (z : ℕ). parsed (record { terms = ts; seen = seenAt vs (m + length (namesAll ts)) z }) r) bytes)
 
     pub read-places : (ts : Terms) (left f o m u : ℕ) (ks : List ℕ) (l r : List Lexeme) → SortedAll (signature W) ts ks → levelsAll ts ≤ left →
         u + length (encodeAll W ts) ≤ mostBytes → Counts m (namesAll ts) → m + length (namesAll ts) ≤ length vs →
         Stands (placesTokens N vs o ts) l r →
-        readPlaces (readTerm N W left) f o ks (seenAt vs m u) l
-        ≡ got (record { terms = ts; seen = seenAt vs (m + length (namesAll ts)) (u + length (encodeAll W ts)) }) r
+        parsePlaces (parseTerm N W left) f o ks (seenAt vs m u) l
+        ≡ parsed (record { terms = ts; seen = seenAt vs (m + length (namesAll ts)) (u + length (encodeAll W ts)) }) r
     read-places nil left f o m u (i ∷ ks) l r h d b c k e = absurd h
     read-places nil left f o m u [] [] r h d b c k e = absurd e
     read-places nil left f o m u [] (x ∷ l) r h d b c k e =
-        cond-true (same (x .token) (mark closing)) (got (record { terms = nil; seen = seenAt vs m u }) l) (faultAt placesWrong f (x ∷ l))
+        cond-true (same (x .token) (mark closing)) (parsed (record { terms = nil; seen = seenAt vs m u }) l) (faultAt placesOver f (x ∷ l))
         (ap (λ (z : Token). same z (mark closing)) (e .0))
         ∙ same-end (asRead nil) vs m (m + 0) u (u + 0) l r (omega arith) (omega arith) (e .1)
     read-places (cons t ts) left f o m u [] l r h d b c k e = absurd h
@@ -177,13 +177,13 @@ module _ (K N : List Token) (W : Vocabulary) (named : Named K N W) (vs : List To
         let m′ : ℕ = m + length (names t) in
         let u′ : ℕ = u + length (encodeAt W t) in
         cond-true (same (x .token) (mark o))
-        (andThen (readTerm N W left i (seenAt vs m u) l)
-        (λ a r. andThen (readPlaces (readTerm N W left) f comma ks (a .seen) r) (λ ts r′. got (withFirst (a .term) ts) r′)))
+        (parseThen (parseTerm N W left i (seenAt vs m u) l)
+        (λ a r. parseThen (parsePlaces (parseTerm N W left) f comma ks (a .seen) r) (λ ts r′. parsed (putFirst (a .term) ts) r′)))
         (faultAt placesWrong f (x ∷ l)) (ap (λ (z : Token). same z (mark o)) (e .0) ∙ same-refl (mark o))
-        ∙ ap (λ (z : Got TermRead). andThen z
-        (λ a r. andThen (readPlaces (readTerm N W left) f comma ks (a .seen) r) (λ ts r′. got (withFirst (a .term) ts) r′)))
+        ∙ ap (λ (z : Parsed TermRead). parseThen z
+        (λ a r. parseThen (parsePlaces (parseTerm N W left) f comma ks (a .seen) r) (λ ts r′. parsed (putFirst (a .term) ts) r′)))
         (read-term t left i m u l (cut .0) (h .0) (omega arith) (omega arith) (counts .0) (omega arith) (cut .1))
-        ∙ ap (λ (z : Got TermsRead). andThen z (λ ts r′. got (withFirst t ts) r′))
+        ∙ ap (λ (z : Parsed TermsRead). parseThen z (λ ts r′. parsed (putFirst t ts) r′))
         (read-places ts left f comma m′ u′ ks (cut .0) r (h .1) (omega arith) (omega arith) (counts .1) (omega arith) (cut .2))
         ∙ same-end (asRead (cons t ts)) vs (m′ + length (namesAll ts)) (m + length (namesAll (cons t ts)))
         (u′ + length (encodeAll W ts)) (u + length (encodeAll W (cons t ts))) r r (omega arith) (omega arith) refl

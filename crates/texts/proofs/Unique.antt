@@ -6,7 +6,7 @@
 --   cons-one               lists that are equal, entry by entry
 --   Words, words-one       where the rows of one kind end, those of later kinds begin
 --   kinds-one, read-one    what is read of a vocabulary fixes it
---   got-one, well-one      what is got, or read, is one thing
+--   parsed-one, well-one      what is parsed, or read, is one thing
 --   printed-read           what is printed of a pattern is read as that pattern
 --   lexicon-is-one, text-is-one, printed-alike, entries-printed-alike, names-are-no-words     the laws
 --
@@ -21,11 +21,11 @@ use Rattle.terms.specs.Lists.{All}
 use Rattle.terms.specs.Term.{Term}
 use Rattle.terms.proofs.All.{all-append, all-implies}
 use Rattle.texts.specs.Lexemes.{Token, Lexeme, lexemes, tokens}
-use Rattle.texts.specs.Lexicon.{WordText, KindText, Lexicon, kindNames, wordsOf, wordNames, vocabularyOf, lexiconTokens, GoodLexicon}
+use Rattle.texts.specs.Lexicon.{WordText, KindText, Lexicon, kindNames, allWords, wordNames, vocabularyOf, lexiconTokens, GoodLexicon}
 use Rattle.texts.specs.Phrases.{Phrase, phraseTokens, phraseText, spell, GoodPhrase}
-use Rattle.texts.specs.Files.{File}
-use Rattle.texts.specs.Faults.{Got, got, bad}
-use Rattle.texts.specs.LexiconReading.{Row, LexiconRead}
+use Rattle.texts.specs.Files.{Paragraph, File}
+use Rattle.texts.specs.Faults.{Parsed, parsed, bad}
+use Rattle.texts.specs.LexiconReading.{WordRow, LexiconRead}
 use Rattle.texts.specs.PhraseReading.{readPhrase}
 use Rattle.texts.specs.Answering.{readWell}
 use Rattle.texts.specs.Laws.{tokensOf, rowsFrom, lexiconRead, Stops, LexiconIsOne, TextIsOne, PrintedAlike, EntriesPrintedAlike, NamesAreNoWords}
@@ -40,23 +40,23 @@ use Rattle.texts.proofs.EntryPhrases.{entries-are-phrases}
 
 -- ---- vocabularies
 
-abbrev rowOf : ℕ → WordText → Row
+abbrev rowOf : ℕ → WordText → WordRow
 rowOf k w = record { kind = k; places = w .places }
 
-rows-of : (k : ℕ) (ws : List WordText) → All (λ (x : Row). k ≤ x .kind) (map (rowOf k) ws)
+rows-of : (k : ℕ) (ws : List WordText) → All (λ (x : WordRow). k ≤ x .kind) (map (rowOf k) ws)
 rows-of k [] = tt
 rows-of k (w ∷ ws) = (omega arith, rows-of k ws)
 
-rows-above : (k : ℕ) (X : Lexicon) → All (λ (x : Row). k ≤ x .kind) (rowsFrom k X)
+rows-above : (k : ℕ) (X : Lexicon) → All (λ (x : WordRow). k ≤ x .kind) (rowsFrom k X)
 rows-above k [] = tt
 rows-above k (x ∷ X) =
-    all-append (λ (y : Row). k ≤ y .kind) (map (rowOf k) (x .words)) (rowsFrom (suc k) X) (rows-of k (x .words))
-    (all-implies (λ (y : Row). suc k ≤ y .kind) (λ (y : Row). k ≤ y .kind) (λ y h. omega arith) (rowsFrom (suc k) X) (rows-above (suc k) X))
+    all-append (λ (y : WordRow). k ≤ y .kind) (map (rowOf k) (x .words)) (rowsFrom (suc k) X) (rows-of k (x .words))
+    (all-implies (λ (y : WordRow). suc k ≤ y .kind) (λ (y : WordRow). k ≤ y .kind) (λ y h. omega arith) (rowsFrom (suc k) X) (rows-above (suc k) X))
 
 -- A row of kind k is none of a later kind.
-no-row : (k : ℕ) (X : Lexicon) (w : WordText) (l : List Row) → rowsFrom (suc k) X ≡ rowOf k w ∷ l → ⊥
+no-row : (k : ℕ) (X : Lexicon) (w : WordText) (l : List WordRow) → rowsFrom (suc k) X ≡ rowOf k w ∷ l → ⊥
 no-row k X w l e =
-    let h : suc k ≤ k = subst (All (λ (x : Row). suc k ≤ x .kind)) e (rows-above (suc k) X) .0 in omega arith
+    let h : suc k ≤ k = subst (All (λ (x : WordRow). suc k ≤ x .kind)) e (rows-above (suc k) X) .0 in omega arith
 
 cons-one : {A : Type 0} {x y : A} {l m : List A} → x ∷ l ≡ y ∷ m → (x ≡ y) × (l ≡ m)
 cons-one e = (cc, cc)
@@ -70,7 +70,7 @@ record Words (k : ℕ) (ws vs : List WordText) (X Y : Lexicon) : Type 0 where
 abbrev nameOf : WordText → Token
 nameOf w = w .name
 
-words-one : (k : ℕ) (ws vs : List WordText) (X Y : Lexicon) → map nameOf (ws ++ wordsOf X) ≡ map nameOf (vs ++ wordsOf Y) →
+words-one : (k : ℕ) (ws vs : List WordText) (X Y : Lexicon) → map nameOf (ws ++ allWords X) ≡ map nameOf (vs ++ allWords Y) →
     map (rowOf k) ws ++ rowsFrom (suc k) X ≡ map (rowOf k) vs ++ rowsFrom (suc k) Y → Words k ws vs X Y
 words-one k [] [] X Y e h = record { words = refl; names = e; rows = h }
 words-one k [] (v ∷ vs) X Y e h = absurd (no-row k X v _ h)
@@ -80,7 +80,7 @@ words-one k (w ∷ ws) (v ∷ vs) X Y e h =
     let row = cons-one h in
     let below = words-one k ws vs X Y (name .1) (row .1) in
     record {
-      words = ap₂ {C = List WordText} _∷_ (ap₂ made (name .0) (ap (λ (x : Row). x .places) (row .0))) (below .words);
+      words = ap₂ {C = List WordText} _∷_ (ap₂ made (name .0) (ap (λ (x : WordRow). x .places) (row .0))) (below .words);
       names = below .names;
       rows = below .rows;
     }
@@ -104,12 +104,12 @@ read-one : (X Y : Lexicon) → lexiconRead X ≡ lexiconRead Y → X ≡ Y
 read-one X Y e =
     kinds-one 0 X Y (ap (λ (a : LexiconRead). a .kindNames) e) (ap (λ (a : LexiconRead). a .wordNames) e) (ap (λ (a : LexiconRead). a .rows) e)
 
--- What is got is one thing.
-got-one : {A : Type 0} {g : Got A} (a b : A) (l r : List Lexeme) → g ≡ got a l → g ≡ got b r → a ≡ b
-got-one {A} a b l r e h = ap first (sym e ∙ h)
+-- What is parsed is one thing.
+parsed-one : {A : Type 0} {g : Parsed A} (a b : A) (l r : List Lexeme) → g ≡ parsed a l → g ≡ parsed b r → a ≡ b
+parsed-one {A} a b l r e h = ap first (sym e ∙ h)
   where
-    first : Got A → A
-    first (got c m) = c
+    first : Parsed A → A
+    first (parsed c m) = c
     first (bad x) = a
 
 nothing-stops : Stops []
@@ -124,11 +124,11 @@ lexicon-is-one X Y goodX goodY e =
     let l = asLexemes (lexiconTokens X) in
     let readX = lexicons-read X l [] goodX (as-all (lexiconTokens X)) nothing-stops in
     let readY = lexicons-read Y l [] goodY (as-all (lexiconTokens X) ∙ ap (λ (us : List Token). us ++ []) e) nothing-stops in
-    read-one X Y (got-one (lexiconRead X) (lexiconRead Y) _ _ readX readY)
+    read-one X Y (parsed-one (lexiconRead X) (lexiconRead Y) _ _ readX readY)
 
 -- ---- texts
 
-well-one : (a b : LexiconRead) (ps qs : List Phrase) → readWell a ps ≡ readWell b qs → (a ≡ b) × (ps ≡ qs)
+well-one : (a b : LexiconRead) (ps qs : List Paragraph) → readWell a ps ≡ readWell b qs → (a ≡ b) × (ps ≡ qs)
 well-one a b ps qs e = (cc, cc)
 
 pub text-is-one : TextIsOne
@@ -136,14 +136,14 @@ text-is-one b F G isF isG =
     let one = well-one _ _ _ _ (sym (files-are-read b F isF) ∙ files-are-read b G isG) in
     ap₂ made (read-one (F .lexicon) (G .lexicon) (one .0)) (one .1)
   where
-    made : Lexicon → List Phrase → File
-    made X ps = record { lexicon = X; phrases = ps }
+    made : Lexicon → List Paragraph → File
+    made X qs = record { lexicon = X; paragraphs = qs }
 
 -- ---- patterns
 
 printed-read : (X : Lexicon) (vs : List Token) (s : ℕ) (t : Term) (b : List ℕ) → GoodLexicon X → GoodPhrase X vs s t →
     b ≡ phraseText X vs s t → (r : List Lexeme) ×
-    (readPhrase (kindNames X) (wordNames X) (vocabularyOf X) (lexemes b) ≡ got (record { label = []; kind = s; term = t; variables = vs }) r)
+    (readPhrase (kindNames X) (wordNames X) (vocabularyOf X) (lexemes b) ≡ parsed (record { label = []; kind = s; term = t; variables = vs }) r)
 printed-read X vs s t b good phrase e = (
   _,
   phrases-read X [] vs s t (lexemes b) (record { at = 0; token = [] } ∷ []) good (inl refl) phrase
@@ -156,7 +156,7 @@ printed-alike X vs ws s r t u good one other e =
     let readOther = printed-read X ws r u (phraseText X vs s t) good other e in
     let p : Phrase = record { label = []; kind = s; term = t; variables = vs } in
     let q : Phrase = record { label = []; kind = r; term = u; variables = ws } in
-    let all = got-one p q _ _ (readOne .1) (readOther .1) in
+    let all = parsed-one p q _ _ (readOne .1) (readOther .1) in
     (ap (λ (x : Phrase). x .term) all, ap (λ (x : Phrase). x .variables) all, ap (λ (x : Phrase). x .kind) all)
 
 pub entries-printed-alike : EntriesPrintedAlike

@@ -4,12 +4,10 @@
 --
 --   pageSize               an answer has at most so many bytes (1,048,576)
 --   headText X p           the pattern as it was read, in a comment
---   leftoverLine X p e     an entry in words, on a line of its own
---   leftoversText X p l    the number of leftovers, a line an entry, and a closing line
 --   tooManyText n          where the list of leftovers has n bytes, which is too many
 --   blockText X p l        what is printed for a pattern whose leftovers are l
---   blocksText X ps ls     what is printed for each of the patterns ps
---   deskText F ls          the whole answer
+--   blocksText X qs ls     what is printed for each of the paragraphs qs: the leftovers, and the answers to what is asked
+--   deskText F ls tail     the whole answer, where tail is what is printed of patterns together
 --   tooLongText            where an answer would be too long
 --   bounded t              the answer t, where it is not too long
 --   AreListings X ps ls    ls are the leftovers of the patterns ps, in document 01's order
@@ -21,14 +19,15 @@ use lib.Dec.{leb}
 use lib.ListN.{length}
 use Rattle.terms.specs.Term.{Term}
 use Rattle.terms.specs.Listing.{IsListing}
-use Rattle.wire.specs.Row.{writeRow}
 use Rattle.wire.specs.Vocabulary.{signature}
 use Rattle.wire.specs.BookBytes.{patternsBytes}
 use Rattle.wire.specs.Text.{ascii, newline, decimal}
 use Rattle.wire.specs.Printing.{listingSpace}
 use Rattle.texts.specs.Lexicon.{Lexicon, vocabularyOf}
-use Rattle.texts.specs.Phrases.{Phrase, wholeTokens, spell, phraseText}
-use Rattle.texts.specs.Files.{File}
+use Rattle.texts.specs.Phrases.{Phrase, wholeTokens, spell}
+use Rattle.texts.specs.Files.{Paragraph, File}
+use Rattle.texts.specs.Leftovers.{leftoversText}
+use Rattle.texts.specs.Verdicts.{questionsText}
 
 abbrev pub pageSize : ℕ
 pageSize = 1048576
@@ -36,17 +35,6 @@ pageSize = 1048576
 -- `# go: wait(up, free)`
 abbrev pub headText : Lexicon → Phrase → List ℕ
 headText X p = ascii "# " ++ (spell (wholeTokens X p) ++ newline)
-
-abbrev pub leftoverLine : Lexicon → Phrase → Term → List ℕ
-leftoverLine X p e = phraseText X (p .variables) (p .kind) e ++ newline
-
--- `# 3 leftovers:`, the entries, and `# end of 3 leftovers`. No heading is like these: it has a space only behind # and a comma or colon.
-abbrev pub leftoversText : Lexicon → Phrase → List Term → List ℕ
-leftoversText X p l =
-    ascii "# "
-    ++ (decimal (length l)
-    ++ (ascii " leftovers:\n"
-    ++ (writeRow (leftoverLine X p) l ++ (ascii "# end of " ++ (decimal (length l) ++ ascii " leftovers\n")))))
 
 -- This is no comment, so that what was not listed cannot be taken for a list of none.
 abbrev pub tooManyText : ℕ → List ℕ
@@ -56,17 +44,19 @@ tooManyText n =
 abbrev pub blockText : Lexicon → Phrase → List Term → List ℕ
 blockText X p l =
     let n : ℕ = length (patternsBytes (vocabularyOf X) (p .kind) l) in
-    headText X p ++ (cond (leb n listingSpace) (leftoversText X p l) (tooManyText n) ++ newline)
+    headText X p ++ (cond (leb n listingSpace) (leftoversText X (p .variables) (p .kind) l) (tooManyText n) ++ newline)
 
-abbrev pub blocksText : Lexicon → List Phrase → List (List Term) → List ℕ
+abbrev pub blocksText : Lexicon → List Paragraph → List (List Term) → List ℕ
 blocksText X [] ls = []
-blocksText X (p ∷ ps) [] = []
-blocksText X (p ∷ ps) (l ∷ ls) = blockText X p l ++ blocksText X ps ls
+blocksText X (q ∷ qs) [] = []
+blocksText X (q ∷ qs) (l ∷ ls) =
+    blockText X (q .phrase) l ++ (questionsText X (q .phrase) (q .situations) ++ blocksText X qs ls)
 
 -- The last line tells an answer that was cut from a whole one.
-abbrev pub deskText : File → List (List Term) → List ℕ
-deskText F ls =
-    blocksText (F .lexicon) (F .phrases) ls ++ (ascii "# end of " ++ (decimal (length (F .phrases)) ++ ascii " patterns\n"))
+abbrev pub deskText : File → List (List Term) → List ℕ → List ℕ
+deskText F ls tail =
+    blocksText (F .lexicon) (F .paragraphs) ls
+    ++ (tail ++ (ascii "# end of " ++ (decimal (length (F .paragraphs)) ++ ascii " patterns\n")))
 
 abbrev pub tooLongText : List ℕ
 tooLongText = ascii "the answer has more than 1048576 bytes, which are the most: ask for fewer patterns at a time" ++ newline

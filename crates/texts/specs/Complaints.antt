@@ -5,8 +5,13 @@
 --   tokenThen u l            the token u and l behind it; nothing where l is empty
 --   alternatives T s n i c   those of the n words from word i on that are of kind s: c before the first, and `or` between them
 --   dueText T s              the kind s is due, with its words
---   placesText T f u         how many places the word f takes, and what is not due where u stands
---   reasonText T x u         what is wrong
+--   commasIn d l             how many , stand among the lexemes l before the ) that ends them; d more ( are to be closed before it
+--   takesText n              how many places a word takes
+--   missingText u, overText u n c     what is said where u stands in place of the mark before a place, or of the ) behind the last
+--   placesText T x u c       how many places the word takes that the fault x is about, and what is wrong with those that are written
+--   noPatternText u          what is said where u begins no pattern
+--   unmarked u               u begins with a byte order mark
+--   reasonText T x u c       what is wrong
 --   newlines l               how many lines end in l
 --   lineStartFrom, lineStart l   where the last line of l begins
 --   follows b                the byte b goes on with a character that began before it
@@ -23,9 +28,9 @@ use lib.ListN.{length, getD, take, drop}
 use Rattle.wire.specs.Reply.{outside}
 use Rattle.wire.specs.Row.{writeRow}
 use Rattle.wire.specs.Text.{ascii, newline, decimal}
-use Rattle.texts.specs.Lexemes.{Token, tokenAt}
-use Rattle.texts.specs.Names.{same, mark, comma, closing, nameAt}
-use Rattle.texts.specs.Faults.{Fault, termDue, otherKind, placesWrong}
+use Rattle.texts.specs.Lexemes.{Token, Lexeme, lexemesFrom, tokenAt}
+use Rattle.texts.specs.Names.{same, kindWord, mark, opening, comma, closing, nameAt}
+use Rattle.texts.specs.Faults.{Fault, kindDue, patternDue, termDue, otherKind, placesWrong, placesOver}
 
 -- What complaints need of a vocabulary: the names of kinds and words, the words' kinds, and how many places each takes.
 pub record Known : Type 0 where
@@ -51,7 +56,7 @@ reasons =
     ∷ ascii "8 places are the most, and this is one more"
     ∷ ascii "a , or a ) is due here"
     ∷ ascii "no kind has a word"
-    ∷ ascii "a pattern is due here"
+    ∷ []
     ∷ []
     ∷ ascii "no word "
     ∷ []
@@ -62,6 +67,9 @@ reasons =
     ∷ ascii "64 names are the most in a pattern, and this is one more"
     ∷ ascii "a : and a kind are due here, as in _: step"
     ∷ ascii "65535 bytes are the most for a text, and this one has more"
+    ∷ []
+    ∷ ascii "a situation has no open place and no name"
+    ∷ ascii "this is not the label of the pattern before it, which a question asks"
     ∷ []
 
 -- .. and then what stands behind it. Where there is nothing the token is not named: it stands in the line that is shown.
@@ -93,6 +101,9 @@ endings =
     ∷ []
     ∷ []
     ∷ []
+    ∷ []
+    ∷ []
+    ∷ []
 
 abbrev pub tokenThen : Token → List ℕ → List ℕ
 tokenThen u [] = []
@@ -109,21 +120,51 @@ alternatives T s (suc n) i c =
 abbrev pub dueText : Known → ℕ → List ℕ
 dueText T s = nameAt (T .kinds) s ++ (ascii " is due here" ++ alternatives T s (length (T .words)) 0 (ascii ": "))
 
--- `wait takes 2 places, and no , is due here`: more are written, or a ( is missing.
-abbrev pub placesText : Known → ℕ → Token → List ℕ
-placesText T f u =
-    nameAt (T .words) f
-    ++ (ascii " takes "
-    ++ (decimal (getD (T .places) f 0)
-    ++ (ascii " places"
-    ++ cond (same u (mark comma)) (ascii ", and no , is due here")
-    (cond (same u (mark closing)) (ascii ", and no ) is due here") (ascii ", in ( and ) with a , between them")))))
+-- What is written behind the fault is counted too: each , that stands in no further parentheses has a place behind it.
+abbrev pub commasIn : ℕ → List Lexeme → ℕ
+commasIn d [] = 0
+commasIn zero (x ∷ l) =
+    cond (same (x .token) (mark closing)) 0
+    (cond (same (x .token) (mark opening)) (commasIn 1 l) (cond (same (x .token) (mark comma)) (suc (commasIn 0 l)) (commasIn 0 l)))
+commasIn (suc d) (x ∷ l) =
+    cond (same (x .token) (mark closing)) (commasIn d l)
+    (cond (same (x .token) (mark opening)) (commasIn (suc (suc d)) l) (commasIn (suc d) l))
 
-abbrev pub reasonText : Known → Fault → Token → List ℕ
-reasonText T x u =
+abbrev pub takesText : ℕ → List ℕ
+takesText n = ascii " takes " ++ (decimal n ++ cond (eqb n 1) (ascii " place") (ascii " places"))
+
+-- A ( or a , is due: `wait(up)`, `wait, free`, `wait up`.
+abbrev pub missingText : Token → List ℕ
+missingText u =
+    cond (same u (mark closing)) (ascii ", and fewer are written")
+    (cond (same u (mark comma)) (ascii ", and none is written") (ascii ", in ( and ) with a , between them"))
+
+-- A ) is due: `wait takes 2 places, and 3 are written`.
+abbrev pub overText : Token → ℕ → ℕ → List ℕ
+overText u n c =
+    cond (same u (mark comma)) (ascii ", and " ++ (decimal (n + c) ++ ascii " are written")) (ascii ", and a ) is due here")
+
+abbrev pub placesText : Known → Fault → Token → ℕ → List ℕ
+placesText T x u c =
+    let n : ℕ = getD (T .places) (x .of) 0 in
+    nameAt (T .words) (x .of) ++ (takesText n ++ cond (eqb (x .why) placesOver) (overText u n c) (missingText u))
+
+abbrev pub noPatternText : Token → List ℕ
+noPatternText u = cond (same u kindWord) (ascii "all kinds are declared before the first pattern") (ascii "a pattern is due here")
+
+abbrev pub unmarked : Token → Bool
+unmarked u = same (take 3 u) (239 ∷ 187 ∷ 191 ∷ [])
+
+-- A ( where no place is due, as in `done(up)`, is told as such; so is what some editors put before a text.
+abbrev pub reasonText : Known → Fault → Token → ℕ → List ℕ
+reasonText T x u c =
     cond (eqb (x .why) termDue || eqb (x .why) otherKind) (dueText T (x .of))
-    (cond (eqb (x .why) placesWrong) (placesText T (x .of) u)
-    (getD reasons (x .why) [] ++ tokenThen u (getD endings (x .why) [])))
+    (cond ((eqb (x .why) placesWrong || (eqb (x .why) placesOver || eqb (x .why) patternDue)) && same u (mark opening))
+    (ascii "no places are due here, as what stands before takes none or has them all")
+    (cond (eqb (x .why) placesWrong || eqb (x .why) placesOver) (placesText T x u c)
+    (cond (eqb (x .why) patternDue) (noPatternText u)
+    (cond (eqb (x .why) kindDue && unmarked u) (ascii "a byte order mark stands here, and a text begins with `kind`")
+    (getD reasons (x .why) [] ++ tokenThen u (getD endings (x .why) []))))))
 
 abbrev pub newlines : List ℕ → ℕ
 newlines [] = 0
@@ -145,12 +186,12 @@ abbrev pub columns : List ℕ → ℕ
 columns [] = 0
 columns (b ∷ l) = cond (follows b) (columns l) (suc (columns l))
 
--- Bytes that a screen would not show as a character are shown as ?, and a tab as it is.
+-- Bytes that a screen would not show as a character are shown as ?, a tab as it is, and a carriage return, which ends lines, not at all.
 abbrev pub shown : ℕ → List ℕ
-shown b = cond ((ltb b 32 && not (eqb b 9)) || eqb b 127) (ascii "?") (b ∷ [])
+shown b = cond (eqb b 13) [] (cond ((ltb b 32 && not (eqb b 9)) || eqb b 127) (ascii "?") (b ∷ []))
 
 abbrev pub padding : ℕ → List ℕ
-padding b = cond (follows b) [] (cond (eqb b 9) (b ∷ []) (ascii " "))
+padding b = cond (follows b || eqb b 13) [] (cond (eqb b 9) (b ∷ []) (ascii " "))
 
 abbrev pub lineSize : List ℕ → ℕ
 lineSize [] = 0
@@ -167,7 +208,7 @@ complaint b T x =
     ++ (ascii ", column "
     ++ (decimal (suc (columns (drop s before)))
     ++ (ascii ": "
-    ++ (reasonText T x (tokenAt b (x .at))
+    ++ (reasonText T x (tokenAt b (x .at)) (commasIn 0 (lexemesFrom b (x .at)))
     ++ (newline
     ++ (writeRow shown (take (lineSize line) line)
     ++ (newline ++ (writeRow padding (drop s before) ++ (ascii "^" ++ newline))))))))))

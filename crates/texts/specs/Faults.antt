@@ -2,8 +2,8 @@
 --
 --   Fault                a reason's number, the offset at which it stands, and the kind or word that it is about
 --   kindDue, ..          the reasons
---   Got A                what is read off the front of some lexemes: a thing and the lexemes behind it, or a fault
---   andThen g k          k goes on behind g
+--   Parsed A                what is read off the front of some lexemes: a thing and the lexemes behind it, or a fault
+--   parseThen g k          k goes on behind g
 --   token l, place l, rest l     the first token, its offset, and the lexemes behind it
 --
 use mathlib.Core.List.{List, [], _∷_}
@@ -73,14 +73,14 @@ abbrev pub termDue : ℕ
 termDue = 15
 
 -- The name is no word's.
-abbrev pub noWord : ℕ
-noWord = 16
+abbrev pub unknownWord : ℕ
+unknownWord = 16
 
 -- The word is of another kind than the one that is due, which is `of`.
 abbrev pub otherKind : ℕ
 otherKind = 17
 
--- The number of places is not that of the word `of`, or a mark between them is missing.
+-- A place of the word `of` is due, and the mark before it does not stand there.
 abbrev pub placesWrong : ℕ
 placesWrong = 18
 
@@ -102,19 +102,33 @@ manyVariables = 22
 abbrev pub colonDue : ℕ
 colonDue = 23
 
+-- All places of the word `of` stand, and no ) behind them.
+abbrev pub placesOver : ℕ
+placesOver = 25
+
+-- ---- of a question
+
+-- An open place or a variable stands in a situation.
+abbrev pub situationOpen : ℕ
+situationOpen = 26
+
+-- The label before ? is not that of the pattern before it.
+abbrev pub otherLabel : ℕ
+otherLabel = 27
+
 -- ---- of the text as a whole
 
 -- It has more than 65,535 bytes.
 abbrev pub longText : ℕ
 longText = 24
 
-pub data Got (A : Type 0) : Type 0 where
-  got : A → List Lexeme → Got A
-  bad : Fault → Got A
+pub data Parsed (A : Type 0) : Type 0 where
+  parsed : A → List Lexeme → Parsed A
+  bad : Fault → Parsed A
 
-abbrev pub andThen : {A B : Type 0} → Got A → (A → List Lexeme → Got B) → Got B
-andThen (got a r) k = k a r
-andThen (bad x) k = bad x
+abbrev pub parseThen : {A B : Type 0} → Parsed A → (A → List Lexeme → Parsed B) → Parsed B
+parseThen (parsed a r) k = k a r
+parseThen (bad x) k = bad x
 
 abbrev pub token : List Lexeme → Token
 token [] = []

@@ -18,7 +18,7 @@
 --   PhraseFirst X c us      the tokens us begin with a good pattern, which may have a label where c is true
 --   PhraseFaultsAreFirst    a fault of a pattern is at the first byte at fault
 --   BlocksAreAnswers        what is printed by bytes is what Answers says
---   entriesTokens X p l     the tokens of the entries l of the pattern p
+--   entriesTokens X vs s l  the tokens of the entries l of kind s, where vs are the variables
 --   BlocksSpellLeftovers    what is printed for a pattern spells its leftovers and nothing else
 --   EntriesArePhrases       each leftover is a good pattern
 --   FilesAreRead, FilesAreExact     a text is accepted exactly where it is a text of a file, and read as that file
@@ -40,7 +40,17 @@
 --   NamesAreNoWords         no variable is a word, a kind or a label
 --   leftoversTokens X ps ls     the tokens of all leftovers of the patterns ps, one behind the other
 --   ListingsFit X ps ls     each list of leftovers is short enough to be printed
+--   TogetherSpellsLeftovers     what is printed of patterns together spells their leftovers and nothing else
 --   DeskSpellsLeftovers     the whole answer spells the leftovers and nothing else
+--   Ascending l             the offsets of the lexemes l rise
+--   QuestionsRead           the tokens of a good question are read as that question
+--   QuestionsExact          what is read is a good question, and its tokens are those that were read
+--   QuestionBegun, QuestionFirst    the tokens begin with a question, which may have something open, or with a good one
+--   QuestionFault X p l q   the lexeme at offset q is the first at fault, and nothing open stands before it
+--   QuestionFaultsAreFirst  a fault of a question is at the first byte at fault
+--   VerdictsAreMatches      the answer to a question is document 01's match
+--   WalksAreComparisons     by tokens, a pattern and a situation are compared as by terms
+--   SituationsEnd           where the tokens of a situation end
 --
 use mathlib.Core.Path.{_≡_}
 use mathlib.Core.Bool.{Bool, true, false, _&&_, cond}
@@ -48,24 +58,32 @@ use mathlib.Core.List.{List, [], _∷_, _++_, map}
 use mathlib.Core.Logic.{_⊎_, _↔_}
 use Prim.Native.Nat.{ℕ, suc, _<_, _≤_}
 use lib.ListN.{length, take, drop}
-use Rattle.terms.specs.Lists.{All}
-use Rattle.terms.specs.Term.{Term, Sorted, names}
+use Rattle.terms.specs.Lists.{All, Reordered}
+use Rattle.terms.specs.Term.{Term, Ground, Sorted, names}
+use Rattle.terms.specs.Filling.{Binding, Filling, TurnsInto}
+use Rattle.terms.specs.Book.{IsBookListing}
 use Rattle.terms.specs.Listing.{IsListing}
 use Rattle.wire.specs.Vocabulary.{mostKinds, signature, encodeVocabulary}
-use Rattle.wire.specs.TermBytes.{nameCount, mostLevels, levels, encodeTerm}
-use Rattle.wire.specs.BookBytes.{patternsBytes}
+use Rattle.wire.specs.TermBytes.{nameCount, mostLevels, levels, encodeTerm, HoldsTerm}
+use Rattle.wire.specs.BookBytes.{patternsBytes, Listable}
+use Rattle.wire.specs.BookLeftovers.{WithinLimits}
 use Rattle.wire.specs.Printing.{listingSpace}
-use Rattle.texts.specs.Lexemes.{Token, Lexeme, tokens}
+use Rattle.texts.specs.Lexemes.{Token, Lexeme, asking, tokens}
 use Rattle.texts.specs.Names.{same, kindWord, mark, opening, bar, equals, colon, mostName, isIdentifier, IsIdentifier, IsVariable, indexIn, nameAt, Distinct}
 use Rattle.texts.specs.Spelling.{IsToken, Spells}
-use Rattle.texts.specs.Lexicon.{WordText, KindText, Lexicon, kindNames, wordsOf, wordNames, vocabularyOf, lexiconTokens, lexiconText, GoodLexicon}
-use Rattle.texts.specs.Phrases.{Phrase, IsLabel, labelTokens, phraseTokens, phraseText, GoodPhrase, wholeTokens, GoodWhole}
+use Rattle.texts.specs.Lexicon.{WordText, KindText, Lexicon, kindNames, allWords, wordNames, vocabularyOf, lexiconTokens, lexiconText, GoodLexicon}
+use Rattle.texts.specs.Phrases.{Phrase, IsLabel, labelTokens, termTokens, phraseTokens, phraseText, GoodPhrase, wholeTokens, GoodWhole}
 use Rattle.texts.specs.Saying.{Tables, TablesFor, sayPhrase}
-use Rattle.texts.specs.Files.{File, IsText}
-use Rattle.texts.specs.Faults.{Fault, got, bad, token, rest}
+use Rattle.texts.specs.Questions.{groundTokens, questionTokens, GoodQuestion}
+use Rattle.texts.specs.Files.{Paragraph, File, phrasesOf, GoodParagraph, IsText}
+use Rattle.texts.specs.Faults.{Fault, parsed, bad, token, rest}
+use Rattle.texts.specs.Verdicts.{covers, compare}
+use Rattle.texts.specs.Together.{togetherText}
 use Rattle.texts.specs.Answers.{blockText, deskText, AreListings}
-use Rattle.texts.specs.LexiconReading.{named, misnamed, readKindNames, Row, LexiconRead, readLexicon}
+use Rattle.texts.specs.LexiconReading.{named, misnamed, readKindNames, WordRow, LexiconRead, readLexicon}
 use Rattle.texts.specs.PhraseReading.{PhraseRead, readPhrase}
+use Rattle.texts.specs.QuestionReading.{isOpen, beginsQuestion, readQuestion}
+use Rattle.texts.specs.Comparing.{termSize, walk, asWalked}
 use Rattle.texts.specs.Answering.{blockBy, readWell, vocabularyRead, readFile}
 
 abbrev pub SpellingIsExact : Type 0
@@ -99,13 +117,13 @@ PhrasesRead =
     GoodPhrase X vs s t → tokensOf l ≡ labelTokens u ++ (phraseTokens X vs s t ++ tokensOf r) →
     same (token r) (mark colon) ≡ false →
     readPhrase (kindNames X) (wordNames X) (vocabularyOf X) l ≡
-    got (record { label = u; kind = s; term = t; variables = vs }) (drop (length (labelTokens u ++ phraseTokens X vs s t)) l)
+    parsed (record { label = u; kind = s; term = t; variables = vs }) (drop (length (labelTokens u ++ phraseTokens X vs s t)) l)
 
 abbrev pub PhrasesExact : Type 0
 PhrasesExact =
     (X : Lexicon) (l r : List Lexeme) (p : PhraseRead) → GoodLexicon X →
     All (λ (x : Lexeme). (x .token ≡ []) ⊎ IsToken (x .token)) l →
-    readPhrase (kindNames X) (wordNames X) (vocabularyOf X) l ≡ got p r →
+    readPhrase (kindNames X) (wordNames X) (vocabularyOf X) l ≡ parsed p r →
     IsLabel (p .label) × GoodPhrase X (p .variables) (p .kind) (p .term) ×
     (tokensOf l ≡ labelTokens (p .label) ++ (phraseTokens X (p .variables) (p .kind) (p .term) ++ tokensOf r))
 
@@ -119,7 +137,7 @@ SaysPhrases =
     (X : Lexicon) (vs : List Token) (s : ℕ) (t : Term) (T : Tables) → GoodLexicon X → GoodPhrase X vs s t → TablesFor X vs T →
     sayPhrase T (encodeTerm (vocabularyOf X) s t) ≡ phraseText X vs s t
 
-abbrev pub rowsFrom : ℕ → Lexicon → List Row
+abbrev pub rowsFrom : ℕ → Lexicon → List WordRow
 rowsFrom k [] = []
 rowsFrom k (x ∷ X) = map (λ (w : WordText). record { kind = k; places = w .places }) (x .words) ++ rowsFrom (suc k) X
 
@@ -136,7 +154,7 @@ pub record Stops (l : List Lexeme) : Type 0 where
 abbrev pub LexiconsRead : Type 0
 LexiconsRead =
     (X : Lexicon) (l r : List Lexeme) → GoodLexicon X → tokensOf l ≡ lexiconTokens X ++ tokensOf r → Stops r →
-    readLexicon l ≡ got (lexiconRead X) (drop (length (lexiconTokens X)) l)
+    readLexicon l ≡ parsed (lexiconRead X) (drop (length (lexiconTokens X)) l)
 
 abbrev pub Closes : List Lexeme → Type 0
 Closes [] = ⊥
@@ -147,7 +165,7 @@ Closes (x ∷ y ∷ l) = Closes (y ∷ l)
 abbrev pub LexiconsExact : Type 0
 LexiconsExact =
     (l r : List Lexeme) (a : LexiconRead) → All (λ (x : Lexeme). (x .token ≡ []) ⊎ IsToken (x .token)) l → Closes l →
-    readLexicon l ≡ got a r → All (λ (x : Lexeme). same (x .token) kindWord ≡ false) r →
+    readLexicon l ≡ parsed a r → All (λ (x : Lexeme). same (x .token) kindWord ≡ false) r →
     (X : Lexicon) × GoodLexicon X × (a ≡ lexiconRead X) × (tokensOf l ≡ lexiconTokens X ++ tokensOf r)
 
 -- ---- where a fault is
@@ -196,16 +214,16 @@ BlocksAreAnswers =
     blockBy T (p .label) (encodeVocabulary (vocabularyOf X)) (encodeTerm (vocabularyOf X) (p .kind) (p .term)) ≡ blockText X p l
 
 -- The tokens of the entries l, one behind the other.
-abbrev pub entriesTokens : Lexicon → Phrase → List Term → List Token
-entriesTokens X p [] = []
-entriesTokens X p (e ∷ l) = phraseTokens X (p .variables) (p .kind) e ++ entriesTokens X p l
+abbrev pub entriesTokens : Lexicon → List Token → ℕ → List Term → List Token
+entriesTokens X vs s [] = []
+entriesTokens X vs s (e ∷ l) = phraseTokens X vs s e ++ entriesTokens X vs s l
 
 -- What is printed for a pattern, read as a text, is its leftovers and nothing else ..
 abbrev pub BlocksSpellLeftovers : Type 0
 BlocksSpellLeftovers =
     (X : Lexicon) (p : Phrase) (l : List Term) → GoodLexicon X → GoodWhole X p →
     IsListing (signature (vocabularyOf X)) (p .kind) (p .term) l →
-    length (patternsBytes (vocabularyOf X) (p .kind) l) ≤ listingSpace → Spells (blockText X p l) (entriesTokens X p l)
+    length (patternsBytes (vocabularyOf X) (p .kind) l) ≤ listingSpace → Spells (blockText X p l) (entriesTokens X (p .variables) (p .kind) l)
 
 -- .. and each line is a good pattern, whose variables are the first n of the pattern's: by PhrasesRead it is read as that entry.
 abbrev pub EntriesArePhrases : Type 0
@@ -221,12 +239,12 @@ EntriesArePhrases =
 
 -- A text is accepted exactly where it is a text of a file: white space and comments change nothing, as IsText speaks of what is spelled.
 abbrev pub FilesAreRead : Type 0
-FilesAreRead = (b : List ℕ) (F : File) → IsText b F → readFile b ≡ readWell (lexiconRead (F .lexicon)) (F .phrases)
+FilesAreRead = (b : List ℕ) (F : File) → IsText b F → readFile b ≡ readWell (lexiconRead (F .lexicon)) (F .paragraphs)
 
 abbrev pub FilesAreExact : Type 0
 FilesAreExact =
-    (b : List ℕ) (a : LexiconRead) (ps : List Phrase) → readFile b ≡ readWell a ps →
-    (F : File) × IsText b F × (a ≡ lexiconRead (F .lexicon)) × (ps ≡ F .phrases)
+    (b : List ℕ) (a : LexiconRead) (qs : List Paragraph) → readFile b ≡ readWell a qs →
+    (F : File) × IsText b F × (a ≡ lexiconRead (F .lexicon)) × (qs ≡ F .paragraphs)
 
 abbrev pub VocabulariesAreRead : Type 0
 VocabulariesAreRead = (X : Lexicon) → GoodLexicon X → vocabularyRead (lexiconRead X) ≡ vocabularyOf X
@@ -254,9 +272,9 @@ pub record SoundLexicon (X : Lexicon) : Type 0 where
   pub differentKinds : Distinct (kindNames X)
   pub someKind : 1 ≤ length X
   pub fewKinds : length X ≤ mostKinds
-  pub words : All (SoundWord (length X)) (wordsOf X)
+  pub words : All (SoundWord (length X)) (allWords X)
   pub differentWords : Distinct (wordNames X)
-  pub someWord : 1 ≤ length (wordsOf X)
+  pub someWord : 1 ≤ length (allWords X)
 
 -- The tokens us are those of a vocabulary, and others behind it with which no declaration goes on. Its kinds are K; where a text has no
 -- `kind` at all, they are any.
@@ -339,16 +357,96 @@ NamesAreNoWords = (u : Token) → IsIdentifier u → IsVariable u → ⊥
 abbrev pub leftoversTokens : Lexicon → List Phrase → List (List Term) → List Token
 leftoversTokens X [] ls = []
 leftoversTokens X (p ∷ ps) [] = []
-leftoversTokens X (p ∷ ps) (l ∷ ls) = entriesTokens X p l ++ leftoversTokens X ps ls
+leftoversTokens X (p ∷ ps) (l ∷ ls) = entriesTokens X (p .variables) (p .kind) l ++ leftoversTokens X ps ls
 
 abbrev pub ListingsFit : Lexicon → List Phrase → List (List Term) → Type 0
 ListingsFit X [] ls = Unit {0}
 ListingsFit X (p ∷ ps) [] = Unit {0}
 ListingsFit X (p ∷ ps) (l ∷ ls) = (length (patternsBytes (vocabularyOf X) (p .kind) l) ≤ listingSpace) × ListingsFit X ps ls
 
--- Read as a text, the answer is the leftovers of the first pattern, then those of the second, and so on.
+-- What is printed of patterns together, read as a text, is their leftovers and nothing else.
+abbrev pub TogetherSpellsLeftovers : Type 0
+TogetherSpellsLeftovers =
+    (X : Lexicon) (s : ℕ) (ts es l : List Term) → GoodLexicon X → s < length X → All (Listable (vocabularyOf X) s) ts →
+    WithinLimits (vocabularyOf X) s ts → IsBookListing (signature (vocabularyOf X)) s ts l → Reordered es l →
+    Spells (togetherText X s (length ts) es) (entriesTokens X [] s es)
+
+-- Read as a text, the answer is the leftovers of the first pattern, then those of the second, and so on, and then what `tail` spells.
+-- What is asked, and the answers, are comments.
 abbrev pub DeskSpellsLeftovers : Type 0
 DeskSpellsLeftovers =
-    (F : File) (ls : List (List Term)) → GoodLexicon (F .lexicon) → All (GoodWhole (F .lexicon)) (F .phrases) →
-    AreListings (F .lexicon) (F .phrases) ls → ListingsFit (F .lexicon) (F .phrases) ls →
-    Spells (deskText F ls) (leftoversTokens (F .lexicon) (F .phrases) ls)
+    (F : File) (ls : List (List Term)) (tail : List ℕ) (us : List Token) → GoodLexicon (F .lexicon) →
+    All (GoodParagraph (F .lexicon)) (F .paragraphs) → AreListings (F .lexicon) (phrasesOf (F .paragraphs)) ls →
+    ListingsFit (F .lexicon) (phrasesOf (F .paragraphs)) ls → Spells tail us →
+    Spells (deskText F ls tail) (leftoversTokens (F .lexicon) (phrasesOf (F .paragraphs)) ls ++ us)
+
+-- ---- questions
+
+-- Offsets rise, as those of a text do.
+abbrev pub Ascending : List Lexeme → Type 0
+Ascending [] = Unit {0}
+Ascending (x ∷ []) = Unit {0}
+Ascending (x ∷ y ∷ l) = (x .at < y .at) × Ascending (y ∷ l)
+
+abbrev pub QuestionsRead : Type 0
+QuestionsRead =
+    (X : Lexicon) (p : Phrase) (g : Ground) (l r : List Lexeme) → GoodLexicon X → GoodQuestion X p g →
+    tokensOf l ≡ questionTokens X p g ++ tokensOf r →
+    readQuestion (wordNames X) (vocabularyOf X) p l ≡ parsed g (drop (length (questionTokens X p g)) l)
+
+abbrev pub QuestionsExact : Type 0
+QuestionsExact =
+    (X : Lexicon) (p : Phrase) (g : Ground) (l r : List Lexeme) → GoodLexicon X → GoodWhole X p →
+    All (λ (x : Lexeme). (x .token ≡ []) ⊎ IsToken (x .token)) l → Closes l → Ascending l → beginsQuestion l ≡ true →
+    readQuestion (wordNames X) (vocabularyOf X) p l ≡ parsed g r →
+    GoodQuestion X p g × (tokensOf l ≡ questionTokens X p g ++ tokensOf r)
+
+-- The tokens us are those of a question about a pattern of kind k, which may have open places and variables, and others behind it.
+pub record QuestionBegun (X : Lexicon) (k : ℕ) (us : List Token) : Type 0 where
+  pub label : Token
+  pub term : Term
+  pub variables : List Token
+  pub rest : List Token
+  pub named : IsIdentifier label
+  pub good : HoldsTerm (vocabularyOf X) (encodeTerm (vocabularyOf X) k term) k term
+  pub tokens : us ≡ label ∷ mark asking ∷ (termTokens (wordNames X) variables term ++ rest)
+
+-- The tokens us are those of a good question, and others behind it.
+pub record QuestionFirst (X : Lexicon) (p : Phrase) (us : List Token) : Type 0 where
+  pub situation : Ground
+  pub rest : List Token
+  pub good : GoodQuestion X p situation
+  pub tokens : us ≡ questionTokens X p situation ++ rest
+
+-- Where a kind has no situation none begins with its words, so a pattern is enough before the fault; but nothing open stands there.
+pub record QuestionFault (X : Lexicon) (p : Phrase) (l : List Lexeme) (q : ℕ) : Type 0 where
+  pub first : FirstFaultIn (QuestionBegun X (p .kind)) (QuestionFirst X p) l q
+  pub closed : All (λ (x : Lexeme). isOpen (x .token) ≡ false) (first .before)
+
+abbrev pub QuestionFaultsAreFirst : Type 0
+QuestionFaultsAreFirst =
+    (X : Lexicon) (p : Phrase) (l : List Lexeme) (e : Lexeme) (x : Fault) → GoodLexicon X → GoodWhole X p →
+    All (λ (y : Lexeme). IsToken (y .token)) l → e .token ≡ [] → Ascending (l ++ (e ∷ [])) → beginsQuestion (l ++ (e ∷ [])) ≡ true →
+    readQuestion (wordNames X) (vocabularyOf X) p (l ++ (e ∷ [])) ≡ bad x → QuestionFault X p (l ++ (e ∷ [])) (x .at)
+
+-- The answer is yes exactly where the situation fits, and what the variables cover is what the filling gives them.
+abbrev pub VerdictsAreMatches : Type 0
+VerdictsAreMatches =
+    (X : Lexicon) (p : Phrase) (g : Ground) → GoodLexicon X → GoodWhole X p → GoodQuestion X p g → (bs : List Binding) →
+    (compare (wordNames X) (p .term) g ≡ covers bs) ↔
+    ((f : Filling) × TurnsInto (signature (vocabularyOf X)) (p .term) (p .kind) f g × (f .named ≡ bs))
+
+-- By tokens, the walk finds what `compare` finds. R is what stands behind the pattern.
+abbrev pub WalksAreComparisons : Type 0
+WalksAreComparisons =
+    (X : Lexicon) (p : Phrase) (g : Ground) (R : List Token) → GoodLexicon X → GoodWhole X p → GoodQuestion X p g →
+    let us : List Token = groundTokens (wordNames X) g in
+    walk (length us) (termTokens (wordNames X) (p .variables) (p .term) ++ R) us ≡
+    asWalked (wordNames X) (p .variables) (compare (wordNames X) (p .term) g)
+
+-- The first term of a situation's tokens is all of them, and what follows does not matter where it is no (.
+abbrev pub SituationsEnd : Type 0
+SituationsEnd =
+    (X : Lexicon) (p : Phrase) (g : Ground) (R : List Token) → GoodLexicon X → GoodQuestion X p g →
+    same (nameAt R 0) (mark opening) ≡ false →
+    termSize (groundTokens (wordNames X) g ++ R) ≡ length (groundTokens (wordNames X) g)

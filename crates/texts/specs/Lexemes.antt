@@ -1,7 +1,7 @@
 -- Lexemes: what a text is made of: names, marks, and blanks between them, which change nothing.
 --
 --   Token                   the bytes of a name, of a variable or of a mark
---   isBlank b, isName b     the byte b is white space, a character of names
+--   isBlank b, isNameByte b     the byte b is white space, a character of names
 --   comment, asking         the bytes that begin a comment (#) and a variable (?)
 --   isRun b                 the byte b begins a token that goes on as long as characters of names follow
 --   blanksIn c l            how many bytes of white space and comments stand at the front of l; c: it begins in a comment
@@ -31,8 +31,8 @@ abbrev pub isBlank : ℕ → Bool
 isBlank b = eqb b 32 || eqb b 10 || eqb b 9 || eqb b 13
 
 -- Small and capital letters, digits, - and _, and every byte of a character beyond ASCII.
-abbrev pub isName : ℕ → Bool
-isName b =
+abbrev pub isNameByte : ℕ → Bool
+isNameByte b =
     not (outside 97 122 b) || not (outside 65 90 b) || not (outside 48 57 b) || eqb b 95 || eqb b 45 || ltb 127 b
 
 abbrev pub comment : ℕ
@@ -42,7 +42,7 @@ abbrev pub asking : ℕ
 asking = 63
 
 abbrev pub isRun : ℕ → Bool
-isRun b = isName b || eqb b asking
+isRun b = isNameByte b || eqb b asking
 
 -- A comment goes on to the end of its line.
 abbrev pub blanksIn : Bool → List ℕ → ℕ
@@ -55,7 +55,7 @@ blanks l = blanksIn false l
 
 abbrev pub runSize : List ℕ → ℕ
 runSize [] = 0
-runSize (b ∷ l) = cond (isName b) (suc (runSize l)) 0
+runSize (b ∷ l) = cond (isNameByte b) (suc (runSize l)) 0
 
 -- A name, a ? with the name behind it, or one byte.
 abbrev pub tokenSize : List ℕ → ℕ

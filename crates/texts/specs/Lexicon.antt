@@ -4,14 +4,14 @@
 --   KindText              a kind: its name, and its words
 --   Lexicon               the kinds, numbered from 0 as they stand
 --   kindNames X           the names of the kinds
---   wordsOf X             the words of all kinds, numbered from 0 as they stand
+--   allWords X             the words of all kinds, numbered from 0 as they stand
 --   wordNames X           their names
---   fullMap n             the map of n places, counted from 0 without gaps
+--   gaplessMap n             the map of n places, counted from 0 without gaps
 --   asWord k w            the record of the word w of kind k
 --   recordsFrom k X       the records of the words of X, whose first kind has the number k
 --   vocabularyOf X        the vocabulary that X stands for
---   placesTokens K c ps   the tokens of the places ps, where K are the names of the kinds, with the mark c before the first
---   bracketed ps us       us, where there is a place among ps
+--   placeKindTokens K c ps   the tokens of the places ps, where K are the names of the kinds, with the mark c before the first
+--   withPlaces ps us       us, where there is a place among ps
 --   wordTokens K w        the tokens of a word's declaration
 --   wordsTokens K c ws    the tokens of the declarations ws, with the mark c before the first
 --   kindTokens K x        the tokens of a kind's declaration
@@ -47,19 +47,19 @@ Lexicon = List KindText
 abbrev pub kindNames : Lexicon → List Token
 kindNames X = map (λ (x : KindText). x .name) X
 
-abbrev pub wordsOf : Lexicon → List WordText
-wordsOf [] = []
-wordsOf (x ∷ X) = x .words ++ wordsOf X
+abbrev pub allWords : Lexicon → List WordText
+allWords [] = []
+allWords (x ∷ X) = x .words ++ allWords X
 
 abbrev pub wordNames : Lexicon → List Token
-wordNames X = map (λ (w : WordText). w .name) (wordsOf X)
+wordNames X = map (λ (w : WordText). w .name) (allWords X)
 
 -- "A word's places are counted from 0 without gaps."
-abbrev pub fullMap : ℕ → ℕ
-fullMap n = 2 ^ n - 1
+abbrev pub gaplessMap : ℕ → ℕ
+gaplessMap n = 2 ^ n - 1
 
 abbrev pub asWord : ℕ → WordText → Word
-asWord k w = record { result = k; placeMap = fullMap (length (w .places)); kinds = w .places }
+asWord k w = record { result = k; placeMap = gaplessMap (length (w .places)); kinds = w .places }
 
 abbrev pub recordsFrom : ℕ → Lexicon → List Word
 recordsFrom k [] = []
@@ -69,16 +69,16 @@ abbrev pub vocabularyOf : Lexicon → Vocabulary
 vocabularyOf X = record { kinds = length X; words = recordsFrom 0 X }
 
 -- `held(eye, queue)`: the kinds of the places in parentheses, which a word without places has not.
-abbrev pub placesTokens : List Token → ℕ → List ℕ → List Token
-placesTokens K c [] = mark closing ∷ []
-placesTokens K c (p ∷ ps) = mark c ∷ nameAt K p ∷ placesTokens K comma ps
+abbrev pub placeKindTokens : List Token → ℕ → List ℕ → List Token
+placeKindTokens K c [] = mark closing ∷ []
+placeKindTokens K c (p ∷ ps) = mark c ∷ nameAt K p ∷ placeKindTokens K comma ps
 
-abbrev pub bracketed : List ℕ → List Token → List Token
-bracketed [] us = []
-bracketed (p ∷ ps) us = us
+abbrev pub withPlaces : List ℕ → List Token → List Token
+withPlaces [] us = []
+withPlaces (p ∷ ps) us = us
 
 abbrev pub wordTokens : List Token → WordText → List Token
-wordTokens K w = w .name ∷ bracketed (w .places) (placesTokens K opening (w .places))
+wordTokens K w = w .name ∷ withPlaces (w .places) (placeKindTokens K opening (w .places))
 
 -- `= up | down`: = before the first word, | before each other; a kind without words has neither.
 abbrev pub wordsTokens : List Token → ℕ → List WordText → List Token
@@ -135,7 +135,7 @@ pub record GoodLexicon (X : Lexicon) : Type 0 where
   pub differentKinds : Distinct (kindNames X)
   pub someKind : 1 ≤ length X
   pub fewKinds : length X ≤ mostKinds
-  pub words : All (GoodWord (length X)) (wordsOf X)
+  pub words : All (GoodWord (length X)) (allWords X)
   pub differentWords : Distinct (wordNames X)
-  pub someWord : 1 ≤ length (wordsOf X)
-  pub fewWords : length (wordsOf X) ≤ mostWords
+  pub someWord : 1 ≤ length (allWords X)
+  pub fewWords : length (allWords X) ≤ mostWords

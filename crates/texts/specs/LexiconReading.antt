@@ -8,7 +8,7 @@
 --   kindNameWhy, wordNameWhy, placeWhy    the same for a kind's name, a word's, and the kind of a place
 --   Names?                    names, or a fault
 --   kindNamed, readKindNames seen l      the names behind each `kind` of l, after the names `seen`
---   Row                       a word that was read: its kind, and the kinds of its places
+--   WordRow                       a word that was read: its kind, and the kinds of its places
 --   rowWord x                 its record
 --   Phase                     what may come next
 --   Declaring                 what was read so far: the phase, how many kinds, the words' names, and their rows
@@ -31,8 +31,8 @@ use lib.ListN.{length}
 use Rattle.wire.specs.Vocabulary.{Word, mostKinds, mostWords}
 use Rattle.texts.specs.Lexemes.{Token, Lexeme}
 use Rattle.texts.specs.Names.{same, kindWord, mark, opening, closing, comma, bar, equals, mostName, isIdentifier, indexIn}
-use Rattle.texts.specs.Lexicon.{fullMap, mostPlaces}
-use Rattle.texts.specs.Faults.{Fault, Got, got, bad, token, place, kindDue, kindNameDue, longName, kindTwice, manyKinds, wordDue, wordTwice, manyWords, placeDue, notDeclared, manyPlaces, placeEnd, noWords}
+use Rattle.texts.specs.Lexicon.{gaplessMap, mostPlaces}
+use Rattle.texts.specs.Faults.{Fault, Parsed, parsed, bad, token, place, kindDue, kindNameDue, longName, kindTwice, manyKinds, wordDue, wordTwice, manyWords, placeDue, notDeclared, manyPlaces, placeEnd, noWords}
 
 abbrev pub nameWhy : ℕ → ℕ → ℕ → ℕ → List Token → Token → ℕ
 nameWhy due twice many most seen u =
@@ -67,12 +67,12 @@ readKindNames seen (x ∷ l) =
     cond (same (x .token) kindWord) (kindNamed (λ names. readKindNames names l) seen l (kindNameWhy seen (token l)))
     (readKindNames seen l)
 
-pub record Row : Type 0 where
+pub record WordRow : Type 0 where
   pub kind : ℕ
   pub places : List ℕ
 
-abbrev pub rowWord : Row → Word
-rowWord x = record { result = x .kind; placeMap = fullMap (length (x .places)); kinds = x .places }
+abbrev pub rowWord : WordRow → Word
+rowWord x = record { result = x .kind; placeMap = gaplessMap (length (x .places)); kinds = x .places }
 
 -- What may come next.
 pub data Phase : Type 0 where
@@ -95,10 +95,10 @@ pub record Declaring : Type 0 where
   pub phase : Phase
   pub kinds : ℕ
   pub names : List Token
-  pub done : List Row
-  pub last : List Row
+  pub done : List WordRow
+  pub last : List WordRow
 
-abbrev pub rowsOf : Declaring → List Row
+abbrev pub rowsOf : Declaring → List WordRow
 rowsOf x = x .done ++ x .last
 
 abbrev pub beginning : Declaring
@@ -127,11 +127,11 @@ stepWord x u zero =
     })
 stepWord x u (suc why) = fails (suc why)
 
-abbrev pub placesLast : List Row → ℕ
+abbrev pub placesLast : List WordRow → ℕ
 placesLast [] = 0
 placesLast (r ∷ rs) = length (r .places)
 
-abbrev pub grown : ℕ → Row → Row
+abbrev pub grown : ℕ → WordRow → WordRow
 grown k r = record { kind = r .kind; places = r .places ++ (k ∷ []) }
 
 abbrev pub stepPlace : Declaring → ℕ → ℕ → Stepped
@@ -168,27 +168,27 @@ step K x u = stepIn K x u (x .phase)
 pub record LexiconRead : Type 0 where
   pub kindNames : List Token
   pub wordNames : List Token
-  pub rows : List Row
+  pub rows : List WordRow
 
 -- Where the patterns begin the vocabulary ends; it has a word at least.
-abbrev pub ended : List Token → Declaring → List Lexeme → Got LexiconRead
+abbrev pub ended : List Token → Declaring → List Lexeme → Parsed LexiconRead
 ended K x l =
     cond (eqb (length (x .names)) 0) (bad (record { why = noWords; at = place l; of = 0 }))
-    (got (record { kindNames = K; wordNames = x .names; rows = rowsOf x }) l)
+    (parsed (record { kindNames = K; wordNames = x .names; rows = rowsOf x }) l)
 
-abbrev pub stepped : (Declaring → Got LexiconRead) → List Token → Declaring → List Lexeme → Stepped → Got LexiconRead
+abbrev pub stepped : (Declaring → Parsed LexiconRead) → List Token → Declaring → List Lexeme → Stepped → Parsed LexiconRead
 stepped more K x l (on y) = more y
 stepped more K x l over = ended K x l
 stepped more K x l (fails why) = bad (record { why = why; at = place l; of = 0 })
 
 -- A text ends with an empty lexeme, which is no part of a declaration.
-abbrev pub readRows : List Token → Declaring → List Lexeme → Got LexiconRead
+abbrev pub readRows : List Token → Declaring → List Lexeme → Parsed LexiconRead
 readRows K x [] = ended K x []
 readRows K x (y ∷ l) = stepped (λ z. readRows K z l) K x (y ∷ l) (step K x (y .token))
 
-abbrev pub withNames : List Lexeme → Names? → Got LexiconRead
+abbrev pub withNames : List Lexeme → Names? → Parsed LexiconRead
 withNames l (misnamed x) = bad x
 withNames l (named K) = readRows K beginning l
 
-abbrev pub readLexicon : List Lexeme → Got LexiconRead
+abbrev pub readLexicon : List Lexeme → Parsed LexiconRead
 readLexicon l = withNames l (readKindNames [] l)

@@ -23,7 +23,7 @@ use lib.Dec.{eqb}
 use lib.ListN.{length, getD, drop}
 use Rattle.terms.specs.Lists.{All}
 use Rattle.wire.specs.Text.{ascii}
-use Rattle.texts.specs.Lexemes.{Token, isName, asking}
+use Rattle.texts.specs.Lexemes.{Token, isNameByte, asking}
 
 abbrev pub same : Token → Token → Bool
 same [] [] = true
@@ -63,7 +63,7 @@ mostName = 32
 
 abbrev pub beginsName : Token → Bool
 beginsName [] = false
-beginsName (b ∷ t) = isName b
+beginsName (b ∷ t) = isNameByte b
 
 abbrev pub isIdentifier : Token → Bool
 isIdentifier t = beginsName t && (not (same t opened) && not (same t kindWord))
@@ -74,13 +74,13 @@ isVariable (b ∷ t) = eqb b asking && beginsName t
 
 -- Names of kinds and words are the engineers' own: a run of characters of names that is not _ and not kind.
 pub record IsIdentifier (t : Token) : Type 0 where
-  pub characters : All (λ b. isName b ≡ true) t
+  pub characters : All (λ b. isNameByte b ≡ true) t
   pub identifier : isIdentifier t ≡ true
   pub short : length t ≤ mostName
 
 -- A variable's name is any run of characters of names: the ? before it tells it from words.
 pub record IsVariable (t : Token) : Type 0 where
-  pub characters : All (λ b. isName b ≡ true) (drop 1 t)
+  pub characters : All (λ b. isNameByte b ≡ true) (drop 1 t)
   pub variable : isVariable t ≡ true
   pub short : length t ≤ suc mostName
 

@@ -9,13 +9,13 @@
 --   wordWhy N W left due s u       why the token u is no word that may stand there; 0 where it is
 --   variableWhy left s u           why the token u is no variable that may stand there; 0 where it is
 --   faultAt why of l               a fault at the first of the lexemes l
---   readPlaces below f c ks s l    the terms of the places ks of the word f, c before the first, each read by `below`
+--   parsePlaces below f c ks s l    the terms of the places ks of the word f, c before the first, each read by `below`
 --   readBehind below f ks s l      what stands behind the word f: its places, where it has any
---   readWord, readVariable         a term that begins with a word, a variable
+--   parseWord, readVariable         a term that begins with a word, a variable
 --   readNode below N W left due s l    a term; `below` reads those of its places
---   readTerm N W left due s l      a term of kind due, at most `left` levels deep
+--   parseTerm N W left due s l      a term of kind due, at most `left` levels deep
 --   PhraseRead               a pattern with its kind, its variables and its label, which may be missing
---   withFirst t a            the term t before the terms of a
+--   putFirst t a            the term t before the terms of a
 --   phraseRead k a           a pattern of kind k without label
 --   readRootKind K a l       the kind of a root that is open or a variable
 --   readRoot K N W l         a pattern without label
@@ -34,7 +34,7 @@ use Rattle.wire.specs.TermBytes.{nameCount, mostBytes, mostLevels}
 use Rattle.texts.specs.Lexemes.{Token, Lexeme}
 use Rattle.texts.specs.Names.{same, opened, mark, opening, closing, comma, colon, mostName, isIdentifier, isVariable, indexIn}
 use Rattle.texts.specs.Phrases.{Phrase}
-use Rattle.texts.specs.Faults.{Fault, Got, got, bad, andThen, token, place, rest, longName, notDeclared, placeDue, patternDue, termDue, noWord, otherKind, placesWrong, tooDeep, tooLong, variableTwice, manyVariables, colonDue}
+use Rattle.texts.specs.Faults.{Fault, Parsed, parsed, bad, parseThen, token, place, rest, longName, notDeclared, placeDue, patternDue, termDue, unknownWord, otherKind, placesWrong, placesOver, tooDeep, tooLong, variableTwice, manyVariables, colonDue}
 
 pub record Seen : Type 0 where
   pub variables : List Token
@@ -56,7 +56,7 @@ wordWhy N W left due s u =
     cond (isIdentifier u)
     (cond (ltb (indexIn u N) (length N))
     (cond (eqb (word W (indexIn u N) .result) due) (cond (eqb left 0) tooDeep (cond (leb (s .used + wordBytes) mostBytes) 0 tooLong)) otherKind)
-    noWord)
+    unknownWord)
     termDue
 
 abbrev pub variableWhy : ℕ → Seen → Token → ℕ
@@ -67,48 +67,48 @@ variableWhy left s u =
     (cond (ltb (length (s .variables)) nameCount) (cond (leb (s .used + 1) mostBytes) 0 tooLong) manyVariables)))
     longName
 
-abbrev pub faultAt : {A : Type 0} → ℕ → ℕ → List Lexeme → Got A
+abbrev pub faultAt : {A : Type 0} → ℕ → ℕ → List Lexeme → Parsed A
 faultAt why of l = bad (record { why = why; at = place l; of = of })
 
-abbrev pub withFirst : Term → TermsRead → TermsRead
-withFirst t a = record { terms = cons t (a .terms); seen = a .seen }
+abbrev pub putFirst : Term → TermsRead → TermsRead
+putFirst t a = record { terms = cons t (a .terms); seen = a .seen }
 
-abbrev pub readPlaces : (ℕ → Seen → List Lexeme → Got TermRead) → ℕ → ℕ → List ℕ → Seen → List Lexeme → Got TermsRead
-readPlaces below f c [] s l =
-    cond (same (token l) (mark closing)) (got (record { terms = nil; seen = s }) (rest l)) (faultAt placesWrong f l)
-readPlaces below f c (k ∷ ks) s l =
+abbrev pub parsePlaces : (ℕ → Seen → List Lexeme → Parsed TermRead) → ℕ → ℕ → List ℕ → Seen → List Lexeme → Parsed TermsRead
+parsePlaces below f c [] s l =
+    cond (same (token l) (mark closing)) (parsed (record { terms = nil; seen = s }) (rest l)) (faultAt placesOver f l)
+parsePlaces below f c (k ∷ ks) s l =
     cond (same (token l) (mark c))
-    (andThen (below k s (rest l))
-    (λ a r. andThen (readPlaces below f comma ks (a .seen) r) (λ ts r′. got (withFirst (a .term) ts) r′)))
+    (parseThen (below k s (rest l))
+    (λ a r. parseThen (parsePlaces below f comma ks (a .seen) r) (λ ts r′. parsed (putFirst (a .term) ts) r′)))
     (faultAt placesWrong f l)
 
-abbrev pub readBehind : (ℕ → Seen → List Lexeme → Got TermRead) → ℕ → List ℕ → Seen → List Lexeme → Got TermsRead
-readBehind below f [] s l = got (record { terms = nil; seen = s }) l
-readBehind below f (k ∷ ks) s l = readPlaces below f opening (k ∷ ks) s l
+abbrev pub readBehind : (ℕ → Seen → List Lexeme → Parsed TermRead) → ℕ → List ℕ → Seen → List Lexeme → Parsed TermsRead
+readBehind below f [] s l = parsed (record { terms = nil; seen = s }) l
+readBehind below f (k ∷ ks) s l = parsePlaces below f opening (k ∷ ks) s l
 
-abbrev pub readWord : (ℕ → Seen → List Lexeme → Got TermRead) → List Token → Vocabulary → ℕ → ℕ → Seen → List Lexeme → ℕ → Got TermRead
-readWord below N W left due s l zero =
+abbrev pub parseWord : (ℕ → Seen → List Lexeme → Parsed TermRead) → List Token → Vocabulary → ℕ → ℕ → Seen → List Lexeme → ℕ → Parsed TermRead
+parseWord below N W left due s l zero =
     let f : ℕ = indexIn (token l) N in
-    andThen (readBehind below f (word W f .kinds) (record { variables = s .variables; used = s .used + wordBytes }) (rest l))
-    (λ ts r. got (record { term = app f (ts .terms); seen = ts .seen }) r)
-readWord below N W left due s l (suc why) = faultAt (suc why) due l
+    parseThen (readBehind below f (word W f .kinds) (record { variables = s .variables; used = s .used + wordBytes }) (rest l))
+    (λ ts r. parsed (record { term = app f (ts .terms); seen = ts .seen }) r)
+parseWord below N W left due s l (suc why) = faultAt (suc why) due l
 
-abbrev pub readVariable : ℕ → Seen → List Lexeme → ℕ → Got TermRead
+abbrev pub readVariable : ℕ → Seen → List Lexeme → ℕ → Parsed TermRead
 readVariable due s l zero =
-    got
+    parsed
     (record { term = var (length (s .variables)); seen = record { variables = s .variables ++ (token l ∷ []); used = s .used + 1 } })
     (rest l)
 readVariable due s l (suc why) = faultAt (suc why) due l
 
-abbrev pub readNode : (ℕ → Seen → List Lexeme → Got TermRead) → List Token → Vocabulary → ℕ → ℕ → Seen → List Lexeme → Got TermRead
+abbrev pub readNode : (ℕ → Seen → List Lexeme → Parsed TermRead) → List Token → Vocabulary → ℕ → ℕ → Seen → List Lexeme → Parsed TermRead
 readNode below N W left due s l =
-    cond (same (token l) opened) (got (record { term = any; seen = s }) (rest l))
+    cond (same (token l) opened) (parsed (record { term = any; seen = s }) (rest l))
     (cond (isVariable (token l)) (readVariable due s l (variableWhy left s (token l)))
-    (readWord below N W left due s l (wordWhy N W left due s (token l))))
+    (parseWord below N W left due s l (wordWhy N W left due s (token l))))
 
-abbrev pub readTerm : List Token → Vocabulary → ℕ → ℕ → Seen → List Lexeme → Got TermRead
-readTerm N W zero due s l = readNode (λ k s′ l′. faultAt tooDeep k l′) N W zero due s l
-readTerm N W (suc left) due s l = readNode (readTerm N W left) N W (suc left) due s l
+abbrev pub parseTerm : List Token → Vocabulary → ℕ → ℕ → Seen → List Lexeme → Parsed TermRead
+parseTerm N W zero due s l = readNode (λ k s′ l′. faultAt tooDeep k l′) N W zero due s l
+parseTerm N W (suc left) due s l = readNode (parseTerm N W left) N W (suc left) due s l
 
 abbrev pub PhraseRead : Type 0
 PhraseRead = Phrase
@@ -117,35 +117,35 @@ abbrev pub phraseRead : ℕ → TermRead → PhraseRead
 phraseRead k a = record { label = []; kind = k; term = a .term; variables = a .seen .variables }
 
 -- `: step`
-abbrev pub readRootKind : List Token → TermRead → List Lexeme → Got PhraseRead
+abbrev pub readRootKind : List Token → TermRead → List Lexeme → Parsed PhraseRead
 readRootKind K a l =
     cond (same (token l) (mark colon))
     (cond (isIdentifier (token (rest l)))
-    (cond (ltb (indexIn (token (rest l)) K) (length K)) (got (phraseRead (indexIn (token (rest l)) K) a) (rest (rest l)))
+    (cond (ltb (indexIn (token (rest l)) K) (length K)) (parsed (phraseRead (indexIn (token (rest l)) K) a) (rest (rest l)))
     (faultAt notDeclared 0 (rest l)))
     (faultAt placeDue 0 (rest l)))
     (faultAt colonDue 0 l)
 
 -- The kind byte is counted, and an open root takes a byte.
-abbrev pub readRoot : List Token → List Token → Vocabulary → List Lexeme → Got PhraseRead
+abbrev pub readRoot : List Token → List Token → Vocabulary → List Lexeme → Parsed PhraseRead
 readRoot K N W l =
     let s : Seen = record { variables = []; used = 1 } in
     cond (same (token l) opened) (readRootKind K (record { term = any; seen = s }) (rest l))
     (cond (isVariable (token l))
-    (andThen (readVariable 0 s l (variableWhy mostLevels s (token l))) (readRootKind K))
+    (parseThen (readVariable 0 s l (variableWhy mostLevels s (token l))) (readRootKind K))
     (cond (isIdentifier (token l))
-    (andThen (readTerm N W mostLevels (word W (indexIn (token l) N) .result) s l)
-    (λ a r. got (phraseRead (word W (indexIn (token l) N) .result) a) r))
+    (parseThen (parseTerm N W mostLevels (word W (indexIn (token l) N) .result) s l)
+    (λ a r. parsed (phraseRead (word W (indexIn (token l) N) .result) a) r))
     (faultAt patternDue 0 l)))
 
 abbrev pub labelled : Token → PhraseRead → PhraseRead
 labelled u p = record { label = u; kind = p .kind; term = p .term; variables = p .variables }
 
 -- `go: wait(up, free)`, or `wait(up, free)`.
-abbrev pub readPhrase : List Token → List Token → Vocabulary → List Lexeme → Got PhraseRead
+abbrev pub readPhrase : List Token → List Token → Vocabulary → List Lexeme → Parsed PhraseRead
 readPhrase K N W l =
     cond (isIdentifier (token l) && same (token (rest l)) (mark colon))
     (cond (leb (length (token l)) mostName)
-    (andThen (readRoot K N W (rest (rest l))) (λ p r. got (labelled (token l) p) r))
+    (parseThen (readRoot K N W (rest (rest l))) (λ p r. parsed (labelled (token l) p) r))
     (faultAt longName 0 l))
     (readRoot K N W l)

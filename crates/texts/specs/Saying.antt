@@ -24,7 +24,7 @@ use Rattle.wire.specs.TermBytes.{firstNameByte, wholeByte, mostLevels}
 use Rattle.wire.specs.Text.{ascii}
 use Rattle.texts.specs.Lexemes.{Token}
 use Rattle.texts.specs.Names.{opened, mark, opening, closing, comma, colon, nameAt}
-use Rattle.texts.specs.Lexicon.{WordText, Lexicon, kindNames, wordsOf, wordNames}
+use Rattle.texts.specs.Lexicon.{WordText, Lexicon, kindNames, allWords, wordNames}
 
 pub record Tables : Type 0 where
   pub kinds : List Token
@@ -33,7 +33,7 @@ pub record Tables : Type 0 where
   pub variables : List Token
 
 abbrev pub placeCounts : Lexicon → List ℕ
-placeCounts X = map (λ (w : WordText). length (w .places)) (wordsOf X)
+placeCounts X = map (λ (w : WordText). length (w .places)) (allWords X)
 
 abbrev pub tablesOf : Lexicon → List Token → Tables
 tablesOf X vs = record { kinds = kindNames X; words = wordNames X; places = placeCounts X; variables = vs }

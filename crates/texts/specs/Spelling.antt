@@ -12,7 +12,7 @@ use mathlib.Core.List.{List, [], _∷_, _++_}
 use Prim.Native.Nat.{ℕ}
 use lib.Dec.{eqb}
 use Rattle.terms.specs.Lists.{All}
-use Rattle.texts.specs.Lexemes.{Token, isBlank, isName, isRun, comment}
+use Rattle.texts.specs.Lexemes.{Token, isBlank, isNameByte, isRun, comment}
 
 pub data Blank : List ℕ → Type 0 where
   none : Blank []
@@ -25,13 +25,13 @@ pub data Trailing (v : List ℕ) : Type 0 where
   unended : (w c : List ℕ) → Blank w → All (λ b. eqb b 10 ≡ false) c → v ≡ w ++ (comment ∷ c) → Trailing v
 
 pub data IsToken : Token → Type 0 where
-  run : (b : ℕ) (u : Token) → isRun b ≡ true → All (λ c. isName c ≡ true) u → IsToken (b ∷ u)
+  run : (b : ℕ) (u : Token) → isRun b ≡ true → All (λ c. isNameByte c ≡ true) u → IsToken (b ∷ u)
   single : (b : ℕ) → isRun b ≡ false → isBlank b ≡ false → eqb b comment ≡ false → IsToken (b ∷ [])
 
 abbrev pub Ends : Token → List ℕ → Type 0
 Ends [] r = Unit {0}
 Ends (b ∷ u) [] = Unit {0}
-Ends (b ∷ u) (c ∷ r) = isRun b ≡ true → isName c ≡ false
+Ends (b ∷ u) (c ∷ r) = isRun b ≡ true → isNameByte c ≡ false
 
 pub data Spells : List ℕ → List Token → Type 0 where
   end : (b : List ℕ) → Trailing b → Spells b []

@@ -3,10 +3,10 @@
 --
 --   namesIn b q              the tokens at the offsets q of the text b
 --   recordSize               a record has so many bytes (10): kind, number of places, and the kinds of eight places
---   placesIn r f             how many places the record of word f says that it has, 8 at most
+--   tabledPlaces r f             how many places the record of word f says that it has, 8 at most
 --   wordIn r f               the word of number f
 --   wordsIn n r              the first n words
---   vocabularyIn k n r       the vocabulary of k kinds and n words
+--   tabledVocabulary k n r       the vocabulary of k kinds and n words
 --   knownIn b ks k ws n r    what complaints need of it, where the names of kinds and words stand at the offsets ks and ws of the text b
 --
 use mathlib.Core.List.{List, map}
@@ -15,7 +15,7 @@ use lib.ListN.{getD, take, drop}
 use Rattle.terms.specs.Lists.{range}
 use Rattle.wire.specs.Vocabulary.{Word, Vocabulary}
 use Rattle.texts.specs.Lexemes.{Token, tokenAt}
-use Rattle.texts.specs.Lexicon.{fullMap, mostPlaces}
+use Rattle.texts.specs.Lexicon.{gaplessMap, mostPlaces}
 use Rattle.texts.specs.Complaints.{Known}
 
 abbrev pub namesIn : List ℕ → List ℕ → List Token
@@ -24,21 +24,21 @@ namesIn b q = map (tokenAt b) q
 abbrev pub recordSize : ℕ
 recordSize = 2 + mostPlaces
 
-abbrev pub placesIn : List ℕ → ℕ → ℕ
-placesIn r f = min (getD r (recordSize * f + 1) 0) mostPlaces
+abbrev pub tabledPlaces : List ℕ → ℕ → ℕ
+tabledPlaces r f = min (getD r (recordSize * f + 1) 0) mostPlaces
 
 abbrev pub wordIn : List ℕ → ℕ → Word
 wordIn r f = record {
   result = getD r (recordSize * f) 0;
-  placeMap = fullMap (placesIn r f);
-  kinds = take (placesIn r f) (drop (recordSize * f + 2) r);
+  placeMap = gaplessMap (tabledPlaces r f);
+  kinds = take (tabledPlaces r f) (drop (recordSize * f + 2) r);
 }
 
 abbrev pub wordsIn : ℕ → List ℕ → List Word
 wordsIn n r = map (wordIn r) (range 0 n)
 
-abbrev pub vocabularyIn : ℕ → ℕ → List ℕ → Vocabulary
-vocabularyIn k n r = record { kinds = k; words = wordsIn n r }
+abbrev pub tabledVocabulary : ℕ → ℕ → List ℕ → Vocabulary
+tabledVocabulary k n r = record { kinds = k; words = wordsIn n r }
 
 -- What complaints need, by the names of k kinds and n words.
 abbrev pub knownIn : List ℕ → List ℕ → ℕ → List ℕ → ℕ → List ℕ → Known
@@ -46,5 +46,5 @@ knownIn b ks k ws n r = record {
   kinds = namesIn b (take k ks);
   words = namesIn b (take n ws);
   results = map (λ (f : ℕ). getD r (recordSize * f) 0) (range 0 n);
-  places = map (placesIn r) (range 0 n);
+  places = map (tabledPlaces r) (range 0 n);
 }

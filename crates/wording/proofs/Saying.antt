@@ -63,9 +63,9 @@ module _ (T : Tables) (left : ℕ) (entry : List ℕ) (at : ℕ) where
 
 -- ---- behind a word's name
 
-got : (l : List ℕ) → 0 < length l → readMap l ≡ mapGot (mapAt l 0) (drop 1 l)
-got [] h = absurd (omega arith)
-got (m ∷ l) h = refl
+parsed : (l : List ℕ) → 0 < length l → readMap l ≡ mapGot (mapAt l 0) (drop 1 l)
+parsed [] h = absurd (omega arith)
+parsed (m ∷ l) h = refl
 
 module _ (sayer : List ℕ → Said) (n : ℕ) (entry : List ℕ) (at : ℕ) where
   pub behind-end : (page : List ℕ) (to : ℕ) → length entry ≤ at → Says (sayBehind sayer n (readMap (drop at entry))) entry page to page at to
@@ -78,7 +78,7 @@ module _ (sayer : List ℕ → Said) (n : ℕ) (entry : List ℕ) (at : ℕ) whe
   module _ (more : at < length entry) where
     map-here : readMap (drop at entry) ≡ mapGot (mapAt entry at) (drop (at + 1) entry)
     map-here =
-        got (drop at entry) (let m = more in omega (arith, length-drop at entry))
+        parsed (drop at entry) (let m = more in omega (arith, length-drop at entry))
         ∙ ap (mapGot (mapAt entry at)) (drop-drop 1 at entry)
 
     pub behind-none : (page : List ℕ) (to : ℕ) → n ≡ 0 → Says (sayBehind sayer n (readMap (drop at entry))) entry page to page (at + 1) to

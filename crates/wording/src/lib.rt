@@ -37,7 +37,7 @@ pub fn put_token(text: &[u8], at: usize, page: &mut [u8; 1048576], to: usize) ->
 }
 
 // Puts the name of number i of a table; nothing where the table has none.
-fn put_name(text: &[u8], table: &[u16], i: usize, page: &mut [u8; 1048576], to: usize) -> usize
+pub fn put_name(text: &[u8], table: &[u16], i: usize, page: &mut [u8; 1048576], to: usize) -> usize
     ensures { λ r. ⌜ Adds (now (page .entry)) to (now (page .exit)) r (nameAt (map (tokenAt (now (text .entry))) (now (table .entry))) i) ⌝ }
 {
     if table.len() <= i {

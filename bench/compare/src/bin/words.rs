@@ -1,6 +1,7 @@
 //! Runs the program `desk` on generated texts, sound and damaged, and compares what it prints with the
-//! reference's answer, byte for byte. The leftovers in an answer, read back, are compared with those that
-//! the archive and the reference list.
+//! reference's answer, byte for byte but for the order of the leftovers of patterns together, which is
+//! left open. The leftovers in an answer, read back, are compared with those that the archive and the
+//! reference list, and the answers to questions with the archive's match.
 //!
 //! Arguments: the number of texts (20,000), the seed (1) and the program (`../../target/bin/desk`).
 
@@ -29,6 +30,10 @@ struct Seen {
     patterns: u64,
     not_listed: u64,
     entries: u64,
+    books: u64,
+    not_together: u64,
+    yes: u64,
+    no: u64,
     refused: BTreeMap<u8, u64>,
 }
 
@@ -38,6 +43,10 @@ impl Seen {
         println!(
             "{} answered: {} patterns, {} of them not listed, {} entries read back",
             self.answered, self.patterns, self.not_listed, self.entries
+        );
+        println!(
+            "{} times patterns together, {} of them not listed; {} times yes, {} times no",
+            self.books, self.not_together, self.yes, self.no
         );
         println!("{} with an answer that is too long", self.too_long);
         println!("{} refused", self.refused.values().sum::<u64>());
@@ -109,6 +118,7 @@ impl Run<'_> {
         }
         let taken = &self.case.text[..self.case.text.len().min(TAKEN)];
         let (mine, other) = (output.stdout, words::answer(taken));
+        let (mine, other) = (words::in_order(&mine), words::in_order(&other));
         if mine != other {
             let at = mine
                 .iter()
@@ -131,6 +141,7 @@ impl Run<'_> {
             Ok(text) => {
                 seen.answered += 1;
                 self.read_back(&text, &mine, seen);
+                self.ask(&text, &mine, seen);
             }
         }
     }
@@ -167,8 +178,56 @@ impl Run<'_> {
             }
             seen.patterns += 1;
         }
+        for (patterns, book) in (0..text.vocabulary.kinds.len()).filter_map(|kind| text.book(kind)) {
+            seen.books += 1;
+            if patterns > 64 {
+                seen.not_together += 1;
+                continue;
+            }
+            match archive::list_book(&vocabulary, &book, &mut out) {
+                [0, entries, bytes, 0, 0] => {
+                    let back = lines.by_ref().take(entries as usize);
+                    let mut back: Vec<_> = back.map(|line| line.bytes.clone()).collect();
+                    let mut listed = words::split(&out[..bytes as usize], entries);
+                    back.sort_unstable();
+                    listed.sort_unstable();
+                    if back != listed {
+                        self.differs(&format!("leftovers of {}", book.escape_ascii()));
+                    }
+                    seen.entries += entries;
+                }
+                [26, ..] => seen.not_together += 1,
+                reply => self.differs(&format!("the archive lists the book {reply:?}")),
+            }
+        }
         if lines.next().is_some() {
             self.differs("the answer has more lines than there are leftovers");
+        }
+    }
+}
+
+impl Run<'_> {
+    /// The answers to the questions of a text are those of match.
+    fn ask(&self, text: &Text, answer: &[u8], seen: &mut Seen) {
+        let vocabulary = text.vocabulary.bytes();
+        let mut lines = answer.split(|&byte| byte == b'\n').filter_map(|line| {
+            let bare = line.strip_prefix(b"# ")?.trim_ascii_start();
+            let no = bare.starts_with(b"^ no: ");
+            (no || line == b"# yes").then_some(!no)
+        });
+        for pattern in &text.patterns {
+            for situation in &pattern.situations {
+                let mut table = [0; 128];
+                let fits = archive::match_pattern(&vocabulary, &pattern.bytes, situation, &mut table);
+                match (fits, lines.next()) {
+                    ([0, 1, 0, 0, 0], Some(true)) => seen.yes += 1,
+                    ([0, 0, 0, 0, 0], Some(false)) => seen.no += 1,
+                    (reply, said) => self.differs(&format!("match says {reply:?}, desk {said:?}")),
+                }
+            }
+        }
+        if lines.next().is_some() {
+            self.differs("more is answered than asked");
         }
     }
 }

@@ -1,6 +1,6 @@
 //! Pseudo-random texts in words.
 
-use super::{Gen, Naming, Tree, Vocabulary, Word};
+use super::{count, Gen, Naming, Tree, Vocabulary, Word};
 
 /// A text for the program `desk`.
 #[derive(Clone, Debug, PartialEq, Eq)]
@@ -9,8 +9,16 @@ pub struct TextCase {
     /// Whether the program gets it in a file that its argument names.
     pub in_file: bool,
     /// The vocabulary and the patterns as bytes, where nothing is damaged and
-    /// the text not too long. A pattern may still be one that list refuses.
-    pub meant: Option<(Vec<u8>, Vec<Vec<u8>>)>,
+    /// the text not too long. A pattern may still be one that list refuses, and
+    /// what it is asked one that match does.
+    pub meant: Option<(Vec<u8>, Vec<Meant>)>,
+}
+
+/// A pattern as bytes, and the situations that it is asked about.
+#[derive(Clone, Debug, PartialEq, Eq)]
+pub struct Meant {
+    pub pattern: Vec<u8>,
+    pub situations: Vec<Vec<u8>>,
 }
 
 type Token = Vec<u8>;
@@ -312,16 +320,50 @@ impl Gen {
         }
     }
 
-    /// The tokens of a pattern, with a label or without, and its bytes.
-    fn phrase(&mut self, v: &Vocabulary, called: &Called) -> (Vec<Piece>, Vec<u8>) {
+    /// A situation to ask a pattern about: one that fits it, one that nearly
+    /// does, or any. In a kind without situations there is none, and what is
+    /// asked has something open.
+    fn asked(&mut self, v: &Vocabulary, kind: usize, tree: &Tree) -> Tree {
+        if !v.has(kind) || !v.fits(kind, Some(tree)) {
+            return if v.has(kind) {
+                self.situation(v, kind, 20)
+            } else {
+                Tree::Any
+            };
+        }
+        match self.below(12) {
+            0..=4 => {
+                let bytes = self.between(3, 40);
+                self.situation(v, kind, bytes)
+            }
+            5 if self.once_in(4) => tree.clone(),
+            way => {
+                let spare = self.pick(&[0, 4, 4, 30]);
+                let mut given = [const { None }; 64];
+                let mut situation = self.fill(v, tree, kind, 1, &mut given, spare);
+                if way % 2 == 0 {
+                    let at = self.below(count(&situation));
+                    self.change(v, &mut situation, kind, 1, at);
+                }
+                situation
+            }
+        }
+    }
+
+    /// The tokens of a pattern, with a label or without, and of what it is
+    /// asked, and their bytes.
+    fn phrase(&mut self, v: &Vocabulary, called: &Called) -> (Vec<Piece>, Meant) {
         let (kind, mut tree) = self.text_pattern(v);
         number_names(&mut tree, &mut Vec::new());
         let mut tokens = Vec::new();
-        if self.once_in(3) {
+        let label = self.once_in(3).then(|| {
             // It may be called as a word is.
             let at = self.below(4 * called.words.len());
             let word = called.words.get(at).cloned();
-            tokens.push(word.unwrap_or_else(|| self.identifier()));
+            word.unwrap_or_else(|| self.identifier())
+        });
+        if let Some(label) = &label {
+            tokens.push(label.clone());
             tokens.push(b":".to_vec());
         }
         self.term_tokens(called, &tree, &mut Vec::new(), &mut tokens);
@@ -329,7 +371,21 @@ impl Gen {
             tokens.push(b":".to_vec());
             tokens.push(called.kinds[kind].clone());
         }
-        (pieces(tokens), v.term(kind, &tree))
+        let mut all = pieces(tokens);
+        let mut meant = Meant {
+            pattern: v.term(kind, &tree),
+            situations: Vec::new(),
+        };
+        if let (Some(label), true) = (label, self.once_in(2)) {
+            for _ in 0..self.between(1, 3) {
+                let mut tokens = vec![label.clone(), b"?".to_vec()];
+                let situation = self.asked(v, kind, &tree);
+                self.term_tokens(called, &situation, &mut Vec::new(), &mut tokens);
+                all.extend(pieces(tokens));
+                meant.situations.push(v.term(kind, &situation));
+            }
+        }
+        (all, meant)
     }
 
     /// White space and comments: at least one byte if they are needed.
@@ -551,9 +607,9 @@ impl Gen {
         };
         let mut patterns = Vec::new();
         for _ in 0..count {
-            let (phrase, bytes) = self.phrase(&v, &called);
+            let (phrase, meant) = self.phrase(&v, &called);
             all.extend(phrase);
-            patterns.push(bytes);
+            patterns.push(meant);
         }
         if self.once_in(3) {
             damaged = true;

@@ -1,7 +1,7 @@
 //! What is wrong with a text, told with line and column, the line itself and a
 //! mark below the place.
 
-use super::tokens::token;
+use super::tokens::{lexemes, token};
 use super::{say, Refused};
 use std::io::Write;
 
@@ -29,6 +29,12 @@ pub(super) const NAME_TWICE: u8 = 21;
 pub(super) const MANY_NAMES: u8 = 22;
 pub(super) const COLON_DUE: u8 = 23;
 pub(super) const LONG_TEXT: u8 = 24;
+pub(super) const PLACES_OVER: u8 = 25;
+pub(super) const SITUATION_OPEN: u8 = 26;
+pub(super) const OTHER_LABEL: u8 = 27;
+
+/// What is said of a ( where no place is due.
+const NO_PLACES: &str = "no places are due here, as what stands before takes none or has them all";
 
 /// A byte that goes on with a character which began before it.
 fn goes_on(byte: u8) -> bool {
@@ -44,29 +50,40 @@ impl Refused<'_> {
         let column = 1 + left.iter().filter(|&&byte| !goes_on(byte)).count();
         let mut out = Vec::new();
         say!(out, "line {}, column {column}: ", 1 + lines.count());
-        self.reason(token(text, self.fault.at), &mut out);
+        self.reason(token(text, self.fault.at), behind, &mut out);
         out.push(b'\n');
-        out.extend(left.iter().chain(right).map(|&byte| match byte {
+        let shown = left.iter().chain(right).filter(|&&byte| byte != b'\r');
+        out.extend(shown.map(|&byte| match byte {
             b'\t' => byte,
             0..=31 | 127 => b'?',
             _ => byte,
         }));
         out.push(b'\n');
-        for &byte in left.iter().filter(|&&byte| !goes_on(byte)) {
-            out.push(if byte == b'\t' { byte } else { b' ' });
+        for &byte in left {
+            match byte {
+                b'\t' => out.push(byte),
+                b'\r' => {}
+                _ if goes_on(byte) => {}
+                _ => out.push(b' '),
+            }
         }
         out.extend_from_slice(b"^\n");
         out
     }
 
-    /// Appends what is wrong, where a token stands.
-    fn reason(&self, token: &[u8], out: &mut Vec<u8>) {
+    /// Appends what is wrong, where a token stands, which begins the rest of
+    /// the text.
+    fn reason(&self, token: &[u8], rest: &[u8], out: &mut Vec<u8>) {
         let mut around = |before: &str, behind: &str| {
             out.extend_from_slice(before.as_bytes());
             out.extend_from_slice(token);
             out.extend_from_slice(behind.as_bytes());
         };
         let plain = match self.fault.why {
+            PATTERN_DUE | PLACES_WRONG | PLACES_OVER if token == b"(" => NO_PLACES,
+            KIND_DUE if token.starts_with(b"\xef\xbb\xbf") => {
+                "a byte order mark stands here, and a text begins with `kind`"
+            }
             KIND_DUE => "`kind` is due here, as a text begins with its kinds",
             KIND_NAME_DUE => "a name is due here, for the kind",
             LONG_NAME => "32 bytes are the most for a name, and this one has more",
@@ -80,16 +97,31 @@ impl Refused<'_> {
             MANY_PLACES => "8 places are the most, and this is one more",
             PLACE_END => "a , or a ) is due here",
             NO_WORDS => "no kind has a word",
+            PATTERN_DUE if token == b"kind" => "all kinds are declared before the first pattern",
             PATTERN_DUE => "a pattern is due here",
             TERM_DUE | OTHER_KIND => return self.due(out),
             NO_WORD => return around("no word ", " in this vocabulary"),
-            PLACES_WRONG => return self.places(token, out),
+            PLACES_WRONG => {
+                let written = match token {
+                    b")" => "and fewer are written",
+                    b"," => "and none is written",
+                    _ => "in ( and ) with a , between them",
+                };
+                return self.places(written, out);
+            }
+            PLACES_OVER if token == b"," => {
+                let number = self.vocabulary.words[self.fault.of].places.len() + commas(rest);
+                return self.places(&format!("and {number} are written"), out);
+            }
+            PLACES_OVER => return self.places("and a ) is due here", out),
             TOO_DEEP => "32 levels are the most, and this is one more",
             TOO_LONG => "4096 bytes are the most for a pattern, and this one has more",
             NAME_TWICE => return around("", " stands twice in this pattern"),
             MANY_NAMES => "64 names are the most in a pattern, and this is one more",
             COLON_DUE => "a : and a kind are due here, as in _: step",
             LONG_TEXT => "65535 bytes are the most for a text, and this one has more",
+            SITUATION_OPEN => "a situation has no open place and no name",
+            OTHER_LABEL => "this is not the label of the pattern before it, which a question asks",
             why => unreachable!("there is no reason {why}"),
         };
         out.extend_from_slice(plain.as_bytes());
@@ -107,16 +139,28 @@ impl Refused<'_> {
         }
     }
 
-    /// How many places a word takes, where another mark than its places need
-    /// stands.
-    fn places(&self, token: &[u8], out: &mut Vec<u8>) {
+    /// How many places a word takes, and what is wrong with those written.
+    fn places(&self, written: &str, out: &mut Vec<u8>) {
         let word = &self.vocabulary.words[self.fault.of];
+        let number = word.places.len();
+        let plural = if number == 1 { "" } else { "s" };
         out.extend_from_slice(word.name);
-        let rest = match token {
-            b"," => "and no , is due here",
-            b")" => "and no ) is due here",
-            _ => "in ( and ) with a , between them",
-        };
-        say!(out, " takes {} places, {rest}", word.places.len());
+        say!(out, " takes {number} place{plural}, {written}");
     }
+}
+
+/// How many commas stand before the ) that ends the places which a text goes
+/// on with, in no further parentheses.
+fn commas(text: &[u8]) -> usize {
+    let (mut number, mut deep) = (0, 0);
+    for lexeme in lexemes(text) {
+        match lexeme.token {
+            b")" if deep == 0 => break,
+            b")" => deep -= 1,
+            b"(" => deep += 1,
+            b"," if deep == 0 => number += 1,
+            _ => {}
+        }
+    }
+    number
 }

@@ -177,9 +177,35 @@ impl<'a> Reader<'a> {
     pub fn patterns(&mut self, vocabulary: &Vocabulary) -> Result<Vec<Pattern<'a>>, Fault> {
         let mut patterns = Vec::new();
         while !self.here().is_empty() {
-            patterns.push(self.pattern(vocabulary)?);
+            let mut pattern = self.pattern(vocabulary)?;
+            while is_identifier(self.here()) && self.ahead(1) == b"?" {
+                let situation = self.question(&pattern, vocabulary)?;
+                pattern.situations.push(situation);
+            }
+            patterns.push(pattern);
         }
         Ok(patterns)
+    }
+
+    /// The situation that a pattern is asked about.
+    fn question(
+        &mut self,
+        pattern: &Pattern,
+        vocabulary: &Vocabulary,
+    ) -> Result<Vec<u8>, Fault> {
+        if pattern.label != Some(self.here()) {
+            return Err(self.fault(OTHER_LABEL, 0));
+        }
+        self.step();
+        self.step();
+        let mut situation = Pattern {
+            label: None,
+            names: Vec::new(),
+            bytes: vec![pattern.bytes[0]],
+            situations: Vec::new(),
+        };
+        self.term(vocabulary, &mut situation, true)?;
+        Ok(situation.bytes)
     }
 
     fn pattern(&mut self, vocabulary: &Vocabulary) -> Result<Pattern<'a>, Fault> {
@@ -187,6 +213,7 @@ impl<'a> Reader<'a> {
             label: None,
             names: Vec::new(),
             bytes: vec![0],
+            situations: Vec::new(),
         };
         if is_identifier(self.here()) && self.ahead(1) == b":" {
             if self.here().len() > MOST_NAME {
@@ -214,7 +241,7 @@ impl<'a> Reader<'a> {
             if let Some(word) = words.find(|word| word.name == root) {
                 pattern.bytes[0] = word.kind;
             }
-            self.term(vocabulary, &mut pattern)?;
+            self.term(vocabulary, &mut pattern, false)?;
         } else {
             return Err(self.fault(PATTERN_DUE, 0));
         }
@@ -222,13 +249,27 @@ impl<'a> Reader<'a> {
     }
 
     /// Reads the term of the pattern's kind behind its kind byte. Of an open
-    /// place nothing is written but the 0 in its word's map.
-    fn term(&mut self, vocabulary: &Vocabulary, pattern: &mut Pattern<'a>) -> Result<(), Fault> {
+    /// place nothing is written but the 0 in its word's map. A complete term
+    /// has nothing open.
+    fn term(
+        &mut self,
+        vocabulary: &Vocabulary,
+        pattern: &mut Pattern<'a>,
+        complete: bool,
+    ) -> Result<(), Fault> {
         let mut open: Vec<Open> = Vec::new();
         let mut due = pattern.bytes[0];
         loop {
             let level = open.len() + 1;
             let mut begun = None;
+            if complete && (self.here() == b"_" || is_name(self.here())) {
+                let open = self.fault(SITUATION_OPEN, 0);
+                // What is wrong with the name itself is told first.
+                if is_name(self.here()) {
+                    self.name(level, pattern)?;
+                }
+                return Err(open);
+            }
             if !self.over(b"_") {
                 if let Some(above) = open.last() {
                     pattern.bytes[above.map] |= 1 << above.place;
@@ -278,6 +319,8 @@ impl<'a> Reader<'a> {
     fn mark(&mut self, mark: &[u8], word: usize) -> Result<(), Fault> {
         if self.over(mark) {
             Ok(())
+        } else if mark == b")" {
+            Err(self.fault(PLACES_OVER, word))
         } else {
             Err(self.fault(PLACES_WRONG, word))
         }

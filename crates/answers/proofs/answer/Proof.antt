@@ -1,47 +1,19 @@
 -- `answers::answer` meets its contract.
-use mathlib.Core.Path.{sym, _∙_}
-use borrow.Author.Tests.{ltb-true, ltb-false}
-use Rattle.answers.proofs.Answering.{whole-fits, whole-fit-inside, whole-inside, whole-full}
+use Rattle.answers.proofs.Clearing.{answered}
 use borrow.Author.Needs.{needs}
 use Rattle.answers.proofs.answer.Statement.{statement}
 use Rattle.answers.proofs.answer.Tie as tie
 
-answer-whole-requires : tie.Need-answer-whole-requires
-answer-whole-requires c κs = search needs
+answer-bounded-requires : tie.Need-answer-bounded-requires
+answer-bounded-requires c κs = search needs
 
-is-over-requires : tie.Need-is-over-requires
-is-over-requires c κs = search needs
-
-slice-aggregate-put : tie.Need-slice-aggregate-put
-slice-aggregate-put c = search needs
-
-put-requires : tie.Need-put-requires
-put-requires c κs = search needs
+clear-requires : tie.Need-clear-requires
+clear-requires c κs = search needs
 
 returns : tie.Need-returns
 returns c =
-    let at-if1 = c .before .before .before in
-    let at-over = at-if1 .before in
-    let size = at-over .is-over .ensures .0 in
-    let whole = at-over .before .before .before .answer-whole .ensures in
-    let more = ltb-true 1048576 _ (sym (at-over .is-over .ensures .1) ∙ at-if1 .if1 .taken) in
-    (whole-full size whole (c .put .ensures) more, whole-inside size whole (c .put .ensures))
-
-returns-2 : tie.Need-returns-2
-returns-2 c =
-    let at-over = c .before in
-    let size = at-over .is-over .ensures .0 in
-    let whole = at-over .before .before .before .answer-whole .ensures in
-    let few = ltb-false 1048576 _ (sym (at-over .is-over .ensures .1) ∙ c .if1 .left) in
-    (whole-fits size whole few, whole-fit-inside size whole few)
+    let at-bounded = c .before .before in
+    answered _ _ (at-bounded .answer-bounded .ensures .0) (at-bounded .answer-bounded .ensures .1) (c .clear .ensures)
 
 pub answer-spec : {M : Type 1} → statement M
-answer-spec =
-    tie.close
-    (tie.spec
-    answer-whole-requires
-    is-over-requires
-    slice-aggregate-put
-    put-requires
-    returns
-    returns-2)
+answer-spec = tie.close (tie.spec answer-bounded-requires clear-requires returns)

@@ -4,8 +4,8 @@ use borrow.Author.Needs.{needs}
 use Rattle.answers.proofs.answer_file.Statement.{statement}
 use Rattle.answers.proofs.answer_file.Tie as tie
 
-check-phrases-requires : tie.Need-check-phrases-requires
-check-phrases-requires c κs = readable (c .before .pre)
+check-requires : tie.Need-check-requires
+check-requires c κs = search needs
 
 enum-known-why : tie.Need-enum-known-why
 enum-known-why c = c .match .keys1
@@ -23,19 +23,19 @@ returns : tie.Need-returns
 returns c =
     let at-why = c .before .before .before in
     let at-check = at-why .before .before in
-    answers-bad (at-check .before .before .pre) (at-check .check-phrases .ensures) (at-why .why .given .1) (c .complain .ensures)
+    answers-bad (at-check .before .before .pre) (at-check .check .ensures) (at-why .why .given .1) (c .complain .ensures)
 
 returns-2 : tie.Need-returns-2
 returns-2 c =
     let at-m = c .before .before .before in
     let at-check = at-m .before .before in
-    answers-fine (at-check .before .before .pre) (at-check .check-phrases .ensures) (at-m .m .given .1) (c .put-file .ensures)
+    answers-fine (at-check .before .before .pre) (at-check .check .ensures) (at-m .m .given .1) (c .put-file .ensures)
 
 pub answer-file-spec : {M : Type 1} → statement M
 answer-file-spec =
     tie.close
     (tie.spec
-    check-phrases-requires
+    check-requires
     enum-known-why
     complain-requires
     enum-known-m

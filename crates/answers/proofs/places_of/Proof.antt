@@ -1,14 +1,10 @@
 -- `answers::places_of` meets its contract.
 use borrow.Author.Needs.{needs}
-use native.Mathlib.Omega.{arith}
-use denote.Ref.{now}
 use Prim.Native.Nat.{_-_}
 use mathlib.Core.Path.{refl}
 use Rattle.answers.proofs.Placing.{Placed, placed-none, placed-turn, placed-all}
 use Rattle.answers.proofs.places_of.Statement.{statement}
 use Rattle.answers.proofs.places_of.Tie as tie
-use Rattle.answers.proofs.places_of.Reads as reads
-use Rattle.answers.proofs.places_of.Lts as lts
 
 abbrev Inv-loop : tie.InvT-loop
 Inv-loop records places₀ f₀ places f = Placed records f places

@@ -3,13 +3,6 @@ use Rattle.answers.proofs.Putting.{file-room, file-puts}
 use borrow.Author.Needs.{needs}
 use Rattle.answers.proofs.put_file.Statement.{statement}
 use Rattle.answers.proofs.put_file.Tie as tie
-use Rattle.answers.proofs.put_file.Reads as reads
-use Rattle.answers.proofs.put_file.Lts as lts
-use Rattle.answers.proofs.places_of.Reads as places-of-reads
-use Rattle.answers.proofs.put_blocks.Reads as put-blocks-reads
-use Rattle.encoder.proofs.encode.Reads as encode-reads
-use Rattle.pages.proofs.put.Reads as put-reads
-use Rattle.pages.proofs.put_number.Reads as put-number-reads
 
 places-of-requires : tie.Need-places-of-requires
 places-of-requires c κs = search needs
@@ -17,23 +10,39 @@ places-of-requires c κs = search needs
 encode-requires : tie.Need-encode-requires
 encode-requires c κs = search needs
 
-sub-put-blocks : tie.Need-sub-put-blocks
-sub-put-blocks c = search needs
+sub-put : tie.Need-sub-put
+sub-put c = search needs
 
-part-put-blocks-start : tie.Need-part-put-blocks-start
-part-put-blocks-start c = search needs
+part-put-start : tie.Need-part-put-start
+part-put-start c = search needs
 
-part-put-blocks-end : tie.Need-part-put-blocks-end
-part-put-blocks-end c = file-room (c .before .before .before .before .before .before .pre) (c .before .before .encode .ensures)
+part-put-end : tie.Need-part-put-end
+part-put-end c =
+    let at-encode = c .before .before in
+    file-room (at-encode .before .before .before .before .pre) (at-encode .encode .ensures)
 
-put-blocks-requires : tie.Need-put-blocks-requires
-put-blocks-requires c κs = c .before .before .before .before .before .before .before .before .pre
+put-requires : tie.Need-put-requires
+put-requires c κs = search needs
+
+sub-put-tails : tie.Need-sub-put-tails
+sub-put-tails c = search needs
+
+part-put-tails-start : tie.Need-part-put-tails-start
+part-put-tails-start c = search needs
+
+part-put-tails-end : tie.Need-part-put-tails-end
+part-put-tails-end c =
+    let at-encode = c .before .before .before .before .before .before .before in
+    file-room (at-encode .before .before .before .before .pre) (at-encode .encode .ensures)
+
+put-tails-requires : tie.Need-put-tails-requires
+put-tails-requires c κs = search needs
 
 slice-aggregate-put : tie.Need-slice-aggregate-put
 slice-aggregate-put c = search needs
 
-put-requires : tie.Need-put-requires
-put-requires c κs = search needs
+put-requires-2 : tie.Need-put-requires-2
+put-requires-2 c κs = search needs
 
 put-number-requires : tie.Need-put-number-requires
 put-number-requires c κs = search needs
@@ -41,11 +50,17 @@ put-number-requires c κs = search needs
 slice-aggregate-put-2 : tie.Need-slice-aggregate-put-2
 slice-aggregate-put-2 c = search needs
 
-put-requires-2 : tie.Need-put-requires-2
-put-requires-2 c κs = search needs
+put-requires-3 : tie.Need-put-requires-3
+put-requires-3 c κs = search needs
 
 returns : tie.Need-returns
-returns c = file-puts (c .before .before .before .before .before .before .before .before .before .before .before .before .before .before .before .before .before .pre) (c .before .before .before .before .before .before .before .before .before .before .before .before .before .encode .ensures) (c .before .before .before .before .before .before .before .before .before .before .before .before .before .before .before .places-of .ensures) (c .before .before .before .before .before .before .before .before .put-blocks .ensures) (c .before .before .before .before .before .put .ensures) (c .before .before .before .put-number .ensures) (c .put2 .ensures)
+returns c =
+    let at-tails = c .before .before .before .before .before .before .before .before in
+    let at-put = at-tails .before .before .before .before .before in
+    let at-encode = at-put .before .before .before .before .before in
+    let at-places = at-encode .before .before in
+    file-puts (at-places .before .before .pre) (at-encode .encode .ensures) (at-places .places-of .ensures) (at-put .put .ensures) (at-tails .put-tails .ensures)
+    (c .before .before .before .before .before .put2 .ensures) (c .before .before .before .put-number .ensures) (c .put3 .ensures)
 
 pub put-file-spec : {M : Type 1} → statement M
 put-file-spec =
@@ -53,13 +68,17 @@ put-file-spec =
     (tie.spec
     places-of-requires
     encode-requires
-    sub-put-blocks
-    part-put-blocks-start
-    part-put-blocks-end
-    put-blocks-requires
-    slice-aggregate-put
+    sub-put
+    part-put-start
+    part-put-end
     put-requires
+    sub-put-tails
+    part-put-tails-start
+    part-put-tails-end
+    put-tails-requires
+    slice-aggregate-put
+    put-requires-2
     put-number-requires
     slice-aggregate-put-2
-    put-requires-2
+    put-requires-3
     returns)

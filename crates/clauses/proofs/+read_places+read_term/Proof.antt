@@ -8,7 +8,7 @@ use denote.Ref.{now}
 use borrow.Author.Tests.{not-true, not-false}
 use borrow.Fn.Kinds.{In, Out}
 use borrow.Fn.PlainCycle.{Measures, is, falls, and}
-use Rattle.texts.specs.Tabled.{placesIn}
+use Rattle.texts.specs.Tabled.{tabledPlaces}
 use Rattle.clauses.specs.Reading.{Within, Lent, Tables}
 use Rattle.clauses.proofs.Tables.{places-few}
 use Rattle.clauses.proofs.AtPlaces.{places-closed, places-wrong, AtPlace, place-inside, place-refused, place-ends, place-small, place-read}
@@ -108,7 +108,7 @@ module _ (t : ℕ) (c : InPlaces read-places-lts.Start t) where
   abbrev known : c .args .f < c .args .n
   known = c .pre .1 .1 .1 .1 .0
 
-  abbrev counted : c .args .i ≤ placesIn (now (c .args .records)) (c .args .f)
+  abbrev counted : c .args .i ≤ tabledPlaces (now (c .args .records)) (c .args .f)
   counted = c .pre .1 .1 .1 .1 .1
 
   few-words : c .args .f < 96
@@ -148,7 +148,7 @@ module _ (t : ℕ) (c : InPlaces read-places-lts.After-is-mark t) where
   abbrev begun : InPlaces read-places-lts.Start t
   begun = c .before .before .before .before .before .before
 
-  here : begun .args .i < placesIn (now (begun .args .records)) (begun .args .f)
+  here : begun .args .i < tabledPlaces (now (begun .args .records)) (begun .args .f)
   here =
       let not-last = c .before .before .before .if1 .left in
       let count = c .before .before .before .before .places .ensures in

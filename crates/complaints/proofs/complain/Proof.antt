@@ -29,8 +29,10 @@ put-picture-requires : tie.Need-put-picture-requires
 put-picture-requires c κs = search needs
 
 returns : tie.Need-returns
-returns c = adds-then-is (c .before .before .before .before .before .put-place .ensures) (adds-then (c .before .before .before .put-reason .ensures) (c .put-picture .ensures))
-    (told (now (c .before .before .before .before .before .before .before .before .before .before .before .args .text)) (knownIn (now (c .before .before .before .before .before .before .before .before .before .before .before .args .text)) (now (c .before .before .before .before .before .before .before .before .before .before .before .args .kinds)) (c .before .before .before .before .before .before .before .before .before .before .before .args .k) (now (c .before .before .before .before .before .before .before .before .before .before .before .args .words)) (c .before .before .before .before .before .before .before .before .before .before .before .args .n) (now (c .before .before .before .before .before .before .before .before .before .before .before .args .records))) (c .before .before .before .before .before .before .before .before .before .before .before .args .why) (c .before .before .before .before .before .before .before .before .before .before .before .args .at) (c .before .before .before .before .before .before .before .before .before .before .before .args .of) (c .before .before .before .before .before .before .before .before .before .front .ensures) (c .before .before .before .before .before .before .before .before .line-start .ensures) (c .before .before .before .before .before .before .before .rest .ensures) (c .before .before .rest2 .ensures))
+returns c = let s = c .before .before .before .before .before .before .before .before .before .before .before .args in
+    let T = knownIn (now (s .text)) (now (s .kinds)) (s .k) (now (s .words)) (s .n) (now (s .records)) in
+    adds-then-is (c .before .before .before .before .before .put-place .ensures) (adds-then (c .before .before .before .put-reason .ensures) (c .put-picture .ensures))
+    (told (now (s .text)) T (s .why) (s .at) (s .of) (c .before .before .before .before .before .before .before .before .before .front .ensures) (c .before .before .before .before .before .before .before .before .line-start .ensures) (c .before .before .before .before .before .before .before .rest .ensures) (c .before .before .rest2 .ensures))
 
 pub complain-spec : {M : Type 1} → statement M
 complain-spec =

@@ -40,9 +40,9 @@ put-requires-3 : tie.Need-put-requires-3
 put-requires-3 c κs = search needs
 
 returns : tie.Need-returns
-returns c = adds-then (c .before .before .before .before .before .before .before .before .before .before .before .before .put .ensures)
-    (adds-then (adds-is (ap (writeRow shown) (c .before .before .before .before .before .before .before .before .before .before .front .ensures ∙ ap (λ n. take n (now (c .before .before .before .before .before .before .before .before .before .before .before .before .before .before .before .before .before .args .line))) (c .before .before .before .before .before .before .before .before .before .before .before .line-size .ensures))) (c .before .before .before .before .before .before .before .before .put-row .ensures))
-    (adds-then (c .before .before .before .before .before .put2 .ensures) (adds-then (c .before .before .before .put-row2 .ensures) (c .put3 .ensures))))
+returns c = let line = ap (writeRow shown) (c .before .before .before .before .before .before .before .before .before .before .front .ensures ∙ ap (λ n. take n (now (c .before .before .before .before .before .before .before .before .before .before .before .before .before .before .before .before .before .args .line))) (c .before .before .before .before .before .before .before .before .before .before .before .line-size .ensures)) in
+    adds-then (c .before .before .before .before .before .before .before .before .before .before .before .before .put .ensures)
+    (adds-then (adds-is line (c .before .before .before .before .before .before .before .before .put-row .ensures)) (adds-then (c .before .before .before .before .before .put2 .ensures) (adds-then (c .before .before .before .put-row2 .ensures) (c .put3 .ensures))))
 
 pub put-picture-spec : {M : Type 1} → statement M
 put-picture-spec =

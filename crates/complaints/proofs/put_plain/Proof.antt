@@ -4,7 +4,7 @@ use denote.Ref.{now}
 use Rattle.texts.specs.Lexemes.{tokenAt}
 use Rattle.texts.specs.Complaints.{tokenThen}
 use Rattle.pages.proofs.Pages.{adds-is, adds-then}
-use Rattle.complaints.proofs.Lines.{reasons-joined, endings-joined}
+use Rattle.complaints.proofs.Said.{reasons-joined, endings-joined}
 use borrow.Author.Needs.{needs}
 use Rattle.complaints.proofs.put_plain.Statement.{statement}
 use Rattle.complaints.proofs.put_plain.Tie as tie
@@ -28,8 +28,9 @@ put-behind-requires : tie.Need-put-behind-requires
 put-behind-requires c κs = search needs
 
 returns : tie.Need-returns
-returns c = adds-then (adds-is (c .before .before .before .before .before .before .line-of .ensures ∙ reasons-joined (c .before .before .before .before .before .before .before .before .before .args .why)) (c .before .before .before .before .put .ensures))
-    (adds-is (ap (tokenThen (tokenAt (now (c .before .before .before .before .before .before .before .before .before .args .text)) (c .before .before .before .before .before .before .before .before .before .args .at))) (c .before .before .line-of2 .ensures ∙ endings-joined (c .before .before .before .before .before .before .before .before .before .args .why))) (c .put-behind .ensures))
+returns c = let s = c .before .before .before .before .before .before .before .before .before .args in
+    adds-then (adds-is (c .before .before .before .before .before .before .line-of .ensures ∙ reasons-joined (s .why)) (c .before .before .before .before .put .ensures))
+    (adds-is (ap (tokenThen (tokenAt (now (s .text)) (s .at))) (c .before .before .line-of2 .ensures ∙ endings-joined (s .why))) (c .put-behind .ensures))
 
 pub put-plain-spec : {M : Type 1} → statement M
 put-plain-spec =

@@ -6,7 +6,8 @@ use Prim.Native.Nat.{_-_}
 use lib.ListN.{length, drop, drop-of-length-le}
 use Rattle.wire.specs.Row.{writeRow}
 use Rattle.complaints.specs.Parts.{drawn}
-use Rattle.complaints.proofs.Putting.{Left, left-all, left-turn, left-end, row-turn}
+use Rattle.pages.proofs.Turns.{Left, left-all, left-turn, left-end}
+use Rattle.complaints.proofs.Drawing.{row-turn}
 use Rattle.complaints.proofs.put_row.Statement.{statement}
 use Rattle.complaints.proofs.put_row.Tie as tie
 

@@ -6,7 +6,7 @@ use denote.Ref.{now}
 use native.Mathlib.Omega.{arith}
 use lib.ListN.{length}
 use Rattle.lexicon.proofs.Names.{NamesTo, names-none, names-passed, names-room, names-more, names-wrong, names-all}
-use Rattle.lexicon.proofs.Fronts.{start-inside, end-inside, end-later}
+use Rattle.texts.proofs.Fronts.{start-inside, end-inside, end-later}
 use Rattle.lexicon.proofs.read_names.Statement.{statement}
 use Rattle.lexicon.proofs.read_names.Tie as tie
 

@@ -5,7 +5,7 @@ use denote.Ref.{now}
 use native.Mathlib.Omega.{arith}
 use lib.ListN.{length}
 use Rattle.lexicon.proofs.Reading.{Reading, reading-none, reading-few, reading-later, reading-on, reading-over, reading-fails, told}
-use Rattle.lexicon.proofs.Fronts.{start-inside}
+use Rattle.texts.proofs.Fronts.{start-inside}
 use Rattle.lexicon.proofs.read_rows.Statement.{statement}
 use Rattle.lexicon.proofs.read_rows.Tie as tie
 

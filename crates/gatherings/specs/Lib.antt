@@ -1,0 +1,3 @@
+-- What gathering the patterns of a kind promises.
+pub mod Courses
+pub mod Gathering

@@ -1,0 +1,2 @@
+-- What the contracts of lines cite beside the definitions of texts.
+pub mod Lines

@@ -1,0 +1,2 @@
+-- What reading questions in words promises.
+pub mod Asking

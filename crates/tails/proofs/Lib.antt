@@ -1,0 +1,2 @@
+-- The laws behind the proofs of tails.
+pub mod Tailing

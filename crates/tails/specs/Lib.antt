@@ -1,0 +1,2 @@
+-- What putting the leftovers of patterns together promises.
+pub mod Tails

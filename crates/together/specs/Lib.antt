@@ -1,0 +1,2 @@
+-- What the contracts of together cite.
+pub mod Together
