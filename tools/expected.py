@@ -685,8 +685,8 @@ class Differs(Exception):
 
 
 def columns(text):
-    """The bytes that begin a character: 128 to 191 go on with one."""
-    return [byte for byte in text if not 128 <= byte <= 191]
+    """The bytes that begin a character: 128 to 191 go on with one, and a carriage return is none."""
+    return [byte for byte in text if not 128 <= byte <= 191 and byte != 13]
 
 
 class Text:
@@ -818,7 +818,7 @@ class Text:
     def question(self, phrase):
         """The situation that a pattern is asked about."""
         if self.token() != phrase.label:
-            self.fault(b"this is not the label of the pattern before it, which a question asks")
+            self.fault(b"a question begins with the label of the pattern before it, and this is another name")
         self.next += 2
         self.size, self.variables, self.complete = 1, [], True
         situation = self.term(phrase.kind, 1)
@@ -842,7 +842,7 @@ class Text:
         if not IDENTIFIER.match(token):
             self.fault(self.due(kind))
         if token not in self.words:
-            self.fault(b"no word %b in this vocabulary" % token)
+            self.fault(self.no_word())
         node = Node(self.words.index(token))
         if self.records[node.word].result != kind:
             self.fault(self.due(kind))
@@ -879,7 +879,7 @@ class Text:
 
     def not_too_long(self, more):
         if self.size + more > MOST_BYTES:
-            self.fault(b"4096 bytes are the most for a pattern, and this one has more")
+            self.fault(b"4096 bytes are the most for a pattern or a situation, and this one has more")
         self.size += more
 
     def mark_of(self, word, mark):
@@ -892,20 +892,29 @@ class Text:
         elif mark != b")":
             written = {b")": b"and fewer are written", b",": b"and none is written"}.get(token, b"in ( and ) with a , between them")
         elif token == b",":
-            written = b"and %d are written" % (number + self.places_behind())
+            more = self.places_behind()
+            written = b"and %d are written" % (number + more) if more else b"and no , is due here"
         else:
             written = b"and a ) is due here"
         self.fault(b"%b takes %d place%b, %b" % (self.words[word], number, b"" if number == 1 else b"s", written))
 
     def places_behind(self):
-        """How many places are written from here on, each behind a comma, up to the ) that ends them or the end of the text."""
+        """How many places are written from here on, each behind a comma, up to the ) that ends them, a : or the end of the text."""
         number = deep = 0
-        for token, _ in self.lexemes[self.next :]:
-            if token == b")" and deep == 0:
+        for (token, _), (behind, _) in zip(self.lexemes[self.next :], self.lexemes[self.next + 1 :]):
+            if token == b":" or (token == b")" and deep == 0):
                 break
-            number += token == b"," and deep == 0
+            number += token == b"," and deep == 0 and bool(behind == b"_" or IDENTIFIER.match(behind) or VARIABLE.match(behind))
             deep += (token == b"(") - (token == b")")
         return number
+
+    def no_word(self):
+        """What is said of a name that is no word: it may be the label of a question."""
+        behind = self.token(self.next + 1)
+        if behind == b"?":
+            return b"a question stands behind its pattern, and begins with its label"
+        blank = b"; in a question a blank is due behind the ?" if VARIABLE.match(behind) else b""
+        return b"no word %b in this vocabulary%b" % (self.token(), blank)
 
     def due(self, kind):
         words = b" or ".join(name for name, word in zip(self.words, self.records) if word.result == kind)
@@ -1033,12 +1042,12 @@ def complaint(data, fault):
     before = data[: fault.at]
     start = before.rfind(b"\n") + 1
     end = data.find(b"\n", start)
-    # A carriage return is a column, and is not shown.
+    # A carriage return is no column, and is not shown.
     passed = columns(before[start:])
     line = data[start : len(data) if end < 0 else end].replace(b"\r", b"")
     yield b"line %d, column %d: %b" % (before.count(b"\n") + 1, len(passed) + 1, fault.why)
     yield re.sub(rb"[^\t -~\x80-\xff]", b"?", line)
-    yield b"".join(b"\t" if byte == 9 else b" " for byte in passed if byte != 13) + b"^"
+    yield b"".join(b"\t" if byte == 9 else b" " for byte in passed) + b"^"
 
 
 def desk(data):
@@ -2031,6 +2040,12 @@ def desk_by_hand():
     # Of the four commas behind the second place one stands in further parentheses, and one behind the places.
     fault(13, "wait takes 2 places, and 4 are written", "wait(up, free, wait(up, free), up), free")
     fault(13, "wait takes 2 places, and 4 are written", "wait(up, free, up, up")
+    # A place is a term behind a comma, and none stands behind the colon of the next pattern's label.
+    fault(13, "wait takes 2 places, and no , is due here", "wait(up, free,)")
+    fault(13, "wait takes 2 places, and no , is due here", "wait(up, free, , kind lamp)")
+    fault(13, "wait takes 2 places, and 4 are written", "wait(up, free, _, ?n, )")
+    fault(13, "wait takes 2 places, and 3 are written", "wait(up, free, up", "go: wait(up, free), up")
+    assert told("kind k = a(k) | b", "x: a(b, b", "y: b") == "line 2, column 7: a takes 1 place, and 2 are written\nx: a(b, b\n      ^\n"
     fault(11, "wait takes 2 places, and fewer are written", "go: wait(up)")
     fault(8, "wait takes 2 places, and none is written", "go: wait, free")
     fault(12, "wait takes 2 places, in ( and ) with a , between them", "go: wait(up free)")
@@ -2049,15 +2064,18 @@ def desk_by_hand():
     fault(13, "a name is due here, for the kind", "wait(up, kind)")
     # Questions at fault: of the first thing that is open, or of what is at fault before it.
     go = "go: wait(up, free) "
-    fault(19, "this is not the label of the pattern before it, which a question asks", f"{go}stop ? done")
-    fault(5, "this is not the label of the pattern before it, which a question asks", "done go ? done")
+    fault(19, "a question begins with the label of the pattern before it, and this is another name", f"{go}stop ? done")
+    fault(5, "a question begins with the label of the pattern before it, and this is another name", "done go ? done")
     fault(29, "a situation has no open place and no name", f"{go}go ? wait(_, up)")
     fault(33, "a situation has no open place and no name", f"{go}go ? wait(up, ?n)")
     fault(24, "a situation has no open place and no name", f"{go}go ? _: step")
     fault(29, "no word held in this vocabulary", f"{go}go ? wait(held, _)")
     fault(24, "step is due here: wait or done", f"{go}go ? up")
     fault(24, "step is due here: wait or done", f"{go}go ? ")
-    fault(0, "no word go in this vocabulary", "go ? done")
+    fault(0, "a question stands behind its pattern, and begins with its label", "go ? done")
+    fault(0, "no word go in this vocabulary; in a question a blank is due behind the ?", "go ?done")
+    fault(19, "no word go in this vocabulary; in a question a blank is due behind the ?", f"{go}go ?wait(up, free)")
+    fault(4, "a question stands behind its pattern, and begins with its label", "go: stop # none", "? done")
     fault(0, "a pattern is due here", "? done")
     # At the end of the text, which may be a line of its own.
     assert told(*kinds, "go:", "") == "line 5, column 1: a pattern is due here\n\n^\n"
@@ -2081,9 +2099,9 @@ def desk_by_hand():
     for end, shown in (("\n", ""), ("", "kind a = b")):
         why = "a byte order mark stands here, and a text begins with `kind`"
         assert told(f"\ufeff{end}kind a = b") == lines(f"line 1, column 1: {why}", f"\ufeff{shown}", "^")
-    # A character beyond ASCII is one column, and so is a tab, which stays one below. A carriage return is a column that is not shown.
+    # A character beyond ASCII is one column, and so is a tab, which stays one below. A carriage return is none.
     assert told("kind ä = ö", "\tö ü(ö)\r") == "line 2, column 4: no word ü in this vocabulary\n\tö ü(ö)\n\t  ^\n"
-    assert told("kind a = b(a)\r", "b(\r c)\r") == "line 2, column 5: no word c in this vocabulary\nb( c)\n   ^\n"
+    assert told("kind a = b(a)\r", "b(\r c)\r") == "line 2, column 4: no word c in this vocabulary\nb( c)\n   ^\n"
     assert desk(b"kind a = b\n\0") == b"line 2, column 1: a pattern is due here\n?\n^\n"
 
     # Limits met, and passed by one: names of 32 bytes, 16 kinds, 96 words, 8 places, 64 names and 32 levels.
@@ -2127,7 +2145,7 @@ def desk_by_hand():
     assert told(*pairs, pair[:5105] + "p(?n,_)" + ")" * 10).startswith("# p(p(")
     for leaf, at in [("p(b,_)", 5107), ("p(?n,?m)", 5110)]:
         many = pair[:5105] + leaf + ")" * 10
-        why = "4096 bytes are the most for a pattern, and this one has more"
+        why = "4096 bytes are the most for a pattern or a situation, and this one has more"
         assert told(*pairs, many) == lines(f"line 2, column {at + 1}: {why}", many, " " * at + "^")
     # 64 patterns together, and 65.
     assert told("kind a = b | c", *["b"] * 64).endswith("# all 64 patterns of a together\n# 1 leftovers:\nc\n# end of 1 leftovers\n\n# end of 64 patterns\n")

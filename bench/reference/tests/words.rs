@@ -169,6 +169,27 @@ fn complaints() {
         "line 4, column 14: wait takes 2 places, and 4 are written\n\
             wait(up, free, wait(up, free), up), up\n             ^\n"
     );
+    // A comma without a term behind it does not count, nor one behind the colon
+    // of the next pattern.
+    assert_eq!(
+        bench("wait(up, free,)"),
+        "line 4, column 14: wait takes 2 places, and no , is due here\n\
+            wait(up, free,)\n             ^\n"
+    );
+    assert_eq!(
+        said("kind k = a(k) | b\nx: a(b, b\ny: b, b"),
+        "line 2, column 7: a takes 1 place, and 2 are written\nx: a(b, b\n      ^\n"
+    );
+    assert_eq!(
+        bench("go ? done"),
+        "line 4, column 1: a question stands behind its pattern, and begins with its label\n\
+            go ? done\n^\n"
+    );
+    assert_eq!(
+        bench("go: done go ?done"),
+        "line 4, column 10: no word go in this vocabulary; in a question a blank is due behind the ?\n\
+            go: done go ?done\n         ^\n"
+    );
     assert_eq!(
         bench("wait(up, free"),
         "line 4, column 14: wait takes 2 places, and a ) is due here\n\
@@ -210,7 +231,7 @@ fn complaints() {
         "line 1, column 16: kind lamp is used and not declared\n\
             kind step = on(lamp)\n               ^\n"
     );
-    // é and λ are two bytes each and one column; a carriage return is a column
+    // é and λ are two bytes each and one column; a carriage return is none
     // and is not shown; a bell is shown as ?.
     assert_eq!(
         said("kind é = λ # \u{7}\r\né: λ λ)\r\n"),
@@ -218,7 +239,7 @@ fn complaints() {
     );
     assert_eq!(
         said("kind é = λ\r\né:\rλ λ)"),
-        "line 2, column 7: a pattern is due here\né:λ λ)\n     ^\n"
+        "line 2, column 6: a pattern is due here\né:λ λ)\n     ^\n"
     );
     assert_eq!(
         said("kind a = b ?x\u{7}"),

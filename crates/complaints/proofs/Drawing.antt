@@ -1,12 +1,12 @@
 -- Drawing: what stands for a byte of a line.
 --
---   skips-return, skips-padded, skips-none     whether nothing stands for it
+--   skips-padded, skips-shown     whether nothing stands for it
 --   drawn-none, drawn-one     nothing, or one byte
 --   seen-tab, seen-padded, seen-low, seen-last, seen-same     which byte
 --   row-turn                  the next byte of a row
 --
 use mathlib.Core.Path.{_≡_, refl, sym, ap, ap₂, _∙_}
-use mathlib.Core.Bool.{Bool, true, false, not, _||_, _&&_, cond, or-false}
+use mathlib.Core.Bool.{Bool, true, false, not, _||_, _&&_, cond}
 use mathlib.Core.List.{List, [], _∷_, _++_}
 use Prim.Native.Nat.{ℕ, _+_, _<_, _≤_}
 use lib.Dec.{eqb, ltb}
@@ -18,27 +18,23 @@ use Rattle.texts.specs.Complaints.{follows}
 use Rattle.lexer.proofs.Turns.{here}
 use Rattle.complaints.specs.Parts.{skipped, drawn, seenAs}
 
-pub skips-return : (p : Bool) (b : ℕ) → b ≡ 13 → true ≡ skipped p b
-skips-return true b e = sym (ap (skipped true) e)
-skips-return false b e = sym (ap (skipped false) e)
-
-module _ (p : Bool) (b : ℕ) (n : b ≡ 13 → ⊥) where
+module _ (p : Bool) (b : ℕ) where
   pub skips-padded : p ≡ true → {t : Bool} → t ≡ follows b → t ≡ skipped p b
-  skips-padded e {t} f = f ∙ sym (ap (λ u. follows b || u) (ne-eqb b 13 n) ∙ or-false (follows b)) ∙ sym (ap (λ q. skipped q b) e)
+  skips-padded e f = f ∙ sym (ap (λ q. skipped q b) e)
 
-  pub skips-none : p ≡ false → false ≡ skipped p b
-  skips-none e = sym (ap (λ q. skipped q b) e ∙ ne-eqb b 13 n)
+  pub skips-shown : p ≡ false → eqb b 13 ≡ skipped p b
+  skips-shown e = sym (ap (λ q. skipped q b) e)
 
 first : (t : Bool) (a b : ℕ) → (cond t a b) ∷ [] ≡ cond t (a ∷ []) (b ∷ [])
 first true a b = refl
 first false a b = refl
 
 pub drawn-none : (p : Bool) (b : ℕ) → skipped p b ≡ true → [] ≡ drawn p b
-drawn-none true b e = sym (cond-true (follows b || eqb b 13) _ _ e)
+drawn-none true b e = sym (cond-true (follows b) _ _ e)
 drawn-none false b e = sym (cond-true (eqb b 13) _ _ e)
 
 pub drawn-one : (p : Bool) (b : ℕ) → skipped p b ≡ false → seenAs p b ∷ [] ≡ drawn p b
-drawn-one true b e = first (eqb b 9) b 32 ∙ sym (cond-false (follows b || eqb b 13) _ _ e)
+drawn-one true b e = first (eqb b 9) b 32 ∙ sym (cond-false (follows b) _ _ e)
 drawn-one false b e = first ((ltb b 32 && not (eqb b 9)) || eqb b 127) 63 b ∙ sym (cond-false (eqb b 13) _ _ e)
 
 pub seen-tab : (p : Bool) (b : ℕ) → b ≡ 9 → b ≡ seenAs p b

@@ -6,7 +6,7 @@
 --   drawn p b              the byte b of a line, as it is shown, or as it is padded
 --   aboutPlaces why        the reason may be that a ( stands where no place is due
 --   plain u why            what is said of the token u for a reason that has its text in the tables
---   otherText u why        what is said of the token u for a reason that is about no kind and no places
+--   otherText u v why      what is said of the token u for a reason that is about no kind and no places; v stands behind it
 --   placeText before last  line and column of the place behind the bytes before; last: those in its line
 --   pictureText line last  the line, and below it the mark behind the bytes last
 --
@@ -18,12 +18,12 @@ use lib.ListN.{getD, take}
 use Rattle.wire.specs.Row.{writeRow}
 use Rattle.wire.specs.Text.{ascii, newline, decimal}
 use Rattle.texts.specs.Lexemes.{Token}
-use Rattle.texts.specs.Faults.{kindDue, patternDue, placesWrong, placesOver}
-use Rattle.texts.specs.Complaints.{reasons, endings, tokenThen, noPatternText, unmarked, newlines, follows, columns, shown, padding, lineSize}
+use Rattle.texts.specs.Faults.{kindDue, patternDue, unknownWord, placesWrong, placesOver}
+use Rattle.texts.specs.Complaints.{reasons, endings, tokenThen, noPatternText, unknownText, unmarked, newlines, follows, columns, shown, padding, lineSize}
 pub use Rattle.dues.specs.Parts.{fault}
 
 abbrev pub skipped : Bool → ℕ → Bool
-skipped true b = follows b || eqb b 13
+skipped true b = follows b
 skipped false b = eqb b 13
 
 abbrev pub seenAs : Bool → ℕ → ℕ
@@ -40,10 +40,11 @@ aboutPlaces why = eqb why placesWrong || (eqb why placesOver || eqb why patternD
 abbrev pub plain : Token → ℕ → List ℕ
 plain u why = getD reasons why [] ++ tokenThen u (getD endings why [])
 
-abbrev pub otherText : Token → ℕ → List ℕ
-otherText u why =
+abbrev pub otherText : Token → Token → ℕ → List ℕ
+otherText u v why =
     cond (eqb why patternDue) (noPatternText u)
-    (cond (eqb why kindDue && unmarked u) (ascii "a byte order mark stands here, and a text begins with `kind`") (plain u why))
+    (cond (eqb why unknownWord) (unknownText u v)
+    (cond (eqb why kindDue && unmarked u) (ascii "a byte order mark stands here, and a text begins with `kind`") (plain u why)))
 
 abbrev pub placeText : List ℕ → List ℕ → List ℕ
 placeText before last =

@@ -6,7 +6,7 @@ ghost use Rattle.wire.specs.Row.{writeRow};
 ghost use Rattle.texts.specs.Lexemes.{lexemesFrom, tokenAt};
 ghost use Rattle.texts.specs.Names.{same, mark, opening};
 ghost use Rattle.texts.specs.Faults.{kindDue, termDue, otherKind, placesWrong, placesOver};
-ghost use Rattle.texts.specs.Complaints.{tokenThen, commasIn, noPatternText, unmarked, reasonText, complaint};
+ghost use Rattle.texts.specs.Complaints.{tokenThen, commasIn, noPatternText, tokenBehind, unknownText, unmarked, reasonText, complaint};
 ghost use Rattle.texts.specs.Tabled.{knownIn};
 ghost use Rattle.pages.specs.Pages.{Adds};
 ghost use Rattle.complaints.specs.Parts.{fault, seenAs, skipped, drawn, aboutPlaces, plain, otherText, placeText, pictureText};
@@ -30,7 +30,7 @@ fn put_plain(text: &[u8], at: usize, why: usize, page: &mut [u8; 1048576], to: u
 {
     let opened = pages::put(
         lines::line_of(
-            b"\n`kind` is due here, as a text begins with its kinds\na name is due here, for the kind\n32 bytes are the most for a name, and this one has more\nkind \n16 kinds are the most, and this is one more\na name is due here, for a word\nword \n96 words are the most, and this is one more\nthe name of a kind is due here\nkind \n8 places are the most, and this is one more\na , or a ) is due here\nno kind has a word\n\n\nno word \n\n\n32 levels are the most, and this is one more\n4096 bytes are the most for a pattern, and this one has more\n\n64 names are the most in a pattern, and this is one more\na : and a kind are due here, as in _: step\n65535 bytes are the most for a text, and this one has more\n\na situation has no open place and no name\nthis is not the label of the pattern before it, which a question asks\n",
+            b"\n`kind` is due here, as a text begins with its kinds\na name is due here, for the kind\n32 bytes are the most for a name, and this one has more\nkind \n16 kinds are the most, and this is one more\na name is due here, for a word\nword \n96 words are the most, and this is one more\nthe name of a kind is due here\nkind \n8 places are the most, and this is one more\na , or a ) is due here\nno kind has a word\n\n\n\n\n\n32 levels are the most, and this is one more\n4096 bytes are the most for a pattern or a situation, and this one has more\n\n64 names are the most in a pattern, and this is one more\na : and a kind are due here, as in _: step\n65535 bytes are the most for a text, and this one has more\n\na situation has no open place and no name\na question begins with the label of the pattern before it, and this is another name\n",
             why,
         ),
         page,
@@ -40,7 +40,7 @@ fn put_plain(text: &[u8], at: usize, why: usize, page: &mut [u8; 1048576], to: u
         text,
         at,
         lines::line_of(
-            b"\n\n\n\n is declared twice\n\n\n is declared twice\n\n\n is used and not declared\n\n\n\n\n\n in this vocabulary\n\n\n\n\n stands twice in this pattern\n\n\n\n\n\n\n",
+            b"\n\n\n\n is declared twice\n\n\n is declared twice\n\n\n is used and not declared\n\n\n\n\n\n\n\n\n\n\n stands twice in this pattern\n\n\n\n\n\n\n",
             why,
         ),
         page,
@@ -58,6 +58,27 @@ fn put_no_pattern(text: &[u8], at: usize, page: &mut [u8; 1048576], to: usize) -
     pages::put(b"a pattern is due here", page, to)
 }
 
+// Puts what is said of the name at an offset that is no word, by the token behind it.
+fn put_unknown(text: &[u8], at: usize, page: &mut [u8; 1048576], to: usize) -> usize
+    ensures { λ r. ⌜ Adds (now (page .entry)) to (now (page .exit)) r (unknownText (tokenAt (now (text .entry)) at) (tokenBehind (now (text .entry)) at)) ⌝ }
+{
+    let behind = lexer::start(text, lexer::end(text, at));
+    if lexer::is_mark(text, behind, b'?') {
+        return pages::put(
+            b"a question stands behind its pattern, and begins with its label",
+            page,
+            to,
+        );
+    }
+    let opened = pages::put(b"no word ", page, to);
+    let named = wording::put_token(text, at, page, opened);
+    let known = pages::put(b" in this vocabulary", page, named);
+    if lexer::is_variable(text, behind) {
+        return pages::put(b"; in a question a blank is due behind the ?", page, known);
+    }
+    known
+}
+
 // Whether a byte order mark stands at an offset where a text begins.
 fn is_marked(text: &[u8], at: usize, why: usize) -> bool
     ensures { λ r. ⌜ r ≡ (eqb why kindDue && unmarked (tokenAt (now (text .entry)) at)) ⌝ }
@@ -70,10 +91,13 @@ fn is_marked(text: &[u8], at: usize, why: usize) -> bool
 
 // Puts what is said of the token at an offset, for a reason that is about no kind and no places.
 fn put_other(text: &[u8], at: usize, why: usize, page: &mut [u8; 1048576], to: usize) -> usize
-    ensures { λ r. ⌜ Adds (now (page .entry)) to (now (page .exit)) r (otherText (tokenAt (now (text .entry)) at) why) ⌝ }
+    ensures { λ r. ⌜ Adds (now (page .entry)) to (now (page .exit)) r (otherText (tokenAt (now (text .entry)) at) (tokenBehind (now (text .entry)) at) why) ⌝ }
 {
     if why == 14 {
         return put_no_pattern(text, at, page, to);
+    }
+    if why == 16 {
+        return put_unknown(text, at, page, to);
     }
     if is_marked(text, at, why) {
         return pages::put(
@@ -142,7 +166,7 @@ fn put_reason(
     page: &mut [u8; 1048576],
     to: usize,
 ) -> usize
-    ensures { λ r. ⌜ Adds (now (page .entry)) to (now (page .exit)) r (reasonText (knownIn (now (text .entry)) (now (kinds .entry)) k (now (words .entry)) n (now (records .entry))) (fault why at of) (tokenAt (now (text .entry)) at) (commasIn 0 (lexemesFrom (now (text .entry)) at))) ⌝ }
+    ensures { λ r. ⌜ Adds (now (page .entry)) to (now (page .exit)) r (reasonText (knownIn (now (text .entry)) (now (kinds .entry)) k (now (words .entry)) n (now (records .entry))) (fault why at of) (tokenAt (now (text .entry)) at) (tokenBehind (now (text .entry)) at) (commasIn 0 (lexemesFrom (now (text .entry)) at))) ⌝ }
 {
     if names_kind(why) {
         return dues::put_due(text, of, kinds, k, words, n, records, page, to);
@@ -166,13 +190,10 @@ fn put_reason(
 fn skips(b: u8, padded: bool) -> bool
     ensures { λ r. ⌜ r ≡ skipped padded b ⌝ }
 {
-    if b == 13 {
-        return true;
-    }
     if padded {
         return lines::goes_on(b);
     }
-    false
+    b == 13
 }
 
 // The byte that stands for a byte of a line.

@@ -4,8 +4,8 @@
 --   between c              what stands before a word that is listed; c: another one stands before it
 --   alternative h c u      the word u in a list of words, where h says that it is listed
 --   dueWords T s           the words of kind s, listed
---   deeperAt d u           in how many parentheses what stands behind the token u is; u itself is in d
---   commaAt d u            1 where the token u is a , in one pair of parentheses, and else 0
+--   deeperAt d u           in how many parentheses what stands behind the token u is, 0 behind a :; u itself is in d
+--   commaAt d u v          1 where the token u is a , in one pair of parentheses and v, behind it, begins a term, and else 0
 --
 use mathlib.Core.Bool.{Bool, true, false, _&&_, cond}
 use mathlib.Core.List.{List, [], _++_}
@@ -14,9 +14,9 @@ use lib.Dec.{eqb}
 use lib.ListN.{length}
 use Rattle.wire.specs.Text.{ascii}
 use Rattle.texts.specs.Lexemes.{Token}
-use Rattle.texts.specs.Names.{same, mark, opening, comma, closing}
+use Rattle.texts.specs.Names.{same, mark, opening, comma, closing, colon}
 use Rattle.texts.specs.Faults.{Fault}
-use Rattle.texts.specs.Complaints.{Known, alternatives}
+use Rattle.texts.specs.Complaints.{Known, alternatives, beginsTerm}
 
 abbrev pub fault : ℕ → ℕ → ℕ → Fault
 fault why at of = record { why = why; at = at; of = of }
@@ -32,7 +32,7 @@ abbrev pub dueWords : Known → ℕ → List ℕ
 dueWords T s = alternatives T s (length (T .words)) 0 (ascii ": ")
 
 abbrev pub deeperAt : ℕ → Token → ℕ
-deeperAt d u = cond (same u (mark closing)) (d - 1) (cond (same u (mark opening)) (d + 1) d)
+deeperAt d u = cond (same u (mark colon)) 0 (cond (same u (mark closing)) (d - 1) (cond (same u (mark opening)) (d + 1) d))
 
-abbrev pub commaAt : ℕ → Token → ℕ
-commaAt d u = cond (eqb d 1 && same u (mark comma)) 1 0
+abbrev pub commaAt : ℕ → Token → Token → ℕ
+commaAt d u v = cond (eqb d 1 && (same u (mark comma) && beginsTerm v)) 1 0

@@ -8,7 +8,7 @@ ghost use Prim.Native.Nat.{_*_, _<_, _≤_, min};
 ghost use Rattle.terms.specs.Lists.{range};
 ghost use Rattle.texts.specs.Lexemes.{lexemesFrom, tokenAt};
 ghost use Rattle.texts.specs.Names.{nameAt};
-ghost use Rattle.texts.specs.Complaints.{dueText, commasIn, takesText, missingText, overText, placesText};
+ghost use Rattle.texts.specs.Complaints.{dueText, beginsTerm, commasIn, takesText, missingText, overText, placesText};
 ghost use Rattle.texts.specs.Tabled.{namesIn, tabledPlaces, knownIn};
 ghost use Rattle.pages.specs.Pages.{Adds};
 ghost use Rattle.dues.specs.Parts.{fault, between, alternative, dueWords, deeperAt, commaAt};
@@ -159,12 +159,15 @@ fn wide(n: u8) -> u64
     n as u64
 }
 
-// In how many parentheses what stands behind the token at an offset is; the token itself is in deep.
+// In how many parentheses what stands behind the token at an offset is; the token itself is in deep. A : ends them all.
 fn deeper(text: &[u8], at: usize, deep: usize) -> usize
     requires { ⌜ deep ≤ length (now text) ⌝ }
     requires { ⌜ 0 < deep ⌝ }
     ensures { λ r. ⌜ r ≡ deeperAt deep (tokenAt (now (text .entry)) at) ⌝ }
 {
+    if lexer::is_mark(text, at, b':') {
+        return 0;
+    }
     if lexer::is_mark(text, at, b')') {
         return deep - 1;
     }
@@ -174,20 +177,36 @@ fn deeper(text: &[u8], at: usize, deep: usize) -> usize
     deep
 }
 
-// How many places more the token at an offset stands for: a , in the outermost parentheses has one behind it.
-fn comma(text: &[u8], at: usize, deep: usize) -> u64
-    ensures { λ r. ⌜ r ≡ commaAt deep (tokenAt (now (text .entry)) at) ⌝ }
+// Whether a term may begin with the token at an offset.
+fn begins_term(text: &[u8], at: usize) -> bool
+    ensures { λ r. ⌜ r ≡ beginsTerm (tokenAt (now (text .entry)) at) ⌝ }
+{
+    if lexer::is_identifier(text, at) {
+        return true;
+    }
+    if lexer::is_mark(text, at, b'_') {
+        return true;
+    }
+    lexer::is_variable(text, at)
+}
+
+// How many places more the token at an offset stands for: a , in the outermost parentheses for one, where a term begins behind it.
+fn comma(text: &[u8], at: usize, next: usize, deep: usize) -> u64
+    ensures { λ r. ⌜ r ≡ commaAt deep (tokenAt (now (text .entry)) at) (tokenAt (now (text .entry)) next) ⌝ }
 {
     if deep != 1 {
         return 0;
     }
-    if lexer::is_mark(text, at, b',') {
+    if !lexer::is_mark(text, at, b',') {
+        return 0;
+    }
+    if begins_term(text, next) {
         return 1;
     }
     0
 }
 
-// How many , stand from an offset on before the ) that ends the places there.
+// How many , with a term behind them stand from an offset on, up to a : or the ) that ends the places there.
 fn count_commas(text: &[u8], from: usize) -> u64
     ensures { λ r. ⌜ r ≡ commasIn 0 (lexemesFrom (now (text .entry)) from) ⌝ }
     ensures { λ r. ⌜ r ≤ length (now (text .entry)) ⌝ }
@@ -196,12 +215,13 @@ fn count_commas(text: &[u8], from: usize) -> u64
     let mut deep = 1;
     let mut n = 0;
     while at < text.len() {
+        let next = lexer::start(text, lexer::end(text, at));
         deep = deeper(text, at, deep);
         if deep == 0 {
             return n;
         }
-        n += comma(text, at, deep);
-        at = lexer::start(text, lexer::end(text, at));
+        n += comma(text, at, next, deep);
+        at = next;
     }
     n
 }
@@ -235,13 +255,16 @@ fn put_missing(text: &[u8], at: usize, page: &mut [u8; 1048576], to: usize) -> u
 fn put_over(text: &[u8], at: usize, n: u8, page: &mut [u8; 1048576], to: usize) -> usize
     ensures { λ r. ⌜ Adds (now (page .entry)) to (now (page .exit)) r (overText (tokenAt (now (text .entry)) at) n (commasIn 0 (lexemesFrom (now (text .entry)) at))) ⌝ }
 {
-    if lexer::is_mark(text, at, b',') {
-        let written = wide(n) + count_commas(text, at);
-        let begun = pages::put(b", and ", page, to);
-        let counted = pages::put_number(written, page, begun);
-        return pages::put(b" are written", page, counted);
+    if !lexer::is_mark(text, at, b',') {
+        return pages::put(b", and a ) is due here", page, to);
     }
-    pages::put(b", and a ) is due here", page, to)
+    let more = count_commas(text, at);
+    if more == 0 {
+        return pages::put(b", and no , is due here", page, to);
+    }
+    let begun = pages::put(b", and ", page, to);
+    let counted = pages::put_number(wide(n) + more, page, begun);
+    pages::put(b" are written", page, counted)
 }
 
 // Puts how many places a word takes, and what is wrong with those that are written.

@@ -2,7 +2,7 @@
 --
 --   tally-more, tally-same, tally-end    a byte counts, it does not, and there is none: for any count of bytes
 --   newlines-few, columns-few, line-few  no more is counted than there are bytes
---   follows-low, follows-high            the test of a byte that goes on with a character
+--   follows-low, follows-high            the test of a byte that begins no character
 --   start-turn, start-end                the beginning of the last line, byte by byte
 --
 use mathlib.Core.Path.{_≡_, refl, sym, ap, ap₂, _∙_}
@@ -13,7 +13,7 @@ use native.Mathlib.Numerals.{add-one}
 use native.Mathlib.Omega.{arith}
 use lib.Dec.{eqb, ltb}
 use lib.ListN.{length, getD, drop, drop-of-length-le}
-use borrow.Author.Tests.{ltb-true, ltb-false, lt-ltb, le-ltb}
+use borrow.Author.Tests.{ne-eqb, ltb-true, ltb-false, lt-ltb, le-ltb}
 use Rattle.wire.proofs.Cond.{choice}
 use Rattle.texts.specs.Complaints.{newlines, columns, follows, lineStartFrom, lineSize}
 use Rattle.lexer.proofs.Turns.{here}
@@ -53,12 +53,14 @@ module _ (l : List ℕ) (i s : ℕ) {m : ℕ} (inv : lineStartFrom i s (drop i l
   pub start-end : length l ≤ i → s ≡ m
   start-end h = sym (ap (lineStartFrom i s) (drop-of-length-le l h)) ∙ inv
 
-pub follows-low : (b : ℕ) → b < 128 → false ≡ follows b
-follows-low b h = sym (ap (λ t. not (t || ltb 191 b)) (lt-ltb b 128 h))
+pub follows-low : (b : ℕ) → b < 128 → eqb b 13 ≡ follows b
+follows-low b h = sym (ap (λ t. not (t || ltb 191 b) || eqb b 13) (lt-ltb b 128 h))
 
 pub follows-high : (b : ℕ) → 128 ≤ b → ltb b 192 ≡ follows b
 follows-high b h = go (ltb b 192) refl
   where
     go : (t : Bool) → ltb b 192 ≡ t → t ≡ follows b
-    go true e = let m = ltb-true b 192 e in sym (ap₂ (λ p q. not (p || q)) (le-ltb b 128 h) (le-ltb 191 b (omega arith)))
-    go false e = let m = ltb-false b 192 e in sym (ap₂ (λ p q. not (p || q)) (le-ltb b 128 h) (lt-ltb 191 b (omega arith)))
+    go true e = let m = ltb-true b 192 e in sym (ap₂ (λ p q. not (p || q) || eqb b 13) (le-ltb b 128 h) (le-ltb 191 b (omega arith)))
+    go false e =
+        let m = ltb-false b 192 e in
+        sym (ap₂ (λ p q. not (p || q) || eqb b 13) (le-ltb b 128 h) (lt-ltb 191 b (omega arith)) ∙ ne-eqb b 13 (λ f. omega arith))

@@ -86,12 +86,12 @@ pub fn line_start(text: &[u8]) -> usize
     start
 }
 
-// Whether a byte goes on with a character that began before it.
+// Whether a byte begins no character: it goes on with one, or is a carriage return.
 pub fn goes_on(b: u8) -> bool
     ensures { λ r. ⌜ r ≡ follows b ⌝ }
 {
     if b < 128 {
-        return false;
+        return b == 13;
     }
     b < 192
 }

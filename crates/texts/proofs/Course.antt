@@ -3,16 +3,21 @@
 --
 --   questions-end, questions-bad, questions-more     where no question begins, where one is at fault, and where one is read
 --   questions-run, questions-go     how questions were read, and what is passed over
+--   questions-one            one more, where they are counted
+--   questions-fail           how they were read up to a fault
 --   paragraph-phrase, paragraph-questions, paragraph-read     where the pattern or a question is at fault, and where neither is
 --   Parts, paragraph-parts   what a paragraph was read of
+--   Failed, paragraph-fails  what is at fault in a paragraph
 --   paragraph-takes          what is passed over
---   goesOn l                 the text does not end there
+--   goesOn l, goes-some      the text does not end there
 --   paragraphs-end, paragraphs-bad, paragraphs-more     where it ends, where a paragraph is at fault, and where one is read
 --   paragraphs-run           how paragraphs were read
---   file-long, file-lexicon, file-paragraphs, file-well     what a file is read as
+--   paragraphs-one           one more, where they are counted
+--   paragraphs-fail          how they were read up to a fault
+--   by-lexicon, file-long, file-lexicon, file-paragraphs, file-well     what a file is read as
 --
 use mathlib.Core.Path.{_≡_, refl, sym, ap, subst, subst₂, _∙_}
-use mathlib.Core.Bool.{Bool, true, false, not, cond}
+use mathlib.Core.Bool.{Bool, true, false, not, cond, false≢true}
 use mathlib.Core.List.{List, [], _∷_}
 use Prim.Native.Nat.{ℕ, zero, suc, _<_, _≤_}
 use native.Mathlib.Omega.{arith}
@@ -31,7 +36,7 @@ use Rattle.texts.specs.PhraseReading.{readPhrase}
 use Rattle.texts.specs.QuestionReading.{beginsQuestion, readQuestion, readQuestions}
 use Rattle.texts.specs.Answering.{readWell, readIll, asParagraph, readParagraph, readParagraphs, vocabularyRead, knownRead, knownNothing, withParagraphs, withLexicon, readFile}
 use Rattle.texts.proofs.Passing.{Takes, Goes, goes-then, takes-then, passed-none, phrase-takes, question-takes}
-use Rattle.texts.proofs.Series.{then-same, several, Run, several-goes, several-end, several-bad, several-more, several-run}
+use Rattle.texts.proofs.Series.{then-same, several, Run, several-goes, several-end, several-bad, several-more, several-run, several-fails}
 
 -- ---- questions
 
@@ -64,6 +69,20 @@ module _ (N : List Token) (W : Vocabulary) (p : Phrase) where
       several-run beginsQuestion (readQuestion N W p) refl (question-takes N W p) (length l) l gs r (omega arith)
       (sym (questions-several (length l) l) ∙ e)
 
+  pub questions-one : (n : ℕ) (l m r : List Lexeme) (g : Ground) (gs : List Ground) → beginsQuestion l ≡ true → readQuestion N W p l ≡ parsed g m →
+      readQuestions N W p n m ≡ parsed gs r → readQuestions N W p (suc n) l ≡ parsed (g ∷ gs) r
+  questions-one n l m r g gs b e h =
+      cond-true (beginsQuestion l) _ (parsed [] l) b
+      ∙ ap (λ z. parseThen z (λ g r. parseThen (readQuestions N W p n r) (λ gs r′. parsed (g ∷ gs) r′))) e
+      ∙ ap (λ z. parseThen z (λ gs r′. parsed (g ∷ gs) r′)) h
+
+  pub questions-fail : (P : List Lexeme → Type 0) (x : Fault) →
+      ((l : List Lexeme) → beginsQuestion l ≡ true → readQuestion N W p l ≡ bad x → P l) →
+      ((l m : List Lexeme) (g : Ground) → beginsQuestion l ≡ true → readQuestion N W p l ≡ parsed g m → P m → P l) →
+      (l : List Lexeme) → asked l ≡ bad x → P l
+  questions-fail P x last before l e =
+      several-fails beginsQuestion (readQuestion N W p) P x last before (length l) l (sym (questions-several (length l) l) ∙ e)
+
   questions-go : (l : List Lexeme) → Goes l (asked l)
   questions-go l =
       subst (Goes l) (sym (questions-several (length l) l))
@@ -81,6 +100,13 @@ cond-not false a b = refl
 
 goes-on : (l : List Lexeme) → 0 < length (token l) → goesOn l ≡ true
 goes-on l h = ap not (ne-eqb (length (token l)) 0 (λ z. omega arith))
+
+pub goes-some : (l : List Lexeme) → goesOn l ≡ true → 1 ≤ length (token l)
+goes-some l e = go (token l) e
+  where
+    go : (u : Token) → not (eqb (length u) 0) ≡ true → 1 ≤ length u
+    go [] e = absurd (false≢true e)
+    go (b ∷ u) e = omega arith
 
 module _ (K N : List Token) (W : Vocabulary) where
   abbrev behindPhrase : Phrase → List Lexeme → Parsed Paragraph
@@ -119,6 +145,23 @@ module _ (K N : List Token) (W : Vocabulary) where
       phrases (bad x) h e = let z : _≡_ {A = ℕ} 0 1 = cc in absurd (omega arith)
       phrases (parsed p m) h e = asked-parts p m h (readQuestions N W p (length m) m) refl e
 
+  -- The pattern or a question is at fault.
+  pub data Failed (l : List Lexeme) (x : Fault) : Type 0 where
+    inPattern : readPhrase K N W l ≡ bad x → Failed l x
+    inQuestions : (p : Phrase) (m : List Lexeme) → readPhrase K N W l ≡ parsed p m → readQuestions N W p (length m) m ≡ bad x → Failed l x
+
+  pub paragraph-fails : (l : List Lexeme) (x : Fault) → readParagraph K N W l ≡ bad x → Failed l x
+  paragraph-fails l x e = phrases (readPhrase K N W l) refl e
+    where
+      questions : (p : Phrase) (m : List Lexeme) → readPhrase K N W l ≡ parsed p m → (y : Parsed (List Ground)) →
+          readQuestions N W p (length m) m ≡ y → parseThen y (λ gs r′. parsed (asParagraph p gs) r′) ≡ bad x → Failed l x
+      questions p m h (parsed gs r) k e = let z : _≡_ {A = ℕ} 0 1 = cc in absurd (omega arith)
+      questions p m h (bad y) k e = let f : y ≡ x = cc in inQuestions p m h (k ∙ ap bad f)
+
+      phrases : (y : Parsed Phrase) → readPhrase K N W l ≡ y → parseThen y behindPhrase ≡ bad x → Failed l x
+      phrases (bad y) h e = let f : y ≡ x = cc in inPattern (h ∙ ap bad f)
+      phrases (parsed p m) h e = questions p m h (readQuestions N W p (length m) m) refl e
+
   pub paragraph-takes : (l : List Lexeme) → Takes l (readParagraph K N W l)
   paragraph-takes l =
       takes-then l (readPhrase K N W l) behindPhrase (phrase-takes K N W l)
@@ -155,6 +198,21 @@ module _ (K N : List Token) (W : Vocabulary) where
       several-run goesOn (readParagraph K N W) refl (λ l e. paragraph-takes l) (length l) l qs r (omega arith)
       (sym (paragraphs-several (length l) l) ∙ e)
 
+  pub paragraphs-one : (n : ℕ) (l m r : List Lexeme) (q : Paragraph) (qs : List Paragraph) → goesOn l ≡ true → readParagraph K N W l ≡ parsed q m →
+      readParagraphs K N W n m ≡ parsed qs r → readParagraphs K N W (suc n) l ≡ parsed (q ∷ qs) r
+  paragraphs-one n l m r q qs b e h =
+      cond-not (eqb (length (token l)) 0) (parsed [] l) _
+      ∙ cond-true (goesOn l) _ (parsed [] l) b
+      ∙ ap (λ z. parseThen z (λ q r. parseThen (readParagraphs K N W n r) (λ qs r′. parsed (q ∷ qs) r′))) e
+      ∙ ap (λ z. parseThen z (λ qs r′. parsed (q ∷ qs) r′)) h
+
+  pub paragraphs-fail : (P : List Lexeme → Type 0) (x : Fault) →
+      ((l : List Lexeme) → goesOn l ≡ true → readParagraph K N W l ≡ bad x → P l) →
+      ((l m : List Lexeme) (q : Paragraph) → goesOn l ≡ true → readParagraph K N W l ≡ parsed q m → P m → P l) → (l : List Lexeme) →
+      told l ≡ bad x → P l
+  paragraphs-fail P x last before l e =
+      several-fails goesOn (readParagraph K N W) P x last before (length l) l (sym (paragraphs-several (length l) l) ∙ e)
+
 -- ---- a file
 
 module _ (b : List ℕ) where
@@ -162,7 +220,7 @@ module _ (b : List ℕ) where
   file-long h = cond-true _ _ _ (lt-ltb mostText (length b) h)
 
   module _ (short : length b ≤ mostText) where
-    by-lexicon : readFile b ≡ withLexicon (readLexicon (lexemes b))
+    pub by-lexicon : readFile b ≡ withLexicon (readLexicon (lexemes b))
     by-lexicon = cond-false _ _ _ (le-ltb mostText (length b) short)
 
     pub file-lexicon : (x : Fault) → readLexicon (lexemes b) ≡ bad x → readFile b ≡ readIll x knownNothing

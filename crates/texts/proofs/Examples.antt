@@ -15,7 +15,7 @@ use Rattle.wire.specs.Text.{ascii}
 use Rattle.texts.specs.Lexemes.{Token, tokens, lexemes}
 use Rattle.texts.specs.Lexicon.{WordText, KindText, Lexicon, kindNames, wordNames, lexiconTokens, lexiconText, vocabularyOf}
 use Rattle.texts.specs.Phrases.{phraseTokens, phraseText}
-use Rattle.texts.specs.Faults.{parsed, bad, otherKind, placesOver, notDeclared, kindTwice}
+use Rattle.texts.specs.Faults.{parsed, bad, otherKind, unknownWord, placesOver, notDeclared, kindTwice}
 use Rattle.texts.specs.Complaints.{Known, complaint}
 use Rattle.texts.specs.LexiconReading.{readLexicon}
 use Rattle.texts.specs.PhraseReading.{readPhrase}
@@ -109,3 +109,23 @@ complains-twice = refl
 complains-over : complaint (ascii "wait(up, free, up)\r\n") known (record { why = placesOver; at = 13; of = 0 }) ≡
     ascii "line 1, column 14: wait takes 2 places, and 3 are written\nwait(up, free, up)\n             ^\n"
 complains-over = refl
+
+complains-comma : complaint (ascii "wait(up, free,)") known (record { why = placesOver; at = 13; of = 0 }) ≡
+    ascii "line 1, column 14: wait takes 2 places, and no , is due here\nwait(up, free,)\n             ^\n"
+complains-comma = refl
+
+complains-open : complaint (ascii "wait(up, free, _\ngo: done, up") known (record { why = placesOver; at = 13; of = 0 }) ≡
+    ascii "line 1, column 14: wait takes 2 places, and 3 are written\nwait(up, free, _\n             ^\n"
+complains-open = refl
+
+complains-question : complaint (ascii "go ? done") known (record { why = unknownWord; at = 0; of = 0 }) ≡
+    ascii "line 1, column 1: a question stands behind its pattern, and begins with its label\ngo ? done\n^\n"
+complains-question = refl
+
+complains-blank : complaint (ascii "go ?done") known (record { why = unknownWord; at = 0; of = 0 }) ≡
+    ascii "line 1, column 1: no word go in this vocabulary; in a question a blank is due behind the ?\ngo ?done\n^\n"
+complains-blank = refl
+
+complains-return : complaint (ascii "wait(\rup, up)\r\n") known (record { why = otherKind; at = 10; of = 2 }) ≡
+    ascii "line 1, column 10: queue is due here: free or full\nwait(up, up)\n         ^\n"
+complains-return = refl

@@ -1,6 +1,7 @@
 -- FilesExact: what is read as a file is one, and the text is a text of it.
 --
---   lexicon-rises              behind a vocabulary offsets rise as in the whole text
+--   lexicon-behind             what is left behind a vocabulary is the end of the text ..
+--   lexicon-rises, lexicon-ended     .. so that offsets rise there, and it ends as the text does
 --   ended-here, calm-end       where the text ends, and that no `kind` stands there
 --   questions-so               questions that were read are good, and their tokens are those that were read
 --   paragraph-so, paragraphs-so     so are paragraphs, under a good vocabulary
@@ -22,7 +23,7 @@ use Rattle.wire.specs.Vocabulary.{Vocabulary}
 use Rattle.wire.proofs.Cond.{choice}
 use Rattle.texts.specs.Lexemes.{Token, Lexeme, lexemes}
 use Rattle.texts.specs.Names.{same, kindWord}
-use Rattle.texts.specs.Lexicon.{Lexicon, kindNames, wordNames, vocabularyOf, lexiconTokens, GoodLexicon}
+use Rattle.texts.specs.Lexicon.{Lexicon, kindNames, wordNames, vocabularyOf, kindsTokens, lexiconTokens, GoodLexicon}
 use Rattle.texts.specs.Phrases.{Phrase, labelTokens, phraseTokens, wholeTokens, GoodWhole}
 use Rattle.texts.specs.Questions.{questionTokens, questionsTokens, GoodQuestion}
 use Rattle.texts.specs.Files.{mostText, Paragraph, File, paragraphTokens, paragraphsTokens, GoodParagraph, IsText}
@@ -30,44 +31,56 @@ use Rattle.texts.specs.Faults.{Parsed, parsed, bad, place, noWords, long
 use Rattle.texts.specs.LexiconReading.{Names?, named, misnamed, readKindNames, Declaring, rowsOf, beginning, Stepped, on, over, fails, step, LexiconRead, ended, stepped, readRows, withNames, readLexicon}
 use Rattle.texts.specs.QuestionReading.{beginsQuestion, readQuestion}
 use Rattle.texts.specs.Answering.{readWell, readIll, readParagraph, readParagraphs, vocabularyRead, withParagraphs, withLexicon, knownNothing}
-use Rattle.texts.specs.Laws.{tokensOf, lexiconRead, Closes, Ascending, FilesAreExact}
+use Rattle.texts.specs.Laws.{tokensOf, lexiconRead, Ascending, FilesAreExact}
 use Rattle.texts.proofs.Spelling.{some-token, spelling-is-exact}
 use Rattle.texts.proofs.Closing.{text-closes}
-use Rattle.texts.proofs.Rising.{rises-rest, lexemes-ascend}
+use Rattle.texts.proofs.Rising.{rises-right, lexemes-ascend}
 use Rattle.texts.proofs.PhrasesExact.{phrases-exact}
 use Rattle.texts.proofs.QuestionsExact.{questions-exact}
-use Rattle.texts.proofs.LexiconsExact.{lexicon-rest, lexicons-exact}
+use Rattle.texts.proofs.LexiconsExact.{withLate, lexicon-before, lexicons-exact}
 use Rattle.texts.proofs.FilesRead.{vocabularies-are-read}
-use Rattle.texts.proofs.Passing.{Ended, ended-rest, ended-lexed, ended-closes, closes-some, text-ended, text-tokens, Calm, Passed, Takes, phrase-takes, question-takes}
+use Rattle.texts.proofs.Passing.{Ended, ended-rest, ended-lexed, ended-closes, closes-some, text-ended, text-tokens, Calm, Passed, passed-rises, Takes, phrase-takes, question-takes}
 use Rattle.texts.proofs.Series.{Run, stop, more, run-passed}
 use Rattle.texts.proofs.Course.{questions-run, paragraph-parts, paragraph-takes, goesOn, paragraphs-run}
 
 -- ---- behind the vocabulary
 
-abbrev Rises : Parsed LexiconRead → Type 0
-Rises (parsed a r) = Ascending r
-Rises (bad x) = Unit {0}
+abbrev Behind : List Lexeme → Parsed LexiconRead → Type 0
+Behind l (parsed a r) = (done : List Lexeme) × (l ≡ done ++ r)
+Behind l (bad x) = Unit {0}
 
-ended-rises : (K : List Token) (x : Declaring) (l : List Lexeme) → Ascending l → Rises (ended K x l)
-ended-rises K x l a =
-    choice Rises (eqb (length (x .names)) 0) (bad (record { why = noWords; at = place l; of = 0 }))
-    (parsed (record { kindNames = K; wordNames = x .names; rows = rowsOf x }) l) (λ e. tt) (λ e. a)
+behind-more : (y : Lexeme) (l : List Lexeme) (g : Parsed LexiconRead) → Behind l g → Behind (y ∷ l) g
+behind-more y l (parsed a r) h = (y ∷ h .0, ap (λ (z : List Lexeme). y ∷ z) (h .1))
+behind-more y l (bad x) h = tt
 
-rows-rise : (K : List Token) (l : List Lexeme) (x : Declaring) → Ascending l → Rises (readRows K x l)
-rows-rise K [] x a = ended-rises K x [] a
-rows-rise K (y ∷ l) x a = go (λ z. rows-rise K l z (rises-rest y l a)) (step K x (y .token))
+ended-behind : (K : List Token) (x : Declaring) (l : List Lexeme) → Behind l (ended K x l)
+ended-behind K x l =
+    choice (Behind l) (eqb (length (x .names)) 0) (bad (record { why = noWords; at = place l; of = 0 }))
+    (parsed (record { kindNames = K; wordNames = x .names; rows = rowsOf x }) l) (λ e. tt) (λ e. ([], refl))
+
+rows-behind : (K : List Token) (l : List Lexeme) (x : Declaring) → Behind l (readRows K x l)
+rows-behind K [] x = ended-behind K x []
+rows-behind K (y ∷ l) x = go (rows-behind K l) (step K x (y .token))
   where
-    go : ((z : Declaring) → Rises (readRows K z l)) → (s : Stepped) → Rises (stepped (λ z. readRows K z l) K x (y ∷ l) s)
-    go ih (on z) = ih z
-    go ih over = ended-rises K x (y ∷ l) a
+    go : ((z : Declaring) → Behind l (readRows K z l)) → (s : Stepped) → Behind (y ∷ l) (stepped (λ z. readRows K z l) K x (y ∷ l) s)
+    go ih (on z) = behind-more y l (readRows K z l) (ih z)
+    go ih over = ended-behind K x (y ∷ l)
     go ih (fails why) = tt
 
-lexicon-rises : (l r : List Lexeme) (a : LexiconRead) → Ascending l → readLexicon l ≡ parsed a r → Ascending r
-lexicon-rises l r a h e = subst Rises e (go (readKindNames [] l))
+pub lexicon-behind : (l r : List Lexeme) (a : LexiconRead) → readLexicon l ≡ parsed a r → (done : List Lexeme) × (l ≡ done ++ r)
+lexicon-behind l r a e = subst (Behind l) e (go (readKindNames [] l))
   where
-    go : (n : Names?) → Rises (withNames l n)
-    go (named K) = rows-rise K l beginning h
+    go : (n : Names?) → Behind l (withNames l n)
+    go (named K) = rows-behind K l beginning
     go (misnamed x) = tt
+
+pub lexicon-rises : (l r : List Lexeme) (a : LexiconRead) → Ascending l → readLexicon l ≡ parsed a r → Ascending r
+lexicon-rises l r a h e = let k = lexicon-behind l r a e in rises-right (k .0) r (subst Ascending (k .1) h)
+
+pub lexicon-ended : (l r : List Lexeme) (a : LexiconRead) → Ended (tokensOf l) → readLexicon l ≡ parsed a r → Ended (tokensOf r)
+lexicon-ended l r a c e =
+    let h = lexicon-before l r a (ended-lexed l c) (ended-closes l c) e in
+    ended-rest (kindsTokens (kindNames (withLate (h .before) r)) (h .before)) (tokensOf r) (subst Ended (h .tokens) c) (closes-some r (h .closes))
 
 -- ---- the end
 
@@ -99,19 +112,19 @@ module _ (X : Lexicon) (lex : GoodLexicon X) where
   abbrev W : Vocabulary
   W = vocabularyOf X
 
-  questions-so : (p : Phrase) → GoodWhole X p → {l r : List Lexeme} {gs : List Ground} → Run beginsQuestion (readQuestion N W p) l gs r →
+  pub questions-so : (p : Phrase) → GoodWhole X p → {l r : List Lexeme} {gs : List Ground} → Run beginsQuestion (readQuestion N W p) l gs r →
       Ended (tokensOf l) → Ascending l → All (GoodQuestion X p) gs × (tokensOf l ≡ questionsTokens X p gs ++ tokensOf r)
   questions-so p whole (stop l e) c a = (tt, refl)
   questions-so p whole (more l m r g gs b e run) c a =
       let passed = subst (Takes l) e (question-takes N W p l b) .0 in
       let one = questions-exact X p g l m lex whole (ended-lexed l c) (ended-closes l c) a b e in
-      let others = questions-so p whole run (passed .ended c) (passed .ascend a) in (
+      let others = questions-so p whole run (passed .ended c) (passed-rises passed a) in (
         (one .0, others .0),
         one .1 ∙ ap (λ (us : List Token). questionTokens X p g ++ us) (others .1)
             ∙ sym (append-assoc (questionTokens X p g) (questionsTokens X p gs) (tokensOf r)),
       )
 
-  paragraph-so : (q : Paragraph) (l r : List Lexeme) → readParagraph K N W l ≡ parsed q r → Ended (tokensOf l) → Ascending l →
+  pub paragraph-so : (q : Paragraph) (l r : List Lexeme) → readParagraph K N W l ≡ parsed q r → Ended (tokensOf l) → Ascending l →
       GoodParagraph X q × (tokensOf l ≡ paragraphTokens X q ++ tokensOf r)
   paragraph-so q l r e c a =
       let p = q .phrase in
@@ -122,20 +135,20 @@ module _ (X : Lexicon) (lex : GoodLexicon X) where
       let h = phrases-exact X l m p lex (ended-lexed l c) (parts .phrase) in
       let whole : GoodWhole X p = record { label = h .0; phrase = h .1 } in
       let passed = subst (Takes l) (parts .phrase) (phrase-takes K N W l) .0 in
-      let k = questions-so p whole (questions-run N W p m (q .situations) r (parts .questions)) (passed .ended c) (passed .ascend a) in (
+      let k = questions-so p whole (questions-run N W p m (q .situations) r (parts .questions)) (passed .ended c) (passed-rises passed a) in (
         record { phrase = whole; questions = k .0 },
         h .2 ∙ sym (append-assoc (labelTokens (p .label)) own (tokensOf m))
             ∙ ap (λ (us : List Token). wholeTokens X p ++ us) (k .1)
             ∙ sym (append-assoc (wholeTokens X p) asked (tokensOf r)),
       )
 
-  paragraphs-so : {l r : List Lexeme} {qs : List Paragraph} → Run goesOn (readParagraph K N W) l qs r → Ended (tokensOf l) → Ascending l →
+  pub paragraphs-so : {l r : List Lexeme} {qs : List Paragraph} → Run goesOn (readParagraph K N W) l qs r → Ended (tokensOf l) → Ascending l →
       All (GoodParagraph X) qs × (tokensOf l ≡ paragraphsTokens X qs ++ tokensOf r)
   paragraphs-so (stop l e) c a = (tt, refl)
   paragraphs-so (more l m r q qs b e run) c a =
       let passed = subst (Takes l) e (paragraph-takes K N W l) .0 in
       let one = paragraph-so q l m e c a in
-      let others = paragraphs-so run (passed .ended c) (passed .ascend a) in (
+      let others = paragraphs-so run (passed .ended c) (passed-rises passed a) in (
         (one .0, others .0),
         one .1 ∙ ap (λ (us : List Token). paragraphTokens X q ++ us) (others .1)
             ∙ sym (append-assoc (paragraphTokens X q) (paragraphsTokens X qs) (tokensOf r)),
@@ -164,11 +177,8 @@ exact b a r qs r′ short e h = (
   refl,
 )
   where
-    behind : Closes r × ((us : List Token) × (tokensOf (lexemes b) ≡ us ++ tokensOf r))
-    behind = lexicon-rest (lexemes b) r a (text-tokens b) (text-closes b) e
-
     atEnd : Ended (tokensOf r)
-    atEnd = ended-rest (behind .1 .0) (tokensOf r) (subst Ended (behind .1 .1) (text-ended b)) (closes-some r (behind .0))
+    atEnd = lexicon-ended (lexemes b) r a (text-ended b) e
 
     reader : List Lexeme → Parsed Paragraph
     reader = readParagraph (a .kindNames) (a .wordNames) (vocabularyRead a)

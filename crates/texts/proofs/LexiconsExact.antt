@@ -9,7 +9,8 @@
 --   Outcome p n N D L us       one of these, by the phase
 --   one-place, one-word, one-kind      one thing more
 --   outcome                    what is read of l has an outcome
---   kinds-left, lexicon-rest   what is read of a vocabulary, and what stands behind it, with a `kind` among it or not
+--   bare-names, bare-words, bare-rows      kinds without words behind others
+--   withLate, LexiconBefore, lexicon-before     what is read of a vocabulary, where a `kind` may stand behind it
 --   lexicons-exact             the law
 --
 use mathlib.Core.Path.{_≡_, refl, sym, _∙_, ap, ap₂, subst}
@@ -22,18 +23,18 @@ use lib.Dec.{eqb, ltb}
 use lib.ListN.{length, length-append, length-map}
 use borrow.Author.Tests.{ltb-true, eqb-false}
 use Rattle.terms.specs.Lists.{All}
-use Rattle.terms.proofs.All.{all-append, all-map, all-implies}
+use Rattle.terms.proofs.All.{all-append, all-map, all-unmap, all-implies}
 use Rattle.wire.specs.Vocabulary.{mostWords}
 use Rattle.texts.specs.Lexemes.{Token, Lexeme}
 use Rattle.texts.specs.Names.{same, kindWord, mark, comma, bar, equals, opening, closing, mostName, isIdentifier, IsIdentifier, indexIn, nameAt, Distinct}
 use Rattle.texts.specs.Spelling.{IsToken}
-use Rattle.texts.specs.Lexicon.{WordText, KindText, Lexicon, kindNames, allWords, wordNames, placeKindTokens, withPlaces, wordsTokens, kindsTokens, lexiconTokens, mostPlaces, GoodWord, GoodLexicon}
+use Rattle.texts.specs.Lexicon.{WordText, KindText, Lexicon, kindNames, allWords, wordNames, placeKindTokens, withPlaces, wordsTokens, kindsTokens, mostPlaces, GoodWord, GoodLexicon}
 use Rattle.texts.specs.Faults.{parsed, bad, token, place, kindDue, placeDue, notDeclared, manyPlaces, placeEnd, noWords}
 use Rattle.texts.specs.LexiconReading.{wordNameWhy, placeWhy, Names?, named, misnamed, readKindNames, WordRow, Phase, atStart, atKind, behindKind, atWord, behindWord, atPlace, behindPlace, behindPlaces, Declaring, Stepped, over, fails, goTo, stepWord, grown, stepPlace, stepOn, LexiconRead, stepped, readRows, withNames, readLexicon}
-use Rattle.texts.specs.Laws.{tokensOf, rowsFrom, lexiconRead, Closes, LexiconsExact, namesBehind}
+use Rattle.texts.specs.Laws.{tokensOf, rowsFrom, lexiconRead, Closes, LexiconsExact, namesBehind, bareKinds}
 use Rattle.texts.proofs.Lookups.{same-eq, identifier-some, at-index, distinct-more}
 use Rattle.texts.proofs.Closing.{closes-next}
-use Rattle.texts.proofs.KindNames.{NameFits, name-fits, identifier, names-kinds, names-quiet, Called, KindsFine, NamesRead, read-names}
+use Rattle.texts.proofs.KindNames.{NameFits, name-fits, identifier, names-kinds, names-quiet, Called, called-identifiers, KindsFine, NamesRead, read-names}
 use Rattle.texts.proofs.LexiconsRead.{state, rowOf, name}
 
 abbrev Tokened : Lexeme → Type 0
@@ -418,71 +419,118 @@ some-kind (x ∷ X) h = omega arith
 pub no-kinds : KindsFine []
 no-kinds = record { identifiers = tt; different = tt; few = omega arith }
 
-abbrev Exact : List Lexeme → List Lexeme → LexiconRead → Type 0
-Exact l r a = (X : Lexicon) × GoodLexicon X × (a ≡ lexiconRead X) × (tokensOf l ≡ lexiconTokens X ++ tokensOf r)
+-- ---- kinds without words, behind the others
 
-exact : (l r : List Lexeme) (a : LexiconRead) (K : List Token) → All (λ (x : Lexeme). same (x .token) kindWord ≡ false) r → NamesRead [] K l → KindsLeft K r a 0 [] [] (tokensOf l) → Exact l r a
-exact l r a K quiet m k = (X, good, read, k .tokens ∙ ap (λ (M : List Token). kindsTokens M X ++ tokensOf r) kinds)
+bare-names : (X : Lexicon) (us : List Token) → kindNames (X ++ bareKinds us) ≡ kindNames X ++ us
+bare-names [] [] = refl
+bare-names [] (u ∷ us) = ap (λ (vs : List Token). u ∷ vs) (bare-names [] us)
+bare-names (x ∷ X) us = ap (λ (vs : List Token). x .name ∷ vs) (bare-names X us)
+
+bare-words : (X : Lexicon) (us : List Token) → allWords (X ++ bareKinds us) ≡ allWords X
+bare-words [] [] = refl
+bare-words [] (u ∷ us) = bare-words [] us
+bare-words (x ∷ X) us = ap (λ (ws : List WordText). x .words ++ ws) (bare-words X us)
+
+bare-rows : (k : ℕ) (X : Lexicon) (us : List Token) → rowsFrom k (X ++ bareKinds us) ≡ rowsFrom k X
+bare-rows k [] [] = refl
+bare-rows k [] (u ∷ us) = bare-rows (suc k) [] us
+bare-rows k (x ∷ X) us = ap (λ (R : List WordRow). map (rowOf k) (x .words) ++ R) (bare-rows (suc k) X us)
+
+-- ---- the vocabulary as a whole
+
+-- The vocabulary Y, and the kinds that are named in the lexemes r behind it.
+abbrev pub withLate : Lexicon → List Lexeme → Lexicon
+withLate Y r = Y ++ bareKinds (namesBehind (tokensOf r))
+
+pub record LexiconBefore (l r : List Lexeme) (a : LexiconRead) : Type 0 where
+  pub before : Lexicon
+  pub good : GoodLexicon (withLate before r)
+  pub kinds : kindNames (withLate before r) ≡ namesBehind (tokensOf l)
+  pub read : a ≡ lexiconRead (withLate before r)
+  pub tokens : tokensOf l ≡ kindsTokens (kindNames (withLate before r)) before ++ tokensOf r
+  pub closes : Closes r
+
+before : (l r : List Lexeme) (a : LexiconRead) (K : List Token) → All Tokened l → NamesRead [] K l → KindsLeft K r a 0 [] [] (tokensOf l) →
+    LexiconBefore l r a
+before l r a K tokened m k = record {
+  before = Y;
+  good = record {
+    kinds =
+        all-unmap IsIdentifier (λ (x : KindText). x .name) X
+        (subst (All IsIdentifier) (sym (m .names) ∙ kinds)
+        (called-identifiers l (all-map (λ u. (u ≡ []) ⊎ IsToken u) (λ (x : Lexeme). x .token) l tokened) (m .called)));
+    differentKinds = subst Distinct kinds (m .fine .different);
+    someKind = some-kind X some;
+    fewKinds = omega (arith, m .fine .few, count);
+    words =
+        subst (All (GoodWord (length X))) (sym (bare-words Y late)) (subst (λ n. All (GoodWord n) (allWords Y)) count (k .goodWords));
+    differentWords = subst Distinct names (k .end .different);
+    someWord = some;
+    fewWords = omega (arith, k .end .few, words);
+  };
+  kinds = sym kinds ∙ m .names;
+  read = λ i. record { kindNames = (k .end .kinds ∙ kinds) i; wordNames = names i; rows = (k .rows ∙ sym (bare-rows 0 Y late)) i };
+  tokens = k .tokens ∙ ap (λ (M : List Token). kindsTokens M Y ++ tokensOf r) kinds;
+  closes = k .end .closes;
+}
   where
+    Y : Lexicon
+    Y = k .kinds
+
+    late : List Token
+    late = namesBehind (tokensOf r)
+
     X : Lexicon
-    X = k .kinds
+    X = withLate Y r
 
     kinds : K ≡ kindNames X
     kinds =
         m .names ∙ ap namesBehind (k .tokens) ∙
-        names-kinds K (m .fine .identifiers) X (tokensOf r)
-        (all-implies (λ (x : KindText). IsIdentifier (x .name)) (λ (x : KindText). isIdentifier (x .name) ≡ true) (λ x i. i .identifier) X
+        names-kinds K (m .fine .identifiers) Y (tokensOf r)
+        (all-implies (λ (x : KindText). IsIdentifier (x .name)) (λ (x : KindText). isIdentifier (x .name) ≡ true) (λ x i. i .identifier) Y
         (k .goodKinds))
         (k .goodWords) ∙
-        ap (λ (us : List Token). kindNames X ++ us)
-        (names-quiet (tokensOf r) (all-map (λ u. same u kindWord ≡ false) (λ (x : Lexeme). x .token) r quiet)) ∙
-        append-nil (kindNames X)
+        sym (bare-names Y late)
 
     count : length K ≡ length X
     count = ap length kinds ∙ length-map X (λ (x : KindText). x .name)
 
+    names : a .wordNames ≡ wordNames X
+    names = k .names ∙ ap (map name) (sym (bare-words Y late))
+
     words : length (a .wordNames) ≡ length (allWords X)
-    words = ap length (k .names) ∙ length-map (allWords X) name
+    words = ap length names ∙ length-map (allWords X) name
 
     some : 1 ≤ length (allWords X)
     some = omega (arith, k .end .some, words)
 
-    good : GoodLexicon X
-    good = record {
-      kinds = k .goodKinds;
-      differentKinds = subst Distinct kinds (m .fine .different);
-      someKind = some-kind X some;
-      fewKinds = omega (arith, m .fine .few, count);
-      words = subst (λ n. All (GoodWord n) (allWords X)) count (k .goodWords);
-      differentWords = subst Distinct (k .names) (k .end .different);
-      someWord = some;
-      fewWords = omega (arith, k .end .few, words);
-    }
-
-    read : a ≡ lexiconRead X
-    read = λ i. record { kindNames = (k .end .kinds ∙ kinds) i; wordNames = k .names i; rows = k .rows i }
-
--- What was read, and the names of its kinds, before it is known that no `kind` stands behind.
-kinds-left : (l r : List Lexeme) (a : LexiconRead) → All Tokened l → Closes l → readLexicon l ≡ parsed a r →
-    (K : List Token) × NamesRead [] K l × KindsLeft K r a 0 [] [] (tokensOf l)
-kinds-left l r a tokened closes e = go (readKindNames [] l) refl e
+pub lexicon-before : (l r : List Lexeme) (a : LexiconRead) → All Tokened l → Closes l → readLexicon l ≡ parsed a r → LexiconBefore l r a
+lexicon-before l r a tokened closes e = go (readKindNames [] l) refl e
   where
-    go : (n : Names?) → readKindNames [] l ≡ n → withNames l n ≡ parsed a r → (K : List Token) × NamesRead [] K l × KindsLeft K r a 0 [] [] (tokensOf l)
+    go : (n : Names?) → readKindNames [] l ≡ n → withNames l n ≡ parsed a r → LexiconBefore l r a
     go (misnamed x) h e = let z : _≡_ {A = ℕ} 0 1 = cc in absurd (omega arith)
     go (named K) h e =
-        let m : NamesRead [] K l = read-names [] K l no-kinds h in (
-          K,
-          m,
-          outcome K r a l atStart 0 [] [] [] (record { tokens = tokened; closes = closes; called = m .called })
-              (record { different = tt; few = omega arith }) tt e,
-        )
-
-pub lexicon-rest : (l r : List Lexeme) (a : LexiconRead) → All Tokened l → Closes l → readLexicon l ≡ parsed a r →
-    Closes r × ((us : List Token) × (tokensOf l ≡ us ++ tokensOf r))
-lexicon-rest l r a tokened closes e =
-    let h = kinds-left l r a tokened closes e in
-    (h .2 .end .closes, (kindsTokens (h .0) (h .2 .kinds), h .2 .tokens))
+        let m : NamesRead [] K l = read-names [] K l no-kinds h in
+        before l r a K tokened m
+        (outcome K r a l atStart 0 [] [] [] (record { tokens = tokened; closes = closes; called = m .called })
+        (record { different = tt; few = omega arith }) tt e)
 
 pub lexicons-exact : LexiconsExact
-lexicons-exact l r a tokened closes e quiet =
-    let h = kinds-left l r a tokened closes e in exact l r a (h .0) quiet (h .1) (h .2)
+lexicons-exact l r a tokened closes e quiet = (
+  Y,
+  subst GoodLexicon whole (h .good),
+  h .read ∙ ap lexiconRead whole,
+  h .tokens ∙ ap (λ (X : Lexicon). kindsTokens (kindNames X) Y ++ tokensOf r) whole,
+)
+  where
+    h : LexiconBefore l r a
+    h = lexicon-before l r a tokened closes e
+
+    Y : Lexicon
+    Y = h .before
+
+    whole : withLate Y r ≡ Y
+    whole =
+        ap (λ (us : List Token). Y ++ bareKinds us)
+        (names-quiet (tokensOf r) (all-map (λ u. same u kindWord ≡ false) (λ (x : Lexeme). x .token) r quiet)) ∙
+        append-nil Y

@@ -50,6 +50,7 @@ pub mod Course
 pub mod Beginnings
 pub mod FilesRead
 pub mod FilesExact
+pub mod FileFaults
 pub mod Entries
 pub mod BookEntries
 pub mod Blocks

@@ -9,6 +9,7 @@
 --   Calm l                     no `kind` is among the lexemes l
 --   Fit u                      the token u is neither `kind` nor empty
 --   Passed l r                 r is what is left of l behind lexemes that are fit
+--   passed-rises               offsets rise in it as in l
 --   Goes l g, Takes l g        what was read as g passed so; it took one lexeme at least
 --   fit-mark, fit-name, ..     a token that passes a test of the readers is fit
 --   term-takes, phrase-takes   a term, a pattern, whatever the names and the vocabulary
@@ -16,7 +17,7 @@
 --
 use mathlib.Core.Path.{_≡_, refl, sym, _∙_, ap, subst}
 use mathlib.Core.Bool.{true, false, _&&_, false≢true}
-use mathlib.Core.List.{List, [], _∷_, _++_}
+use mathlib.Core.List.{List, [], _∷_, _++_, append-assoc}
 use mathlib.Core.Logic.{_⊎_, inl, inr}
 use mathlib.Core.Option.{Option, some, none}
 use Prim.Native.Nat.{ℕ, zero, suc, _+_, _<_, _≤_}
@@ -39,7 +40,7 @@ use Rattle.texts.specs.QuestionReading.{openBefore, groundOf, beginsQues
 use Rattle.texts.specs.Laws.{tokensOf, Closes, Ascending}
 use Rattle.texts.proofs.Spelling.{spelling-is-exact}
 use Rattle.texts.proofs.Closing.{closes-cons, text-closes}
-use Rattle.texts.proofs.Rising.{rises-rest}
+use Rattle.texts.proofs.Rising.{rises-right}
 use Rattle.texts.proofs.Lookups.{same-eq, identifier-no-kind, identifier-some}
 use Rattle.texts.proofs.KindNames.{mark-no-kind}
 use Rattle.texts.proofs.TermsRead.{Below}
@@ -112,22 +113,27 @@ record Fit (u : Token) : Type 0 where
 pub record Passed (l r : List Lexeme) : Type 0 where
   pub calm : Calm r → Calm l
   pub ended : Ended (tokensOf l) → Ended (tokensOf r)
-  pub ascend : Ascending l → Ascending r
+  pub done : List Lexeme
+  pub all : l ≡ done ++ r
   pub shorter : length r ≤ length l
 
 pub passed-none : (l : List Lexeme) → Passed l l
-passed-none l = record { calm = λ c. c; ended = λ c. c; ascend = λ a. a; shorter = omega arith }
+passed-none l = record { calm = λ c. c; ended = λ c. c; done = []; all = refl; shorter = omega arith }
 
 pub passed-more : (l m r : List Lexeme) → Passed l m → Passed m r → Passed l r
 passed-more l m r p q = record {
   calm = λ c. p .calm (q .calm c);
   ended = λ c. q .ended (p .ended c);
-  ascend = λ a. q .ascend (p .ascend a);
+  done = p .done ++ q .done;
+  all = p .all ∙ ap (λ (z : List Lexeme). p .done ++ z) (q .all) ∙ sym (append-assoc (p .done) (q .done) r);
   shorter = let h = p .shorter in let k = q .shorter in omega arith;
 }
 
+pub passed-rises : {l r : List Lexeme} → Passed l r → Ascending l → Ascending r
+passed-rises {r = r} p a = rises-right (p .done) r (subst Ascending (p .all) a)
+
 passed-one : (x : Lexeme) (l : List Lexeme) → Fit (x .token) → Passed (x ∷ l) l
-passed-one x l f = record { calm = λ c. (f .noKind, c); ended = go; ascend = rises-rest x l; shorter = omega arith }
+passed-one x l f = record { calm = λ c. (f .noKind, c); ended = go; done = x ∷ []; all = refl; shorter = omega arith }
   where
     go : Ended (tokensOf (x ∷ l)) → Ended (tokensOf l)
     go (inl h) = absurd (f .some (h .0))

@@ -7,6 +7,7 @@
 --   enough                   the fuel does not matter once it is as many as the lexemes
 --   several-end, several-bad, several-more     where none begins, where one is at fault, and where one is read
 --   several-run, run-passed  what was read was read so, and what was passed over
+--   several-fails            where a fault was met, things were read so up to it
 --
 use mathlib.Core.Path.{_≡_, refl, sym, ap, subst, subst₂, _∙_}
 use mathlib.Core.Bool.{Bool, true, false, cond, true≢false}
@@ -123,3 +124,24 @@ module _ {A : Type 0} (begins : List Lexeme → Bool) (one : List Lexeme → Par
     pub run-passed : {l r : List Lexeme} {xs : List A} → Run l xs r → Passed l r
     run-passed (stop l e) = passed-none l
     run-passed (more l m r a xs b e run) = passed-more l m r (subst (Takes l) e (takes l b) .0) (run-passed run)
+
+  -- What holds where one thing is at fault, and before a thing where it holds behind it, holds where a fault was met.
+  pub several-fails : (P : List Lexeme → Type 0) (x : Fault) → ((l : List Lexeme) → begins l ≡ true → one l ≡ bad x → P l) →
+      ((l m : List Lexeme) (a : A) → begins l ≡ true → one l ≡ parsed a m → P m → P l) → (n : ℕ) (l : List Lexeme) → several n l ≡ bad x → P l
+  several-fails P x last before zero l e = let z : _≡_ {A = ℕ} 0 1 = cc in absurd (omega arith)
+  several-fails P x last before (suc n) l e = go (begins l) refl (several-fails P x last before n) e
+    where
+      Fails : Type 0
+      Fails = (m : List Lexeme) → several n m ≡ bad x → P m
+
+      behind : (m : List Lexeme) (a : A) (y : Parsed (List A)) → several n m ≡ y → first a y ≡ bad x → several n m ≡ bad x
+      behind m a (parsed xs r) k e = let z : _≡_ {A = ℕ} 0 1 = cc in absurd (omega arith)
+      behind m a (bad z) k e = k ∙ cc
+
+      here : begins l ≡ true → Fails → (y : Parsed A) → one l ≡ y → parseThen y (λ a r. first a (several n r)) ≡ bad x → P l
+      here b ih (bad z) q e = let f : z ≡ x = cc in last l b (q ∙ ap bad f)
+      here b ih (parsed a m) q e = before l m a b q (ih m (behind m a (several n m) refl e))
+
+      go : (b : Bool) → begins l ≡ b → Fails → cond b (parseThen (one l) (λ a r. first a (several n r))) (parsed [] l) ≡ bad x → P l
+      go true b ih e = here b ih (one l) refl e
+      go false b ih e = let z : _≡_ {A = ℕ} 0 1 = cc in absurd (omega arith)

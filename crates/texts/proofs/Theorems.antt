@@ -29,11 +29,12 @@
 --   questions-read              the tokens of a good question are read as that question
 --   questions-exact             what is read is a good question, and its tokens are those that were read
 --   question-faults-are-first   a fault of a question is at the first byte at fault
+--   file-faults-are-first       a text is refused at the first byte at fault
 --   verdicts-are-matches        the answer to a question is document 01's match
 --   walks-are-comparisons       by tokens, a pattern and a situation are compared as by terms
 --   situations-end              where the tokens of a situation end
 --
-use Rattle.texts.specs.Laws.{SpellingIsExact, TermsAreSpelled, PhrasesAreSpelled, PhrasesRead, PhrasesExact, SaysTerms, SaysPhrases, LexiconsRead, LexiconsExact, PhraseFaultsAreFirst, BlocksAreAnswers, BlocksSpellLeftovers, EntriesArePhrases, FilesAreRead, FilesAreExact, VocabulariesAreRead, LexiconFaultsAreFirst, KindNameFaultsAreFirst, LexiconsAreSpelled, LexiconIsOne, TextIsOne, PrintedAlike, EntriesPrintedAlike, NamesAreNoWords, TogetherSpellsLeftovers, DeskSpellsLeftovers, QuestionsRead, QuestionsExact, QuestionFaultsAreFirst, VerdictsAreMatches, WalksAreComparisons, SituationsEnd}
+use Rattle.texts.specs.Laws.{SpellingIsExact, TermsAreSpelled, PhrasesAreSpelled, PhrasesRead, PhrasesExact, SaysTerms, SaysPhrases, LexiconsRead, LexiconsExact, PhraseFaultsAreFirst, BlocksAreAnswers, BlocksSpellLeftovers, EntriesArePhrases, FilesAreRead, FilesAreExact, VocabulariesAreRead, LexiconFaultsAreFirst, KindNameFaultsAreFirst, LexiconsAreSpelled, LexiconIsOne, TextIsOne, PrintedAlike, EntriesPrintedAlike, NamesAreNoWords, TogetherSpellsLeftovers, DeskSpellsLeftovers, QuestionsRead, QuestionsExact, QuestionFaultsAreFirst, FileFaultsAreFirst, VerdictsAreMatches, WalksAreComparisons, SituationsEnd}
 
 pub spelling-is-exact : SpellingIsExact
 spelling-is-exact = Rattle.texts.proofs.Spelling.spelling-is-exact
@@ -121,6 +122,9 @@ questions-exact = Rattle.texts.proofs.QuestionsExact.questions-exact
 
 pub question-faults-are-first : QuestionFaultsAreFirst
 question-faults-are-first = Rattle.texts.proofs.QuestionFaults.question-faults-are-first
+
+pub file-faults-are-first : FileFaultsAreFirst
+file-faults-are-first = Rattle.texts.proofs.FileFaults.file-faults-are-first
 
 pub verdicts-are-matches : VerdictsAreMatches
 verdicts-are-matches = Rattle.texts.proofs.Verdicts.verdicts-are-matches

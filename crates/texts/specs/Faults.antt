@@ -44,7 +44,7 @@ wordTwice = 7
 abbrev pub manyWords : ℕ
 manyWords = 8
 
--- Behind ( or , of a declaration no name stands.
+-- Behind ( or , of a declaration, or behind the : of an open root, no name stands.
 abbrev pub placeDue : ℕ
 placeDue = 9
 

@@ -48,6 +48,11 @@
 --   QuestionBegun, QuestionFirst    the tokens begin with a question, which may have something open, or with a good one
 --   QuestionFault X p l q   the lexeme at offset q is the first at fault, and nothing open stands before it
 --   QuestionFaultsAreFirst  a fault of a question is at the first byte at fault
+--   bareKinds us            kinds of the names us, without words
+--   ReadBefore l X qs r     a good vocabulary X and good paragraphs qs are read off l, and r is left
+--   AskedBefore l X p gs r  a good pattern p and good questions about gs are read off l, and r is left
+--   FileFault l q           the lexeme at offset q is the first at fault in a text, and all that stands before what it stands in is good
+--   FileFaultsAreFirst      a text is refused at the first byte at fault
 --   VerdictsAreMatches      the answer to a question is document 01's match
 --   WalksAreComparisons     by tokens, a pattern and a situation are compared as by terms
 --   SituationsEnd           where the tokens of a situation end
@@ -68,23 +73,24 @@ use Rattle.wire.specs.TermBytes.{nameCount, mostLevels, levels, encodeTerm, Hol
 use Rattle.wire.specs.BookBytes.{patternsBytes, Listable}
 use Rattle.wire.specs.BookLeftovers.{WithinLimits}
 use Rattle.wire.specs.Printing.{listingSpace}
-use Rattle.texts.specs.Lexemes.{Token, Lexeme, asking, tokens}
+use Rattle.texts.specs.Lexemes.{Token, Lexeme, asking, tokens, lexemes}
 use Rattle.texts.specs.Names.{same, kindWord, mark, opening, bar, equals, colon, mostName, isIdentifier, IsIdentifier, IsVariable, indexIn, nameAt, Distinct}
 use Rattle.texts.specs.Spelling.{IsToken, Spells}
-use Rattle.texts.specs.Lexicon.{WordText, KindText, Lexicon, kindNames, allWords, wordNames, vocabularyOf, lexiconTokens, lexiconText, GoodLexicon}
+use Rattle.texts.specs.Lexicon.{WordText, KindText, Lexicon, kindNames, allWords, wordNames, vocabularyOf, kindsTokens, lexiconTokens, lexiconText, GoodLexicon}
 use Rattle.texts.specs.Phrases.{Phrase, IsLabel, labelTokens, termTokens, phraseTokens, phraseText, GoodPhrase, wholeTokens, GoodWhole}
 use Rattle.texts.specs.Saying.{Tables, TablesFor, sayPhrase}
-use Rattle.texts.specs.Questions.{groundTokens, questionTokens, GoodQuestion}
-use Rattle.texts.specs.Files.{Paragraph, File, phrasesOf, GoodParagraph, IsText}
+use Rattle.texts.specs.Questions.{groundTokens, questionTokens, questionsTokens, GoodQuestion}
+use Rattle.texts.specs.Files.{mostText, Paragraph, File, phrasesOf, paragraphsTokens, GoodParagraph, IsText}
 use Rattle.texts.specs.Faults.{Fault, parsed, bad, token, rest}
+use Rattle.texts.specs.Complaints.{Known}
 use Rattle.texts.specs.Verdicts.{covers, compare}
 use Rattle.texts.specs.Together.{togetherText}
 use Rattle.texts.specs.Answers.{blockText, deskText, AreListings}
 use Rattle.texts.specs.LexiconReading.{named, misnamed, readKindNames, WordRow, LexiconRead, readLexicon}
 use Rattle.texts.specs.PhraseReading.{PhraseRead, readPhrase}
-use Rattle.texts.specs.QuestionReading.{isOpen, beginsQuestion, readQuestion}
+use Rattle.texts.specs.QuestionReading.{isOpen, beginsQuestion, readQuestion, readQuestions}
 use Rattle.texts.specs.Comparing.{termSize, walk, asWalked}
-use Rattle.texts.specs.Answering.{blockBy, readWell, vocabularyRead, readFile}
+use Rattle.texts.specs.Answering.{blockBy, readWell, readIll, readParagraphs, vocabularyRead, readFile}
 
 abbrev pub SpellingIsExact : Type 0
 SpellingIsExact = (b : List ℕ) (us : List Token) → (tokens b ≡ us ++ ([] ∷ [])) ↔ Spells b us
@@ -450,3 +456,51 @@ SituationsEnd =
     (X : Lexicon) (p : Phrase) (g : Ground) (R : List Token) → GoodLexicon X → GoodQuestion X p g →
     same (nameAt R 0) (mark opening) ≡ false →
     termSize (groundTokens (wordNames X) g ++ R) ≡ length (groundTokens (wordNames X) g)
+
+-- ---- the place of a fault in the text as a whole
+
+abbrev pub bareKinds : List Token → Lexicon
+bareKinds us = map (λ (u : Token). record { name = u; words = [] }) us
+
+-- The vocabulary X and the paragraphs qs are read off the lexemes l, and r is left: all of it is good, and its tokens are those before r.
+-- A `kind` behind the first pattern is itself at fault, but something before it may be at fault first. As the names of the kinds are read
+-- from the whole text, its kind is one of X then, without words; where no `kind` stands there, `declared` is X.
+pub record ReadBefore (l : List Lexeme) (X : Lexicon) (qs : List Paragraph) (r : List Lexeme) : Type 0 where
+  pub declared : Lexicon
+  pub late : List Token
+  pub whole : X ≡ declared ++ bareKinds late
+  pub kinds : kindNames X ≡ namesBehind (tokensOf l)
+  pub lexicon : GoodLexicon X
+  pub paragraphs : All (GoodParagraph X) qs
+  pub before : List Lexeme
+  pub all : l ≡ before ++ r
+  pub tokens : tokensOf before ≡ kindsTokens (kindNames X) declared ++ paragraphsTokens X qs
+  pub behind : List Lexeme
+  pub readFirst : readLexicon l ≡ parsed (lexiconRead X) behind
+  pub readThen : readParagraphs (kindNames X) (wordNames X) (vocabularyOf X) (length qs) behind ≡ parsed qs r
+
+-- The pattern p and questions about the situations gs are read off the lexemes l, and r is left.
+pub record AskedBefore (l : List Lexeme) (X : Lexicon) (p : Phrase) (gs : List Ground) (r : List Lexeme) : Type 0 where
+  pub phrase : GoodWhole X p
+  pub questions : All (GoodQuestion X p) gs
+  pub before : List Lexeme
+  pub all : l ≡ before ++ r
+  pub tokens : tokensOf before ≡ wholeTokens X p ++ questionsTokens X p gs
+  pub behind : List Lexeme
+  pub readFirst : readPhrase (kindNames X) (wordNames X) (vocabularyOf X) l ≡ parsed p behind
+  pub readThen : readQuestions (wordNames X) (vocabularyOf X) p (length gs) behind ≡ parsed gs r
+
+-- Of the lexemes l of a text the one at offset q is the first at fault: all vocabulary, patterns and questions before the one in which
+-- it stands are good, and it is the first at fault in that one. Which one that is, is fixed by what the readers make of what stands before it.
+pub data FileFault (l : List Lexeme) (q : ℕ) : Type 0 where
+  inKindName : KindNameFault l q → FileFault l q
+  inLexicon : (K : List Token) (x : Fault) → readKindNames [] l ≡ named K → readLexicon l ≡ bad x →
+      FirstFaultIn (LexiconFirst SoundLexicon K) (LexiconFirst GoodLexicon K) l q → FileFault l q
+  inPhrase : (X : Lexicon) (qs : List Paragraph) (r : List Lexeme) → ReadBefore l X qs r → 1 ≤ length (token r) →
+      FirstFault (PhraseFirst X (beginsLabel r)) r q → FileFault l q
+  inQuestion : (X : Lexicon) (qs : List Paragraph) (m : List Lexeme) (p : Phrase) (gs : List Ground) (r : List Lexeme) →
+      ReadBefore l X qs m → AskedBefore m X p gs r → beginsQuestion r ≡ true → QuestionFault X p r q → FileFault l q
+
+-- A text that is not too long is refused at the first byte at fault.
+abbrev pub FileFaultsAreFirst : Type 0
+FileFaultsAreFirst = (b : List ℕ) (x : Fault) (T : Known) → length b ≤ mostText → readFile b ≡ readIll x T → FileFault (lexemes b) (x .at)

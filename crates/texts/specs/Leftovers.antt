@@ -16,7 +16,7 @@ use Rattle.texts.specs.Phrases.{phraseText}
 abbrev pub leftoverLine : Lexicon → List Token → ℕ → Term → List ℕ
 leftoverLine X vs s e = phraseText X vs s e ++ newline
 
--- `# 3 leftovers:`, the entries, and `# end of 3 leftovers`. No heading is like these: it has a space only behind # and a comma or colon.
+-- `# 3 leftovers:`, the entries, and `# end of 3 leftovers`. No other comment line of an answer has a number first, or `end of` and a number.
 abbrev pub leftoversText : Lexicon → List Token → ℕ → List Term → List ℕ
 leftoversText X vs s l =
     ascii "# "

@@ -1,7 +1,7 @@
 //! What is wrong with a text, told with line and column, the line itself and a
 //! mark below the place.
 
-use super::tokens::{lexemes, token};
+use super::tokens::{is_identifier, is_name, lexemes, token};
 use super::{say, Refused};
 use std::io::Write;
 
@@ -36,9 +36,20 @@ pub(super) const OTHER_LABEL: u8 = 27;
 /// What is said of a ( where no place is due.
 const NO_PLACES: &str = "no places are due here, as what stands before takes none or has them all";
 
-/// A byte that goes on with a character which began before it.
+/// A byte that begins no character: it goes on with one, or is a carriage
+/// return.
 fn goes_on(byte: u8) -> bool {
-    byte & 0xc0 == 0x80
+    byte & 0xc0 == 0x80 || byte == b'\r'
+}
+
+/// What is said of a question with no pattern before it, and behind a name
+/// that may be the label of a question.
+const NO_PATTERN: &str =
+    "a question stands behind its pattern, and begins with its label";
+const BLANK_DUE: &str = " in this vocabulary; in a question a blank is due behind the ?";
+
+fn begins_term(token: &[u8]) -> bool {
+    is_identifier(token) || token == b"_" || is_name(token)
 }
 
 impl Refused<'_> {
@@ -62,7 +73,6 @@ impl Refused<'_> {
         for &byte in left {
             match byte {
                 b'\t' => out.push(byte),
-                b'\r' => {}
                 _ if goes_on(byte) => {}
                 _ => out.push(b' '),
             }
@@ -100,7 +110,11 @@ impl Refused<'_> {
             PATTERN_DUE if token == b"kind" => "all kinds are declared before the first pattern",
             PATTERN_DUE => "a pattern is due here",
             TERM_DUE | OTHER_KIND => return self.due(out),
-            NO_WORD => return around("no word ", " in this vocabulary"),
+            NO_WORD => match lexemes(rest)[1].token {
+                b"?" => NO_PATTERN,
+                behind if is_name(behind) => return around("no word ", BLANK_DUE),
+                _ => return around("no word ", " in this vocabulary"),
+            },
             PLACES_WRONG => {
                 let written = match token {
                     b")" => "and fewer are written",
@@ -110,18 +124,24 @@ impl Refused<'_> {
                 return self.places(written, out);
             }
             PLACES_OVER if token == b"," => {
-                let number = self.vocabulary.words[self.fault.of].places.len() + commas(rest);
+                let more = commas(rest);
+                if more == 0 {
+                    return self.places("and no , is due here", out);
+                }
+                let number = self.vocabulary.words[self.fault.of].places.len() + more;
                 return self.places(&format!("and {number} are written"), out);
             }
             PLACES_OVER => return self.places("and a ) is due here", out),
             TOO_DEEP => "32 levels are the most, and this is one more",
-            TOO_LONG => "4096 bytes are the most for a pattern, and this one has more",
+            TOO_LONG => "4096 bytes are the most for a pattern or a situation, and this one has more",
             NAME_TWICE => return around("", " stands twice in this pattern"),
             MANY_NAMES => "64 names are the most in a pattern, and this is one more",
             COLON_DUE => "a : and a kind are due here, as in _: step",
             LONG_TEXT => "65535 bytes are the most for a text, and this one has more",
             SITUATION_OPEN => "a situation has no open place and no name",
-            OTHER_LABEL => "this is not the label of the pattern before it, which a question asks",
+            OTHER_LABEL => {
+                "a question begins with the label of the pattern before it, and this is another name"
+            }
             why => unreachable!("there is no reason {why}"),
         };
         out.extend_from_slice(plain.as_bytes());
@@ -149,16 +169,17 @@ impl Refused<'_> {
     }
 }
 
-/// How many commas stand before the ) that ends the places which a text goes
-/// on with, in no further parentheses.
+/// How many commas with a term behind them stand before the ) that ends the
+/// places which a text goes on with, or before a :, in no further parentheses.
 fn commas(text: &[u8]) -> usize {
     let (mut number, mut deep) = (0, 0);
-    for lexeme in lexemes(text) {
-        match lexeme.token {
+    for pair in lexemes(text).windows(2) {
+        match pair[0].token {
+            b":" => break,
             b")" if deep == 0 => break,
             b")" => deep -= 1,
             b"(" => deep += 1,
-            b"," if deep == 0 => number += 1,
+            b"," if deep == 0 && begins_term(pair[1].token) => number += 1,
             _ => {}
         }
     }
