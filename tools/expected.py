@@ -641,8 +641,15 @@ IDENTIFIER = re.compile(rb"(?!(?:_|kind)\Z)[" + NAMES + rb"]+\Z")
 VARIABLE = re.compile(rb"\?[" + NAMES + rb"]+\Z")
 
 LONG_NAME = b"32 bytes are the most for a name, and this one has more"
+ONE_MORE = b"%d %bs are the most, and this is one more"
 NO_KIND = b"the name of a kind is due here"
 NO_PLACES = b"no places are due here, as what stands before takes none or has them all"
+NO_WORDS = b"no kind up to here has a word; words stand behind =, as in kind button = up | down"
+NO_MARK = b"a pattern is due here; no mark stands between patterns, and the words of a kind stand behind =, with a | between them"
+
+# What else is said where a pattern is due, by the token there.
+NO_PATTERN = {b"(": NO_PLACES, b"kind": b"all kinds are declared before the first pattern"}
+NO_PATTERN |= {b",": NO_MARK, b"|": NO_MARK, b"=": NO_MARK}
 
 # What some editors put before a text.
 BYTE_ORDER_MARK = b"\xef\xbb\xbf"
@@ -651,6 +658,7 @@ BYTE_ORDER_MARK = b"\xef\xbb\xbf"
 LEFTOVERS, END_OF_LEFTOVERS, END_OF_PATTERNS = b"# %d leftovers:", b"# end of %d leftovers", b"# end of %d patterns"
 NOT_LISTED = b"leftovers not listed, as the list has %d bytes and 65536 are the most"
 TOO_LONG = b"the answer has more than 1048576 bytes, which are the most: ask for fewer patterns at a time\n"
+NO_SITUATION = b"# kind %b has no complete situation"
 TOGETHER = b"all %d patterns of %b together"
 TOO_MANY = b"leftovers of %b not listed, as 64 patterns are the most"
 PAST = b"leftovers of %b not listed, as behind pattern %d of them they have more than 32768 bytes, or one of them more than 4096"
@@ -702,10 +710,12 @@ class Text:
             at = TOKEN.match(data, start).end()
             self.lexemes.append((data[start:at], start))
         self.kinds, self.words, self.records = [], [], []
-        # "The names of the kinds come first, since a kind may be used before it is declared."
-        for self.next in range(1, len(self.lexemes)):
-            if self.token(self.next - 1) == b"kind":
-                self.kinds.append(self.new_name("kind", self.kinds, MOST_KINDS, b"a name is due here, for the kind"))
+        # The names behind each `kind` are gathered first, since a kind may be used before it is declared. What cannot be one more
+        # kind's name is passed over here: it is judged where the reading comes to it.
+        for (token, _), (name, _) in zip(self.lexemes, self.lexemes[1:]):
+            named = token == b"kind" and IDENTIFIER.match(name) and len(name) <= LONGEST_NAME
+            if named and name not in self.kinds and len(self.kinds) < MOST_KINDS:
+                self.kinds.append(name)
         self.next = 0
         self.declarations()
         self.start = self.lexemes[self.next][1]
@@ -742,7 +752,7 @@ class Text:
         if name in others:
             self.fault(b"%b %b is declared twice" % (what, name))
         if len(others) == most:
-            self.fault(b"%d %bs are the most, and this is one more" % (most, what))
+            self.fault(ONE_MORE % (most, what))
         return name
 
     def declarations(self):
@@ -750,16 +760,16 @@ class Text:
             self.fault(b"a byte order mark stands here, and a text begins with `kind`")
         if self.token() != b"kind":
             self.fault(b"`kind` is due here, as a text begins with its kinds")
-        kind = 0
+        declared = []
         while self.taken(b"kind"):
+            declared.append(self.new_name("kind", declared, MOST_KINDS, b"a name is due here, for the kind"))
             self.next += 1
             mark = b"="
             while self.taken(mark):
-                self.word(kind)
+                self.word(len(declared) - 1)
                 mark = b"|"
-            kind += 1
         if not self.words:
-            self.fault(b"no kind has a word")
+            self.fault(NO_WORDS)
 
     def word(self, kind):
         """A word with the kinds of its places."""
@@ -775,9 +785,16 @@ class Text:
         self.records.append(Word(kind, places))
 
     def place(self, number):
+        """The kind of a place, which may be declared later: where its `kind` could not be in order, this is told here."""
+        name = self.token()
+        if IDENTIFIER.match(name):
+            if len(name) > LONGEST_NAME:
+                self.fault(LONG_NAME)
+            if name not in self.kinds and len(self.kinds) == MOST_KINDS:
+                self.fault(b"kind %b is none of the first 16 kinds, and 16 are the most" % name)
         kind = self.known_kind()
         if number == MOST_PLACES:
-            self.fault(b"8 places are the most, and this is one more")
+            self.fault(ONE_MORE % (MOST_PLACES, b"place"))
         self.next += 1
         return kind
 
@@ -811,8 +828,7 @@ class Text:
             kind = self.records[self.words.index(token)].result if token in self.words else None
             tree = self.term(kind, 1)
         else:
-            others = {b"(": NO_PLACES, b"kind": b"all kinds are declared before the first pattern"}
-            self.fault(others.get(token, b"a pattern is due here"))
+            self.fault(NO_PATTERN.get(token, b"a pattern is due here"))
         return Phrase(label, kind, tree, self.variables, [])
 
     def question(self, phrase):
@@ -918,7 +934,7 @@ class Text:
 
     def due(self, kind):
         words = b" or ".join(name for name, word in zip(self.words, self.records) if word.result == kind)
-        return self.kinds[kind] + b" is due here" + (b": " + words if words else b"")
+        return self.kinds[kind] + b" is due here" + (b": " + words if words else b", and no word of that kind is declared before the first pattern")
 
     # ---- leftovers
 
@@ -1000,6 +1016,12 @@ class Text:
         except Refused:
             return None
 
+    def note(self, kind):
+        """What is printed of a kind without complete situation, by the same set of kinds that listings go by."""
+        if kind not in self.vocabulary.having:
+            yield NO_SITUATION % self.kinds[kind]
+            yield b""
+
     def together(self, kind):
         """What is printed of all patterns of a kind together."""
         trees = self.of_kind(kind)
@@ -1033,6 +1055,7 @@ class Text:
             for situation in phrase.situations:
                 yield from self.verdict(phrase, situation)
         for kind in range(len(self.kinds)):
+            yield from self.note(kind)
             yield from self.together(kind)
         yield END_OF_PATTERNS % len(self.phrases)
 
@@ -1978,6 +2001,10 @@ def desk_by_hand():
         """The lines for patterns together."""
         return block(f"all {number} patterns of {kind} together", *entries)
 
+    def note(kind):
+        """The lines for a kind without complete situation."""
+        return lines(f"# kind {kind} has no complete situation", "")
+
     def asked(question, *answer):
         return lines(f"# {question}", *answer, "")
 
@@ -1990,8 +2017,8 @@ def desk_by_hand():
         block("release: wait(held(green), free)", "done", "wait(up, _)", "wait(down, _)", "wait(held(red), _)", "wait(held(green), full)"),
         block("jam: wait(_, jammed(_))", "_: step"),
         block("_: queue"),
-        # By release, of wait(held(_), _) the lamp red is left, and of green the queue full.
-        tail=together(3, "step", "done", "wait(down, _)", "wait(held(red), _)", "wait(held(green), full)", "wait(up, full)"),
+        # By release, of wait(held(_), _) the lamp red is left, and of green the queue full. The printer is the last kind.
+        tail=together(3, "step", "done", "wait(down, _)", "wait(held(red), _)", "wait(held(green), full)", "wait(up, full)") + note("printer"),
     )
     # Lower places as in the pattern, ?colour with them, and higher ones open.
     seen = "watch(eye(lit(?colour), clear), "
@@ -2023,6 +2050,24 @@ def desk_by_hand():
     # Both together fit every queue, and so all that is left is the other button and done.
     one, other = block("wait(up, free)", "done", "wait(down, _)", "wait(up, full)"), block("wait(_, full)", "done", "wait(_, free)")
     assert told(*kinds, "wait(up, free) wait(_, full)") == whole(one, other, tail=together(2, "step", "done", "wait(down, free)"))
+
+    # A kind without complete situation has a note behind all blocks: one without words, also with no pattern, and one whose words
+    # lead back to it, by themselves or by another kind. Then c(_) and wait(_) are no leftovers.
+    assert told("kind a = b", "kind e", "b", "") == whole(block("b"), tail=note("e"))
+    assert told("kind a = b", "kind e", "") == whole(tail=note("e"))
+    assert told("kind queue = behind(queue)", "kind step = done | wait(queue)", "done") == whole(block("done"), tail=note("queue"))
+    assert told("kind a = b(c)", "kind c = d(a) | e(c)", "kind f = g") == whole(tail=note("a") + note("c"))
+    # The kind c has d, which is declared later, and so a has b(d).
+    assert told("kind a = b(c)", "kind c = d") == whole()
+    # Two of four kinds, in their order, and behind the answer to a question.
+    four = ("kind x", "kind a = b | c(x)", "kind y = d(y, a)", "kind z = e(a)")
+    assert told(*four, "n: b n ? b") == whole(block("n: b") + asked("n ? b", "# yes"), tail=note("x") + note("y"))
+    # Kind by kind with the leftovers of patterns together: the note on a kind first, and then what its patterns leave.
+    three = ("kind x", "kind a = b | c", "kind y = d(y)")
+    tail = note("x") + together(2, "a", "c") + note("y") + together(2, "y")
+    assert told(*three, "b d(_) b _: y") == whole(block("b", "c"), block("d(_)"), block("b", "c"), block("_: y"), tail=tail)
+    many = f"{note('e')}leftovers of all 65 patterns of e together not listed, as 64 patterns are the most\n\n# end of 65 patterns\n"
+    assert told("kind a = b", "kind e", *["_: e"] * 65) == block("_: e") * 65 + many
 
     # The fourth line has u at 10 behind `go: wait(`, the comma at 12 and the second place at 14.
     def fault(place, why, line, *more):
@@ -2061,7 +2106,25 @@ def desk_by_hand():
     fault(4, no_places, "done() wait(up, free)")
     fault(5, "a pattern is due here", "done ) wait(up, free)")
     fault(5, "all kinds are declared before the first pattern", "done kind lamp = red", "done")
-    fault(13, "a name is due here, for the kind", "wait(up, kind)")
+    # `kind` is no term, whatever stands behind it. A late `kind` is at fault itself, and the name behind it is known all the same.
+    fault(9, "queue is due here: free or full", "wait(up, kind)")
+    fault(9, "queue is due here: free or full", "wait(up, kind lamp)")
+    fault(9, "queue is due here: free or full", "wait(up, done) kind =")
+    fault(5, "all kinds are declared before the first pattern", "done kind =")
+    fault(5, "all kinds are declared before the first pattern", "done kind step")
+    fault(13, "all kinds are declared before the first pattern", "_: lamp done kind lamp = red")
+    fault(15, "lamp is due here, and no word of that kind is declared before the first pattern", "n: _: lamp n ? kind lamp")
+    # A mark that stands between places or words of a kind, where a pattern is due.
+    no_mark = "a pattern is due here; no mark stands between patterns, and the words of a kind stand behind =, with a | between them"
+    fault(4, no_mark, "done, done")
+    fault(5, no_mark, "done = done")
+    fault(5, no_mark, "done | done")
+    fault(4, no_mark, "go: | done")
+    fault(0, no_mark, ", held")
+    fault(0, no_mark, "= held")
+    # A | behind the last kind goes on with its words. A colon stands between no words.
+    fault(2, "word done is declared twice", "| done")
+    fault(6, "a pattern is due here", "done: : done")
     # Questions at fault: of the first thing that is open, or of what is at fault before it.
     go = "go: wait(up, free) "
     fault(19, "a question begins with the label of the pattern before it, and this is another name", f"{go}stop ? done")
@@ -2086,12 +2149,38 @@ def desk_by_hand():
     assert told("kind a = ") == "line 1, column 10: a name is due here, for a word\nkind a = \n         ^\n"
     assert told("kind a = b", " kind a") == "line 2, column 7: kind a is declared twice\n kind a\n      ^\n"
     assert told("kind a = b | b") == "line 1, column 14: word b is declared twice\nkind a = b | b\n             ^\n"
-    assert told("kind a", "") == "line 2, column 1: no kind has a word\n\n^\n"
+    no_words = "no kind up to here has a word; words stand behind =, as in kind button = up | down"
+    assert told("kind a", "") == lines(f"line 2, column 1: {no_words}", "", "^")
+    # The words end where no | follows. Where there is none yet that is told, and else that a pattern is due: the second mark stands at
+    # 10 behind b, at 11 behind b and a blank, and | at 18 behind the two kinds.
+    assert told("kind a | b kind c = d") == lines(f"line 1, column 8: {no_words}", "kind a | b kind c = d", "       ^")
+    for line, at in [("kind a = b, c", 10), ("kind a = b = c", 11), ("kind c = d kind a | b", 18)]:
+        assert told(line) == lines(f"line 1, column {at + 1}: {no_mark}", line, " " * at + "^")
+    # A word where one of a kind without words is due, in a pattern and in a question; a name that is no word is told as such.
+    lamps = ("kind a = b(lamp) | c", "kind lamp")
+    for line, at in [("b(c)", 2), ("b()", 2), ("n: _: lamp n ? c", 15), ("n: b(_) n ? b(c)", 14)]:
+        assert told(*lamps, line) == lines(f"line 3, column {at + 1}: lamp is due here, and no word of that kind is declared before the first pattern", line, " " * at + "^")
+    assert told(*lamps, "b(red)") == lines("line 3, column 3: no word red in this vocabulary", "b(red)", "  ^")
+    # A kind with a word is due with it, though the word leads back to the kind.
+    back = ("kind a = b(e) | c", "kind e = f(e)")
+    assert told(*back, "b(c)") == lines("line 3, column 3: e is due here: f", "b(c)", "  ^")
     assert told("kind a = b(lamp)") == "line 1, column 12: kind lamp is used and not declared\nkind a = b(lamp)\n           ^\n"
     assert told("kind a = b()") == "line 1, column 12: the name of a kind is due here\nkind a = b()\n           ^\n"
     assert told("kind a = b(a a)") == "line 1, column 14: a , or a ) is due here\nkind a = b(a a)\n             ^\n"
-    # The names of kinds are read before all else.
-    assert told("kind a = ", "kind a") == "line 2, column 6: kind a is declared twice\nkind a\n     ^\n"
+    # Faults are told from left to right: before the name of a later kind comes a word that is missing, a comma or a place's kind.
+    assert told("kind a = ", "kind a") == "line 2, column 1: a name is due here, for a word\nkind a\n^\n"
+    assert told("kind a = b(a a)", "kind") == "line 1, column 14: a , or a ) is due here\nkind a = b(a a)\n             ^\n"
+    unknown = "line 1, column 12: kind lamp is used and not declared\nkind a = b(lamp)\n           ^\n"
+    assert told("kind a = b(lamp)", "kind =") == told("kind a = b(lamp)", "kind a") == unknown
+    assert told("up kind") == "line 1, column 1: `kind` is due here, as a text begins with its kinds\nup kind\n^\n"
+    # A kind may be declared behind a name at fault, or be named by a `kind` that is itself at fault: then it is not the place.
+    assert told("kind a = b(c)", "kind =", "kind c") == "line 2, column 6: a name is due here, for the kind\nkind =\n     ^\n"
+    assert told("kind a = b(c)", "kind a", "kind c") == "line 2, column 6: kind a is declared twice\nkind a\n     ^\n"
+    wrong = "kind a = b(c) | d(kind c)"
+    assert told(wrong) == lines("line 1, column 19: the name of a kind is due here", wrong, " " * 18 + "^")
+    # Behind the last `kind` stands the end.
+    assert told("kind a = b kind") == lines("line 1, column 16: a name is due here, for the kind", "kind a = b kind", " " * 15 + "^")
+    assert told("kind kind = a") == "line 1, column 6: a name is due here, for the kind\nkind kind = a\n     ^\n"
     for written, why in [("b(c, c)", "and 2 are written"), ("b(c", "and a ) is due here"), ("b", "in ( and ) with a , between them")]:
         at = min(len(written), 3)
         assert told("kind a = b(a) | c", written) == lines(f"line 2, column {at + 1}: b takes 1 place, {why}", written, " " * at + "^")
@@ -2110,13 +2199,40 @@ def desk_by_hand():
     for line, at in [(f"kind {name}n", 6), (f"kind a = {name}n", 10), (f"kind a = b {name}n: b", 12), (f"kind a = b ?{name}n: a", 12)]:
         mark = " " * (at - 1) + "^"
         assert told(line) == lines(f"line 1, column {at}: 32 bytes are the most for a name, and this one has more", line, mark)
+    # A place with such a name is at fault itself, whether a `kind` stands before the name or not, also as the ninth.
+    for line, at in [(f"kind a = b({name}n)", 12), (f"kind a = b(a{',a' * 7},{name}n)", 28)]:
+        long = lines(f"line 1, column {at}: 32 bytes are the most for a name, and this one has more", line, " " * (at - 1) + "^")
+        assert told(line) == told(line, f"kind {name}n") == long
+    # For the kind of a pattern it is a name like others.
+    line = f"kind a = b _: {name}n"
+    assert told(line) == lines(f"line 1, column 15: kind {name}n is used and not declared", line, " " * 14 + "^")
     many = [f"kind k{n:02} = w{n:02}" for n in range(17)]
     assert told(*many[:16]) == nothing
     assert told(*many) == lines(f"line 17, column 6: 16 kinds {one_more}", "kind k16 = w16", "     ^")
+    assert told("kind k00 =", *many[1:]) == lines("line 2, column 1: a name is due here, for a word", "kind k01 = w01", "^")
+    # The kind of a place may be the 17th, or none where 16 are declared: both are told alike. With 15 declared it is just not known.
+    place = "kind k00 = w00(k16)"
+    none_of = lines("line 1, column 16: kind k16 is none of the first 16 kinds, and 16 are the most", place, " " * 15 + "^")
+    assert told(place, *many[1:]) == told(place, *many[1:16]) == none_of
+    assert told(place, *many[1:15]) == lines("line 1, column 16: kind k16 is used and not declared", place, " " * 15 + "^")
+    # A name that is passed over takes no room: behind it k16 is the 16th. One behind a pattern does, and then k16 has none.
+    assert told(place, "kind k00", *many[2:]) == lines("line 2, column 6: kind k00 is declared twice", "kind k00", "     ^")
+    assert told(place, *many[1:15], "w01 kind k15") == none_of
+    # It is told before a ninth place, and behind a name that is too long. `kind` is no name, however many kinds there are.
+    for written, at, why in [
+        (f"a{',a' * 7},k16", 28, "kind k16 is none of the first 16 kinds, and 16 are the most"),
+        (f"{name}n", 12, "32 bytes are the most for a name, and this one has more"),
+        ("kind", 12, "the name of a kind is due here"),
+    ]:
+        line = f"kind a = b({written})"
+        assert told(line, *many[:15]) == lines(f"line 1, column {at}: {why}", line, " " * (at - 1) + "^")
+    # A pattern has the 16 kinds, and no other.
+    assert told(*many[:16], "_: k16", "kind k16") == lines("line 17, column 4: kind k16 is used and not declared", "_: k16", "   ^")
     many = "kind a = " + " | ".join(f"w{n:02}" for n in range(97))
     assert told(many[:-6]) == nothing
     assert told(many) == lines(f"line 1, column {10 + 6 * 96}: 96 words {one_more}", many, " " * (9 + 6 * 96) + "^")
-    assert told(f"kind a = b(a{',a' * 7})") == nothing
+    # All eight lead back.
+    assert told(f"kind a = b(a{',a' * 7})") == whole(tail=note("a"))
     many = f"kind a = b(a{',a' * 8})"
     assert told(many) == lines(f"line 1, column 28: 8 places {one_more}", many, " " * 27 + "^")
     # Eight words of eight variables each; `(` or a comma and ?nn are four bytes, w two more at the front and ) one behind.
@@ -2162,6 +2278,10 @@ def desk_by_hand():
     assert len(told(words, *full, f"{'l' * 21}: {names[95]}")) == 326 * 3209 + 85 + 22 + 68 * 34 + 23 == 1048576
     too_long = "the answer has more than 1048576 bytes, which are the most: ask for fewer patterns at a time\n"
     assert told(words, *full, f"{'l' * 22}: {names[95]}") == too_long
+    # A note counts: a label of 32 bytes less, with colon and space, and two bytes less in the last one are its 36.
+    assert len(note("e")) == 36
+    assert len(told(words, "kind e", *full[1:], names[95], f"{'l' * 19}: {names[95]}")) == 1048576
+    assert told(words, "kind e", *full[1:], names[95], f"{'l' * 20}: {names[95]}") == too_long
     # A text may have 65,535 bytes. Byte 65,535 is the 65,526th end of a line here, which is that of line 65,526.
     assert told("kind a = b" + "\n" * 65525) == nothing
     assert told("kind a = b" + "\n" * 65526) == "line 65526, column 1: 65535 bytes are the most for a text, and this one has more\n\n^\n"

@@ -164,6 +164,22 @@ impl Vocabulary<'_> {
         bytes
     }
 
+    /// For each kind whether it has a complete situation, of any size: one is
+    /// made by a word each of whose places has a kind with one.
+    fn having(&self) -> Vec<bool> {
+        let mut having = vec![false; self.kinds.len()];
+        // A round that finds no further kind is followed by none that does, so
+        // as many rounds as there are kinds will do.
+        for _ in &self.kinds {
+            for word in &self.words {
+                if word.places.iter().all(|&place| having[place as usize]) {
+                    having[word.kind as usize] = true;
+                }
+            }
+        }
+        having
+    }
+
     /// Appends a pattern or entry in words, given its bytes and its names.
     fn say(&self, bytes: &[u8], names: &[&[u8]], out: &mut Vec<u8>) {
         let kind = self.kinds[bytes[0] as usize];
@@ -254,7 +270,12 @@ impl Text<'_> {
                 self.vocabulary.verdict(pattern, situation, &mut out);
             }
         }
-        for kind in 0..self.vocabulary.kinds.len() {
+        for (kind, has) in self.vocabulary.having().into_iter().enumerate() {
+            if !has {
+                out.extend_from_slice(b"# kind ");
+                out.extend_from_slice(self.vocabulary.kinds[kind]);
+                out.extend_from_slice(b" has no complete situation\n\n");
+            }
             self.together(kind, &vocabulary, &mut out);
         }
         say!(out, "# end of {} patterns\n", self.patterns.len());

@@ -90,8 +90,88 @@ fn a_kind_without_situations() {
         # done\n# 0 leftovers:\n# end of 0 leftovers\n\n\
         # _: printer\n# 0 leftovers:\n# end of 0 leftovers\n\n\
         # all 2 patterns of step together\n# 0 leftovers:\n# end of 0 leftovers\n\n\
+        # kind printer has no complete situation\n\n\
         # end of 3 patterns\n";
     assert_eq!(text, expected);
+}
+
+/// The note on a kind.
+fn note(kind: &str) -> String {
+    format!("# kind {kind} has no complete situation\n\n")
+}
+
+#[test]
+fn notes_on_kinds() {
+    // A kind without words, with a pattern of another kind and with none.
+    let b = "# b\n# 0 leftovers:\n# end of 0 leftovers\n\n";
+    let (e, none) = (note("e"), "# end of 0 patterns\n");
+    assert_eq!(
+        said("kind a = b\nkind e\nb\n"),
+        format!("{b}{e}# end of 1 patterns\n")
+    );
+    assert_eq!(said("kind a = b\nkind e\n"), format!("{e}{none}"));
+    // Kinds whose words lead back to them, by themselves or by each other.
+    assert_eq!(said("kind a = b kind e = f(e)"), format!("{e}{none}"));
+    let both = format!("{}{}{none}", note("a"), note("c"));
+    assert_eq!(said("kind a = b(c) kind c = d(a) | e(c) kind f = g"), both);
+    // b(d) is a situation, as the kind of d stands behind, and so on.
+    assert_eq!(said("kind a = b(c) kind c = d"), none);
+    assert_eq!(
+        said("kind a = b(c, e) kind c = d(e, e) kind e = f(g) kind g = h | i(a)"),
+        none
+    );
+    // Two kinds of four, in their order, and behind the answer to a question.
+    let four = "kind x kind a = b | c(x) kind y = d(y, a) kind z = e(a) n: b n ? b";
+    let expected = format!(
+        "# n: b\n# 0 leftovers:\n# end of 0 leftovers\n\n# n ? b\n# yes\n\n{}{}# end of 1 patterns\n",
+        note("x"),
+        note("y")
+    );
+    assert_eq!(said(four), expected);
+    // The note on a kind stands before the leftovers of its patterns together,
+    // and behind those of the kinds before.
+    let text = said("kind x kind a = b | c kind y = d(y) b d(_) b _: y");
+    let tail = format!(
+        "# _: y\n# 0 leftovers:\n# end of 0 leftovers\n\n{}\
+        # all 2 patterns of a together\n# 1 leftovers:\nc\n# end of 1 leftovers\n\n{}\
+        # all 2 patterns of y together\n# 0 leftovers:\n# end of 0 leftovers\n\n\
+        # end of 4 patterns\n",
+        note("x"),
+        note("y")
+    );
+    assert!(text.ends_with(&tail), "{text}");
+}
+
+/// A kind has a note exactly where list, asked for what another word leaves
+/// over, leaves a word out whose only place is of that kind.
+#[test]
+fn notes_are_those_of_listings() {
+    let mut gen = Gen::new(13);
+    let mut seen = [0; 2];
+    for _ in 0..4000 {
+        let case = gen.text_case();
+        let Ok(text) = read(&case.text) else { continue };
+        let (kinds, words) = (text.vocabulary.kinds.len(), text.vocabulary.words.len());
+        let said = answer(&case.text);
+        if kinds > 15 || words > 94 || said.starts_with(b"the answer") {
+            continue;
+        }
+        let lines: Vec<&[u8]> = said.split(|&byte| byte == b'\n').collect();
+        for (kind, name) in text.vocabulary.kinds.iter().enumerate() {
+            let mut more = text.vocabulary.bytes();
+            more[0] += 1;
+            more[1] += 2;
+            more.extend([kinds as u8, 0, kinds as u8, 1, kind as u8]);
+            let left = list(&more, &[kinds as u8, words as u8, 0], &mut [0; 3]);
+            assert!(matches!(left, [0, 0 | 1, ..]));
+            let note = [b"# kind ", *name, b" has no complete situation"].concat();
+            let notes = lines.iter().filter(|line| **line == note).count();
+            assert_eq!(notes, 1 - left[1] as usize, "{}", case.text.escape_ascii());
+            seen[notes] += 1;
+        }
+    }
+    println!("{} kinds without a note, {} with one", seen[0], seen[1]);
+    assert!(seen[0] > 1000 && seen[1] > 500);
 }
 
 #[test]
@@ -213,6 +293,70 @@ fn complaints() {
         bench("done\nkind lamp = red"),
         "line 5, column 1: all kinds are declared before the first pattern\nkind lamp = red\n^\n"
     );
+    // A mark that stands between places or words of a kind. A | behind the last
+    // kind would go on with its words.
+    let no_mark = "a pattern is due here; no mark stands between patterns, \
+        and the words of a kind stand behind =, with a | between them";
+    for (text, at) in [
+        ("done, done", 4),
+        ("done = done", 5),
+        ("go: | done", 4),
+        ("= held", 0),
+    ] {
+        let (column, mark) = (at + 1, " ".repeat(at));
+        assert_eq!(
+            bench(text),
+            format!("line 4, column {column}: {no_mark}\n{text}\n{mark}^\n")
+        );
+    }
+    for (text, at) in [
+        ("kind a = b, c", 10),
+        ("kind a = b = c", 11),
+        ("kind c = d kind a | b", 18),
+    ] {
+        let (column, mark) = (at + 1, " ".repeat(at));
+        assert_eq!(
+            said(text),
+            format!("line 1, column {column}: {no_mark}\n{text}\n{mark}^\n")
+        );
+    }
+    assert_eq!(
+        bench("done: : done"),
+        "line 4, column 7: a pattern is due here\ndone: : done\n      ^\n"
+    );
+    // Where no word stands before the mark, that is told.
+    assert_eq!(
+        said("kind a | b kind c = d"),
+        "line 1, column 8: no kind up to here has a word; words stand behind =, as in kind button = up | down\n\
+            kind a | b kind c = d\n       ^\n"
+    );
+    assert_eq!(
+        said("kind a\n"),
+        "line 2, column 1: no kind up to here has a word; words stand behind =, as in kind button = up | down\n\n^\n"
+    );
+    // A kind without words is due, in a pattern and in a question.
+    for (text, at) in [
+        ("b(c)", 2),
+        ("b()", 2),
+        ("n: _: lamp n ? c", 15),
+        ("n: b(_) n ? b(c)", 14),
+    ] {
+        let (column, mark) = (at + 1, " ".repeat(at));
+        assert_eq!(
+            said(&format!("kind a = b(lamp) | c\nkind lamp\n{text}")),
+            format!(
+                "line 3, column {column}: lamp is due here, and no word of that kind is declared before the first pattern\n{text}\n{mark}^\n"
+            )
+        );
+    }
+    assert_eq!(
+        said("kind a = b(e) | c kind e = f(e)\nb(c)"),
+        "line 2, column 3: e is due here: f\nb(c)\n  ^\n"
+    );
+    assert_eq!(
+        bench("wait(up, kind)"),
+        "line 4, column 10: queue is due here: free or full\nwait(up, kind)\n         ^\n"
+    );
     assert_eq!(
         said("\u{feff}kind a = b"),
         "line 1, column 1: a byte order mark stands here, and a text begins with `kind`\n\
@@ -270,16 +414,33 @@ fn faults() {
     let most = "x".repeat(32);
     for (text, expected) in [
         ("go: done".to_string(), (1, 0)),
-        // The names of kinds come first, wherever they stand.
-        ("go: done kind = up".to_string(), (2, 14)),
+        // The name behind a kind is judged where the reading comes to it.
+        ("go: done kind = up".to_string(), (1, 0)),
         ("kind kind".to_string(), (2, 5)),
-        ("kind a = b(kind".to_string(), (2, 15)),
+        ("kind kind = a".to_string(), (2, 5)),
+        ("kind a = b kind".to_string(), (2, 15)),
+        ("kind a = b(kind".to_string(), (9, 11)),
+        ("kind a = b | b kind =".to_string(), (7, 13)),
+        ("kind a kind a = |".to_string(), (4, 12)),
+        ("kind a = | kind a".to_string(), (6, 9)),
+        ("kind a = b(c) kind =".to_string(), (10, 11)),
+        // A kind is known though its declaration is never come to.
+        ("kind a = b(c) kind = kind c".to_string(), (2, 19)),
+        ("kind a = b(c) kind a kind c".to_string(), (4, 19)),
+        ("kind a = b(c) | d(kind c)".to_string(), (9, 18)),
+        ("kind a = b _: c b kind c".to_string(), (14, 18)),
+        ("kind a = b n: _: c n ? kind c".to_string(), (15, 23)),
+        ("kind a = b b kind =".to_string(), (14, 13)),
         (format!("kind {long}"), (3, 5)),
         (format!("kind a = {long}"), (3, 9)),
         (format!("kind a = b {long}: b"), (3, 11)),
         (format!("kind a = b ?{long}: a"), (3, 11)),
-        // A place and a word are not known by a name that is too long.
-        (format!("kind a = b({long})"), (10, 11)),
+        // No kind of a place can have a name that is too long, wherever it is
+        // declared; the kind of a pattern and a word are just not known by it.
+        (format!("kind a = b({long})"), (3, 11)),
+        (format!("kind a = b({long}) kind {long}"), (3, 11)),
+        (format!("kind a = b(a,a,a,a,a,a,a,a,{long})"), (3, 27)),
+        (format!("kind a = b _: {long}"), (10, 14)),
         (format!("kind a = b {long}"), (16, 11)),
         ("kind a kind b kind a".to_string(), (4, 19)),
         ("kind a =".to_string(), (6, 8)),
@@ -294,6 +455,9 @@ fn faults() {
         ("kind a = b(a | c".to_string(), (12, 13)),
         ("kind a kind b x".to_string(), (13, 14)),
         ("kind a".to_string(), (13, 6)),
+        ("kind a | b kind c = d".to_string(), (13, 7)),
+        ("kind a = b, c".to_string(), (14, 10)),
+        ("kind a = b = c".to_string(), (14, 11)),
         ("kind a = b | c\n) b".to_string(), (14, 15)),
         // A ( goes on with the word before it, on whatever line.
         ("kind a = b | c\n( b".to_string(), (10, 17)),
@@ -331,6 +495,33 @@ fn limits() {
     let kinds = |count| format!("kind a = b kind {}", names("k", count).join(" kind "));
     assert!(read(kinds(15).as_bytes()).is_ok());
     assert_eq!(fault(&kinds(16)), (5, kinds(16).len() - 3));
+    // A place of a kind that is not there is told as none of the first 16 where
+    // there are so many, whether a 17th is declared or not. k15 is the 17th.
+    let place = |count| kinds(count).replacen('b', "b(k15)", 1);
+    assert_eq!(fault(&place(14)), (10, 11));
+    assert_eq!(fault(&place(15)), (28, 11));
+    assert_eq!(fault(&place(16)), (28, 11));
+    let (text, mark) = (place(16), " ".repeat(11));
+    assert_eq!(
+        said(&text),
+        format!(
+            "line 1, column 12: kind k15 is none of the first 16 kinds, and 16 are the most\n{text}\n{mark}^\n"
+        )
+    );
+    // It is told before a ninth place, and behind a name that is too long.
+    let ninth = place(15).replacen("(k15", "(a,a,a,a,a,a,a,a,k15", 1);
+    assert_eq!(fault(&ninth), (28, 27));
+    let long = place(15).replacen("(k15", &format!("({}", "k".repeat(33)), 1);
+    assert_eq!(fault(&long), (3, 11));
+    // What is no name of a kind is not counted, and what stands in a pattern is.
+    let twice = place(16).replacen("kind k0", "kind a", 1);
+    assert_eq!(fault(&twice), (4, 21));
+    assert_eq!(fault(&format!("{} b(kind k14)", place(14))), (28, 11));
+    // The kinds of a pattern are the first 16.
+    let late = format!("{} _: k15 kind k15", kinds(15));
+    assert_eq!(fault(&late), (10, kinds(15).len() + 4));
+    let late = format!("{} _: k14 kind k14", kinds(14));
+    assert_eq!(fault(&late), (14, kinds(14).len() + 8));
     let words = |count| format!("kind a = {}", names("w", count).join(" | "));
     assert!(read(words(96).as_bytes()).is_ok());
     assert_eq!(fault(&words(97)), (8, words(97).len() - 3));
@@ -433,7 +624,7 @@ fn listings_that_are_too_long() {
 #[test]
 fn answers_are_read_back() {
     let mut gen = Gen::new(11);
-    let (mut good, mut entries, mut faults) = (0, 0, [0; 28]);
+    let (mut good, mut entries, mut faults) = (0, 0, [0; 29]);
     for _ in 0..4000 {
         let case = gen.text_case();
         let said = answer(&case.text);

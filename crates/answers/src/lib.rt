@@ -1,5 +1,5 @@
-// What the desk prints for a text: the leftovers of each of its patterns in words and the answers to what they are asked, and the
-// leftovers of all patterns of a kind together; or the text's first fault.
+// What the desk prints for a text: the leftovers of each of its patterns in words and the answers to what they are asked, which kinds
+// have no complete situation, and the leftovers of all patterns of a kind together; or the text's first fault.
 ghost use mathlib.Core.Path.{_≡_};
 ghost use mathlib.Core.List.{_++_};
 ghost use Prim.Native.Nat.{_-_, _≤_};

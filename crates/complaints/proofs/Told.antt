@@ -18,7 +18,7 @@ use Rattle.wire.proofs.Cond.{cond-true, cond-false}
 use Rattle.texts.specs.Lexemes.{Token, asking, blanks, tokenSize, lexemesFrom, tokenAt}
 use Rattle.texts.specs.Names.{same, mark, opening, isVariable}
 use Rattle.texts.specs.Faults.{kindDue, patternDue, termDue, unknownWord, otherKind, placesWrong, placesOver}
-use Rattle.texts.specs.Complaints.{Known, dueText, commasIn, placesText, noPatternText, tokenBehind, unknownText, unmarked, reasonText, newlines, columns, lineStart, complaint}
+use Rattle.texts.specs.Complaints.{Known, dueText, commasIn, placesText, noPatternText, tokenBehind, unknownText, orderMarked, reasonText, newlines, columns, lineStart, complaint}
 use Rattle.complaints.specs.Parts.{fault, aboutPlaces, plain, otherText, placeText, pictureText}
 
 pub behind-is : (b : List ℕ) (at : ℕ) {e s : ℕ} → e ≡ at + tokenSize (drop at b) → s ≡ e + blanks (drop e b) → tokenAt b s ≡ tokenBehind b at
@@ -52,20 +52,20 @@ module _ (u v : Token) (why : ℕ) where
         (cond-false (eqb why patternDue) _ _ (ne-eqb why patternDue p)
         ∙ cond-true (eqb why unknownWord) _ _ (eq-eqb why unknownWord w))
 
-    module _ (w : why ≡ unknownWord → ⊥) {t : Bool} (e : t ≡ (eqb why kindDue && unmarked u)) where
+    module _ (w : why ≡ unknownWord → ⊥) {t : Bool} (e : t ≡ (eqb why kindDue && orderMarked u)) where
       pub other-marked : t ≡ true → ascii "a byte order mark stands here, and a text begins with `kind`" ≡ otherText u v why
       other-marked d =
           sym
           (cond-false (eqb why patternDue) _ _ (ne-eqb why patternDue p)
           ∙ cond-false (eqb why unknownWord) _ _ (ne-eqb why unknownWord w)
-          ∙ cond-true (eqb why kindDue && unmarked u) _ _ (sym e ∙ d))
+          ∙ cond-true (eqb why kindDue && orderMarked u) _ _ (sym e ∙ d))
 
       pub other-plain : t ≡ false → plain u why ≡ otherText u v why
       other-plain d =
           sym
           (cond-false (eqb why patternDue) _ _ (ne-eqb why patternDue p)
           ∙ cond-false (eqb why unknownWord) _ _ (ne-eqb why unknownWord w)
-          ∙ cond-false (eqb why kindDue && unmarked u) _ _ (sym e ∙ d))
+          ∙ cond-false (eqb why kindDue && orderMarked u) _ _ (sym e ∙ d))
 
 module _ (T : Known) (why at of : ℕ) (u v : Token) (c : ℕ) {t : Bool} (e : t ≡ (eqb why termDue || eqb why otherKind)) where
   pub reason-due : t ≡ true → dueText T of ≡ reasonText T (fault why at of) u v c

@@ -19,7 +19,7 @@ use Rattle.wire.specs.Row.{writeRow}
 use Rattle.wire.specs.Text.{ascii, newline, decimal}
 use Rattle.texts.specs.Lexemes.{Token}
 use Rattle.texts.specs.Faults.{kindDue, patternDue, unknownWord, placesWrong, placesOver}
-use Rattle.texts.specs.Complaints.{reasons, endings, tokenThen, noPatternText, unknownText, unmarked, newlines, follows, columns, shown, padding, lineSize}
+use Rattle.texts.specs.Complaints.{reasons, endings, tokenThen, noPatternText, unknownText, orderMarked, newlines, follows, columns, shown, padding, lineSize}
 pub use Rattle.dues.specs.Parts.{fault}
 
 abbrev pub skipped : Bool → ℕ → Bool
@@ -44,7 +44,7 @@ abbrev pub otherText : Token → Token → ℕ → List ℕ
 otherText u v why =
     cond (eqb why patternDue) (noPatternText u)
     (cond (eqb why unknownWord) (unknownText u v)
-    (cond (eqb why kindDue && unmarked u) (ascii "a byte order mark stands here, and a text begins with `kind`") (plain u why)))
+    (cond (eqb why kindDue && orderMarked u) (ascii "a byte order mark stands here, and a text begins with `kind`") (plain u why)))
 
 abbrev pub placeText : List ℕ → List ℕ → List ℕ
 placeText before last =

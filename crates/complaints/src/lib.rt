@@ -6,7 +6,7 @@ ghost use Rattle.wire.specs.Row.{writeRow};
 ghost use Rattle.texts.specs.Lexemes.{lexemesFrom, tokenAt};
 ghost use Rattle.texts.specs.Names.{same, mark, opening};
 ghost use Rattle.texts.specs.Faults.{kindDue, termDue, otherKind, placesWrong, placesOver};
-ghost use Rattle.texts.specs.Complaints.{tokenThen, commasIn, noPatternText, tokenBehind, unknownText, unmarked, reasonText, complaint};
+ghost use Rattle.texts.specs.Complaints.{tokenThen, commasIn, joinsWords, noPatternText, tokenBehind, unknownText, orderMarked, reasonText, complaint};
 ghost use Rattle.texts.specs.Tabled.{knownIn};
 ghost use Rattle.pages.specs.Pages.{Adds};
 ghost use Rattle.complaints.specs.Parts.{fault, seenAs, skipped, drawn, aboutPlaces, plain, otherText, placeText, pictureText};
@@ -30,7 +30,7 @@ fn put_plain(text: &[u8], at: usize, why: usize, page: &mut [u8; 1048576], to: u
 {
     let opened = pages::put(
         lines::line_of(
-            b"\n`kind` is due here, as a text begins with its kinds\na name is due here, for the kind\n32 bytes are the most for a name, and this one has more\nkind \n16 kinds are the most, and this is one more\na name is due here, for a word\nword \n96 words are the most, and this is one more\nthe name of a kind is due here\nkind \n8 places are the most, and this is one more\na , or a ) is due here\nno kind has a word\n\n\n\n\n\n32 levels are the most, and this is one more\n4096 bytes are the most for a pattern or a situation, and this one has more\n\n64 names are the most in a pattern, and this is one more\na : and a kind are due here, as in _: step\n65535 bytes are the most for a text, and this one has more\n\na situation has no open place and no name\na question begins with the label of the pattern before it, and this is another name\n",
+            b"\n`kind` is due here, as a text begins with its kinds\na name is due here, for the kind\n32 bytes are the most for a name, and this one has more\nkind \n16 kinds are the most, and this is one more\na name is due here, for a word\nword \n96 words are the most, and this is one more\nthe name of a kind is due here\nkind \n8 places are the most, and this is one more\na , or a ) is due here\nno kind up to here has a word; words stand behind =, as in kind button = up | down\n\n\n\n\n\n32 levels are the most, and this is one more\n4096 bytes are the most for a pattern or a situation, and this one has more\n\n64 names are the most in a pattern, and this is one more\na : and a kind are due here, as in _: step\n65535 bytes are the most for a text, and this one has more\n\na situation has no open place and no name\na question begins with the label of the pattern before it, and this is another name\nkind \n",
             why,
         ),
         page,
@@ -40,12 +40,25 @@ fn put_plain(text: &[u8], at: usize, why: usize, page: &mut [u8; 1048576], to: u
         text,
         at,
         lines::line_of(
-            b"\n\n\n\n is declared twice\n\n\n is declared twice\n\n\n is used and not declared\n\n\n\n\n\n\n\n\n\n\n stands twice in this pattern\n\n\n\n\n\n\n",
+            b"\n\n\n\n is declared twice\n\n\n is declared twice\n\n\n is used and not declared\n\n\n\n\n\n\n\n\n\n\n stands twice in this pattern\n\n\n\n\n\n\n is none of the first 16 kinds, and 16 are the most\n",
             why,
         ),
         page,
         opened,
     )
+}
+
+// Whether a mark stands at an offset that may have been meant for the words of a kind.
+fn joins_words(text: &[u8], at: usize) -> bool
+    ensures { λ r. ⌜ r ≡ joinsWords (tokenAt (now (text .entry)) at) ⌝ }
+{
+    if lexer::is_mark(text, at, b',') {
+        return true;
+    }
+    if lexer::is_mark(text, at, b'|') {
+        return true;
+    }
+    lexer::is_mark(text, at, b'=')
 }
 
 // Puts what is said of the token at an offset where a pattern is due.
@@ -54,6 +67,13 @@ fn put_no_pattern(text: &[u8], at: usize, page: &mut [u8; 1048576], to: usize) -
 {
     if lexer::is_word(text, at, b"kind") {
         return pages::put(b"all kinds are declared before the first pattern", page, to);
+    }
+    if joins_words(text, at) {
+        return pages::put(
+            b"a pattern is due here; no mark stands between patterns, and the words of a kind stand behind =, with a | between them",
+            page,
+            to,
+        );
     }
     pages::put(b"a pattern is due here", page, to)
 }
@@ -81,7 +101,7 @@ fn put_unknown(text: &[u8], at: usize, page: &mut [u8; 1048576], to: usize) -> u
 
 // Whether a byte order mark stands at an offset where a text begins.
 fn is_marked(text: &[u8], at: usize, why: usize) -> bool
-    ensures { λ r. ⌜ r ≡ (eqb why kindDue && unmarked (tokenAt (now (text .entry)) at)) ⌝ }
+    ensures { λ r. ⌜ r ≡ (eqb why kindDue && orderMarked (tokenAt (now (text .entry)) at)) ⌝ }
 {
     if why != 1 {
         return false;

@@ -28,6 +28,10 @@ fn main() {
         answer_from(STDIN_FILENO);
         return;
     }
+    if 2 < os::arg_count() {
+        io::write_all(STDERR_FILENO, b"desk: one file at a time\n");
+        return;
+    }
     let mut path = [0u8; 4096];
     let n = os::arg(1, &mut path);
     let fd = os::open_read(&path[0..n]);

@@ -8,10 +8,10 @@ ghost use Prim.Native.Nat.{_*_, _<_, _≤_, min};
 ghost use Rattle.terms.specs.Lists.{range};
 ghost use Rattle.texts.specs.Lexemes.{lexemesFrom, tokenAt};
 ghost use Rattle.texts.specs.Names.{nameAt};
-ghost use Rattle.texts.specs.Complaints.{dueText, beginsTerm, commasIn, takesText, missingText, overText, placesText};
+ghost use Rattle.texts.specs.Complaints.{dueText, between, unlisted, beginsTerm, commasIn, takesText, missingText, overText, placesText};
 ghost use Rattle.texts.specs.Tabled.{namesIn, tabledPlaces, knownIn};
 ghost use Rattle.pages.specs.Pages.{Adds};
-ghost use Rattle.dues.specs.Parts.{fault, between, alternative, dueWords, deeperAt, commaAt};
+ghost use Rattle.dues.specs.Parts.{fault, alternative, dueWords, deeperAt, commaAt};
 
 fn shorter(a: usize, b: usize) -> usize
     ensures { λ r. ⌜ r ≡ min a b ⌝ }
@@ -59,6 +59,20 @@ fn put_between(again: bool, page: &mut [u8; 1048576], to: usize) -> usize
     pages::put(b": ", page, to)
 }
 
+// Puts what is said where no word was listed.
+fn put_unlisted(again: bool, page: &mut [u8; 1048576], to: usize) -> usize
+    ensures { λ r. ⌜ Adds (now (page .entry)) to (now (page .exit)) r (unlisted again) ⌝ }
+{
+    if again {
+        return to;
+    }
+    pages::put(
+        b", and no word of that kind is declared before the first pattern",
+        page,
+        to,
+    )
+}
+
 // Puts the name of a word in a list of words; nothing where it is not listed.
 fn put_alternative(
     text: &[u8],
@@ -88,7 +102,7 @@ fn is_of(records: &[u8], f: usize, kind: usize) -> bool
     records[10 * f] as usize == kind
 }
 
-// Puts the words of a kind.
+// Puts the words of a kind, or that it has none.
 fn put_alternatives(
     text: &[u8],
     kind: usize,
@@ -111,7 +125,7 @@ fn put_alternatives(
         again = either(again, listed);
         i += 1;
     }
-    next
+    put_unlisted(again, page, next)
 }
 
 // Puts which kind is due, with its words.

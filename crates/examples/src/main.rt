@@ -13,7 +13,7 @@ mod slice_line;
 use libc::STDIN_FILENO;
 
 fn main() {
-    let mut input = [0u8; 262144];
+    let mut input = [0u8; 393216];
     let n = io::read_full(STDIN_FILENO, &mut input);
     cases::lines(notation::between(&input, 0, n));
 }

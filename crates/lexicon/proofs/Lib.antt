@@ -3,5 +3,4 @@ pub mod Whys
 pub mod Names
 pub mod Rows
 pub mod Steps
-pub mod Begun
 pub mod Reading

@@ -2,43 +2,43 @@
 --
 --   Reading           what is read before an offset, and what is left of the text make up the vocabulary
 --   reading-none      nothing is read
---   told, named-told  a promise for an answer that is known
---   reading-few       no more kinds have begun than a vocabulary may have
+--   told              a promise for an answer that is known
+--   reading-few       no more kinds have begun than there are names
 --   reading-on, reading-later     a token that goes on, and is passed
 --   reading-over      the vocabulary ends
 --   reading-fails     a token at fault
---   reading-misnamed, names-known     a kind has no name; the names are read
 --
-use mathlib.Core.Path.{_≡_, sym, ap, ap₂, subst, _∙_}
+use mathlib.Core.Path.{_≡_, refl, sym, ap, ap₂, subst, _∙_}
+use mathlib.Core.Bool.{Bool, true, false}
 use mathlib.Core.List.{List, []}
 use Prim.Native.Nat.{ℕ, zero, suc, _+_, _<_, _≤_}
 use native.Mathlib.Omega.{arith}
-use lib.Dec.{eqb}
+use lib.Dec.{eqb, ltb}
 use lib.ListN.{length, take, drop}
-use borrow.Author.Tests.{ne-eqb}
-use Rattle.wire.specs.Vocabulary.{mostKinds}
+use borrow.Author.Tests.{ltb-true, ltb-false, ne-eqb}
 use Rattle.wire.proofs.Cond.{cond-false}
 use Rattle.texts.specs.Lexemes.{Token, tokenSize, lexemes, lexemesFrom, tokenAt}
 use Rattle.texts.specs.Faults.{parsed}
 use Rattle.texts.specs.LexiconReading as reading
-use Rattle.texts.specs.LexiconReading.{Declaring, beginning, readRows, readKindNames, readLexicon, withNames, step}
+use Rattle.texts.specs.LexiconReading.{Declaring, beginning, namesFrom, readRows, readLexicon, step}
 use Rattle.texts.specs.Tabled.{namesIn}
-use Rattle.texts.proofs.Scanning.{lexemes-whole}
+use Rattle.texts.proofs.Scanning.{token-none, lexemes-whole}
+use Rattle.texts.proofs.Gathering.{Coming, naming}
+use Rattle.texts.proofs.Begun.{coming-few, coming-step}
+use Rattle.texts.proofs.LexiconFaults.{end-on}
 use Rattle.lexicon.specs.declared.Stage.{Stage}
 use Rattle.lexicon.specs.declared.Stage.the-variants.{AtStart}
 use Rattle.lexicon.specs.declared.Stepped.{Stepped}
 use Rattle.lexicon.specs.declared.Stepped.the-variants.{On, Over, Fails}
-use Rattle.lexicon.specs.declared.NamesAnswer.{NamesAnswer}
-use Rattle.lexicon.specs.declared.NamesAnswer.the-variants.{Named, Misnamed}
 use Rattle.lexicon.specs.declared.LexiconAnswer.{LexiconAnswer}
 use Rattle.lexicon.specs.declared.LexiconAnswer.the-variants.{Bad}
 use Rattle.lexicon.specs.Rows.{Tables}
 use Rattle.lexicon.specs.Stages.{phaseOf, declaring, StepPromise}
-use Rattle.lexicon.specs.Answers.{NamesPromise, KindsKnown, endedOf, LexiconPromise}
+use Rattle.lexicon.specs.Answers.{KindsKnown, endedOf, LexiconPromise}
 use Rattle.lexicon.proofs.Whys.{names-length}
 use Rattle.texts.proofs.Fronts.{start, behindFront, frontOf, front, behind-inside, end-inside, end-behind}
 use Rattle.lexicon.proofs.Rows.{rows-of, words-rows}
-use Rattle.lexicon.proofs.Begun.{Ahead, ahead-few, ahead-step, on-inside}
+use Rattle.lexicon.proofs.Names.{tokensOf}
 
 module _ (b kinds : List ℕ) (k : ℕ) where
   abbrev pub kindNames : List Token
@@ -48,7 +48,7 @@ pub record Reading (b kinds : List ℕ) (k at : ℕ) (p : Stage) (c n : ℕ) (wo
   pub known : KindsKnown b kinds k
   pub within : at ≤ length b
   pub tables : Tables n words records
-  pub ahead : Ahead (kindNames b kinds k) (lexemesFrom b at) c (phaseOf p)
+  pub ahead : Coming (kindNames b kinds k) (naming (phaseOf p)) c (tokensOf (lexemesFrom b at))
   pub same : readRows (kindNames b kinds k) (declaring b p c n words records) (lexemesFrom b at) ≡ readLexicon (lexemes b)
 
 pub reading-none : {b kinds words records : List ℕ} {k : ℕ} → KindsKnown b kinds k → Tables 0 words records →
@@ -57,9 +57,17 @@ reading-none {b} {kinds} {words} {records} {k} h t = record {
   known = h;
   within = omega arith;
   tables = t;
-  ahead = record { seen = []; enough = omega arith; rest = ap (readKindNames []) (lexemes-whole b) ∙ h .same };
-  same = ap (readRows (kindNames b kinds k) beginning) (lexemes-whole b) ∙ sym (ap (withNames (lexemes b)) (h .same));
+  ahead = record { few = omega arith; rest = ap (λ l. namesFrom [] (tokensOf l)) (lexemes-whole b) ∙ h .same };
+  same = ap (readRows (kindNames b kinds k) beginning) (lexemes-whole b) ∙ ap (λ names. readRows names beginning (lexemes b)) (sym (h .same));
 }
+
+-- A step that goes on is made by a token of the text: behind its end no reading goes on.
+on-inside : (b : List ℕ) (K : List Token) (x : Declaring) {z : Declaring} (s : ℕ) → reading.on z ≡ step K x (tokenAt b s) → s < length b
+on-inside b K x {z} s e = go (ltb s (length b)) refl
+  where
+    go : (t : Bool) → ltb s (length b) ≡ t → s < length b
+    go true g = ltb-true s (length b) g
+    go false g = absurd (end-on K x z (x .phase) (ap (step K x) (sym (token-none b s (ltb-false s (length b) g))) ∙ sym e))
 
 -- What a function's answer is known to be.
 pub told : {b : List ℕ} {K : List Token} {p : Stage} {c n s : ℕ} {words records words' records' : List ℕ} {r q : Stepped} →
@@ -95,9 +103,9 @@ module _ {b kinds : List ℕ} {k at : ℕ} {p : Stage} {c n : ℕ} {words record
   abbrev x : Declaring
   x = declaring b p c n words records
 
-  pub reading-few : c ≤ mostKinds
+  pub reading-few : c ≤ k
   reading-few =
-      omega (arith, ahead-few K (lexemesFrom b at) c (phaseOf p) (t .ahead), names-length b kinds k (omega (arith, t .known .few, t .known .size)), t .known .few)
+      omega (arith, coming-few K (naming (phaseOf p)) c (tokensOf (lexemesFrom b at)) (t .ahead), names-length b kinds k (omega (arith, t .known .few, t .known .size)))
 
   module _ {s : ℕ} (from : s ≡ start b at) where
     here : (r : reading.Stepped) → r ≡ step K x (tokenAt b s) →
@@ -110,7 +118,7 @@ module _ {b kinds : List ℕ} {k at : ℕ} {p : Stage} {c n : ℕ} {words record
     module _ {words' records' : List ℕ} where
       module _ {p' : Stage} {c' n' : ℕ} (h : StepPromise b K p c n s words records words' records' (On p' c' n')) {e : ℕ} (end : e ≡ s + tokenSize (drop s b)) where
         inside : s < length b
-        inside = on-inside b K x at s from (t .ahead) (h .same)
+        inside = on-inside b K x s (h .same)
 
         pub reading-later : at < e
         reading-later = end-behind b at (t .within) from end inside
@@ -121,8 +129,9 @@ module _ {b kinds : List ℕ} {k at : ℕ} {p : Stage} {c n : ℕ} {words record
           within = end-inside b at (t .within) from end;
           tables = h .keeps;
           ahead =
-              subst (λ l. Ahead K l c' (phaseOf p')) (behind-inside b end inside)
-              (ahead-step K x (record { at = s; token = tokenAt b s }) (behindFront b s) (subst (λ l. Ahead K l c (phaseOf p)) (front b at from) (t .ahead)) (h .same));
+              subst (λ l. Coming K (naming (phaseOf p')) c' (tokensOf l)) (behind-inside b end inside)
+              (coming-step K x (declaring b p' c' n' words' records') (tokenAt b s) (tokensOf (behindFront b s))
+              (subst (λ l. Coming K (naming (phaseOf p)) c (tokensOf l)) (front b at from) (t .ahead)) (sym (h .same)));
           same = sym (here _ (h .same) ∙ ap (readRows K (declaring b p' c' n' words' records')) (behind-inside b end inside));
         }
 
@@ -134,12 +143,3 @@ module _ {b kinds : List ℕ} {k at : ℕ} {p : Stage} {c n : ℕ} {words record
       reading-over h {r} e =
           subst (λ w. LexiconPromise b kinds w records' r) (sym (h .keeps .0))
           (subst (λ w. LexiconPromise b kinds words w r) (sym (h .keeps .1)) (subst (LexiconPromise b kinds words records) (sym e) (reading-ends n t from (here _ (h .same)))))
-
-pub reading-misnamed : {b kinds words records : List ℕ} {why at : ℕ} → NamesPromise b kinds (Misnamed why at) → LexiconPromise b kinds words records (Bad why at)
-reading-misnamed {b} h = record { same = ap (withNames (lexemes b)) (h .same); fits = tt }
-
-pub names-known : {b kinds : List ℕ} {k : ℕ} → NamesPromise b kinds (Named k) → KindsKnown b kinds k
-names-known h = record { size = h .size; few = h .fits; same = h .same }
-
-pub named-told : {b kinds : List ℕ} {r q : NamesAnswer} → NamesPromise b kinds r → r ≡ q → NamesPromise b kinds q
-named-told {b} {kinds} h e = subst (NamesPromise b kinds) e h

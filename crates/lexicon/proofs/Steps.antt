@@ -2,7 +2,8 @@
 --
 --   word-fails, word-stored      a token that is no new word, and one that is
 --   place-fails, place-stored    a token that is no place, and one that is
---   kind-stored                  the name of a kind
+--   kind-fails, kind-begun       the answers of step_kind
+--   kind-step                    the name of a kind
 --   Unstored p                   the stages in which a token is not stored
 --   mark-step                    a token that is not stored
 --   in-stage, any-names          a promise for a stage that is known, and for other names of kinds
@@ -11,19 +12,20 @@
 use mathlib.Core.Path.{_≡_, refl, sym, ap, ap₂, subst, _∙_}
 use mathlib.Core.Bool.{Bool, true, false, cond}
 use mathlib.Core.List.{List, [], _∷_, map}
-use Prim.Native.Nat.{ℕ, zero, suc, _+_, _<_, _-_}
+use Prim.Native.Nat.{ℕ, zero, suc, _+_, _<_, _≤_, _-_}
 use native.Mathlib.Numerals.{add-one}
 use native.Mathlib.Omega.{arith}
 use denote.Enum.Declared.{tagOf}
 use types.Run.{OneOf, miss}
 use lib.ListN.{length, set, take}
+use lib.Seq.{take-take}
 use Rattle.wire.specs.Vocabulary.{mostWords}
 use Rattle.texts.specs.Lexemes.{Token, tokenAt}
 use Rattle.texts.specs.Names.{same, kindWord, mark, opening, closing, comma, bar, equals, indexIn}
 use Rattle.texts.specs.Lexicon.{mostPlaces}
 use Rattle.texts.specs.Faults.{kindDue, placeEnd}
 use Rattle.texts.specs.LexiconReading as reading
-use Rattle.texts.specs.LexiconReading.{Declaring, WordRow, Phase, on, fails, goTo, stepWord, stepPlace, stepOn, grown, wordNameWhy, placeWhy, placesLast}
+use Rattle.texts.specs.LexiconReading.{Declaring, WordRow, Phase, on, fails, goTo, stepKind, stepWord, stepPlace, stepOn, grown, kindNameWhy, wordNameWhy, placeWhy, placesLast}
 use Rattle.texts.specs.Tabled.{namesIn}
 use Rattle.lexicon.specs.declared.Stage.{Stage}
 use Rattle.lexicon.specs.declared.Stage.the-variants.{AtStart, AtKind, BehindKind, AtWord, BehindWord, AtPlace, BehindPlace, BehindPlaces}
@@ -33,7 +35,7 @@ use Rattle.lexicon.specs.declared.Stepped.{Stepped}
 use Rattle.lexicon.specs.declared.Stepped.the-variants.{On, Fails}
 use Rattle.lexicon.specs.declared.LexiconAnswer.the-variants.{Read, Bad}
 use Rattle.lexicon.specs.Rows.{rowsIn, lastIn, countLast, begun, placed, Tables}
-use Rattle.lexicon.specs.Stages.{declaring, turnOf, onTurn, wordTurn, steppedOf, stepping, StepKeeps, StepPromise, WordPromise, PlacePromise}
+use Rattle.lexicon.specs.Stages.{declaring, turnOf, onTurn, wordTurn, steppedOf, steppedKind, stepping, StepKeeps, StepPromise, WordPromise, PlacePromise}
 use Rattle.lexicon.specs.Answers.{endedOf}
 use Rattle.lexicon.proofs.Stage.{the-type}
 use Rattle.lexicon.proofs.Whys.{names-length, name-sound, place-sound}
@@ -49,6 +51,25 @@ on-same : (p : Phase) (c : ℕ) {K K' : List Token} {d d' l l' : List WordRow} �
 on-same p c {K} {K'} {d} {d'} {l} {l'} e f g =
     ap (λ x. on (record { phase = p; kinds = c; names = x; done = d; last = l })) e
     ∙ ap₂ (λ x y. on (record { phase = p; kinds = c; names = K'; done = x; last = y })) f g
+
+module _ (b : List ℕ) (s : ℕ) (kinds : List ℕ) (c n : ℕ) {why : ℕ} (known : why ≡ kindNameWhy (namesIn b (take c kinds)) (tokenAt b s)) where
+  abbrev kindStepped : Stepped
+  kindStepped = steppedKind c n (kindNameWhy (namesIn b (take c kinds)) (tokenAt b s))
+
+  pub kind-fails : (why ≡ 0 → ⊥) → Fails why ≡ kindStepped
+  kind-fails z = go why z ∙ ap (steppedKind c n) known
+    where
+      go : (w : ℕ) → (w ≡ 0 → ⊥) → Fails w ≡ steppedKind c n w
+      go zero not = absurd (not refl)
+      go (suc w) not = refl
+
+  pub kind-begun : why ≡ 0 → On BehindKind (c + 1) n ≡ kindStepped
+  kind-begun z = ap (steppedKind c n) (sym z ∙ known)
+
+names-front : (b : List ℕ) (c : ℕ) (q : List ℕ) → namesIn b (take c q) ≡ take c (namesIn b q)
+names-front b zero q = refl
+names-front b (suc c) [] = refl
+names-front b (suc c) (i ∷ q) = ap (λ l. tokenAt b i ∷ l) (names-front b c q)
 
 module _ (b : List ℕ) (c s : ℕ) {n : ℕ} {words records : List ℕ} (t : Tables n words records) where
   abbrev u : Token
@@ -67,7 +88,7 @@ module _ (b : List ℕ) (c s : ℕ) {n : ℕ} {words records : List ℕ} (t : Ta
 
     pub word-room : why ≡ 0 → n < mostWords
     word-room z =
-        omega (arith, name-sound 5 6 7 mostWords names u (sym known ∙ z) .1, names-length b words n (omega (arith, t .few, t .wordsSize)))
+        omega (arith, name-sound 5 6 7 mostWords names u (sym known ∙ z), names-length b words n (omega (arith, t .few, t .wordsSize)))
 
     pub word-stored : why ≡ 0 → {kind : ℕ} → kind ≡ c - 1 → {words' records' : List ℕ} → words' ≡ set words n s → records' ≡ begun kind n records →
         WordPromise b c n s words records words' records' (On BehindWord c (n + 1))
@@ -142,11 +163,25 @@ module _ (b : List ℕ) (c s : ℕ) {n : ℕ} {words records : List ℕ} (t : Ta
             let large = t .recordsSize in
             ap (λ r. r ∷ []) (placed-row kind m f records (sym q) low (omega arith))
 
-  pub kind-stored : (K : List Token) → StepPromise b K AtKind c n s words records words records (On BehindKind (c + 1) n)
-  kind-stored K = record {
-    same = ap (λ i. on (record { phase = reading.behindKind; kinds = i; names = names; done = rowsIn (n - 1) records; last = lastIn n records })) (add-one c);
-    keeps = t;
-  }
+  -- The kinds that have begun are the first ones of all.
+  module _ (kinds : List ℕ) (k : ℕ) (begun : c ≤ k) where
+    front-names : namesIn b (take c kinds) ≡ take c (namesIn b (take k kinds))
+    front-names = ap (namesIn b) (sym (take-take c k kinds begun)) ∙ names-front b c (take k kinds)
+
+    pub kind-step : {r : Stepped} → r ≡ steppedKind c n (kindNameWhy (namesIn b (take c kinds)) u) →
+        StepPromise b (namesIn b (take k kinds)) AtKind c n s words records words records r
+    kind-step {r} e = record {
+      same = ap (stepping b words records) e ∙ says-kind (kindNameWhy (namesIn b (take c kinds)) u) ∙ ap (λ names. stepKind (declaring b AtKind c n words records) (kindNameWhy names u)) front-names;
+      keeps = subst (StepKeeps words records words records) (sym e) (kind-keeps (kindNameWhy (namesIn b (take c kinds)) u));
+    }
+      where
+        says-kind : (why : ℕ) → stepping b words records (steppedKind c n why) ≡ stepKind (declaring b AtKind c n words records) why
+        says-kind zero = ap (λ i. on (record { phase = reading.behindKind; kinds = i; names = names; done = rowsIn (n - 1) records; last = lastIn n records })) (add-one c)
+        says-kind (suc why) = refl
+
+        kind-keeps : (why : ℕ) → StepKeeps words records words records (steppedKind c n why)
+        kind-keeps zero = t
+        kind-keeps (suc why) = tt
 
   -- ---- tokens that are not stored
 

@@ -1,8 +1,6 @@
 -- Answers: what reading a vocabulary in words promises.
 --
---   namesAnswered b kinds r     the names of the kinds that the code answers, or its fault
---   NamesFit r, NamesPromise b kinds r      they are no more than may be; it is what readKindNames says
---   KindsKnown b kinds k        the table has the names of the k kinds of the text
+--   KindsKnown b kinds k        the table has the names of the k kinds of the text, which are no more than may be
 --   endedOf k n end at          the answer where the vocabulary ends before the token at an offset
 --   lexiconAnswered b kinds words records r     the vocabulary that the code answers, or its fault
 --   Fits, LexiconFits           where it answers a vocabulary: its counts and tables are in order
@@ -13,34 +11,19 @@ use mathlib.Core.List.{List, [], map}
 use Prim.Native.Nat.{ℕ, zero, suc, _<_, _≤_}
 use lib.ListN.{length, take}
 use Rattle.wire.specs.Vocabulary.{mostKinds}
-use Rattle.texts.specs.Lexemes.{lexemes, lexemesFrom}
+use Rattle.texts.specs.Lexemes.{lexemes, tokens, lexemesFrom}
 use Rattle.texts.specs.Faults.{Parsed, parsed, bad, noWords}
-use Rattle.texts.specs.LexiconReading.{Names?, named, misnamed, LexiconRead, rowWord, readKindNames, readLexicon}
+use Rattle.texts.specs.LexiconReading.{LexiconRead, rowWord, namesFrom, readLexicon}
 use Rattle.texts.specs.Tabled.{namesIn, wordsIn}
-use Rattle.lexicon.specs.declared.NamesAnswer.{NamesAnswer}
-use Rattle.lexicon.specs.declared.NamesAnswer.the-variants.{Named, Misnamed}
 use Rattle.lexicon.specs.declared.LexiconAnswer.{LexiconAnswer}
 use Rattle.lexicon.specs.declared.LexiconAnswer.the-variants.{Read, Bad}
 use Rattle.lexicon.specs.Rows.{rowsIn, Tables}
-
-abbrev pub namesAnswered : List ℕ → List ℕ → NamesAnswer → Names?
-namesAnswered b kinds (Named k) = named (namesIn b (take k kinds))
-namesAnswered b kinds (Misnamed why at) = misnamed (record { why = why; at = at; of = 0 })
-
-abbrev pub NamesFit : NamesAnswer → Type 0
-NamesFit (Named k) = k ≤ mostKinds
-NamesFit (Misnamed why at) = Unit {0}
-
-pub record NamesPromise (b kinds : List ℕ) (r : NamesAnswer) : Type 0 where
-  pub size : length kinds ≡ mostKinds
-  pub same : readKindNames [] (lexemes b) ≡ namesAnswered b kinds r
-  pub fits : NamesFit r
 
 -- The names of the kinds are known.
 pub record KindsKnown (b kinds : List ℕ) (k : ℕ) : Type 0 where
   pub size : length kinds ≡ mostKinds
   pub few : k ≤ mostKinds
-  pub same : readKindNames [] (lexemes b) ≡ named (namesIn b (take k kinds))
+  pub same : namesFrom [] (tokens b) ≡ namesIn b (take k kinds)
 
 abbrev pub endedOf : ℕ → ℕ → ℕ → ℕ → LexiconAnswer
 endedOf k zero end at = Bad noWords at

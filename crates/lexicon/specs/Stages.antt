@@ -4,6 +4,7 @@
 --   declaring b p c n words records    what was read: c kinds have begun, and the tables have n words
 --   onTurn, startTurn, wordTurn, behindWordTurn, behindPlaceTurn, turnOf    what a mark or `kind` leads to
 --   steppedOf c n t           the same with the counts, as they were
+--   steppedKind c n why       a kind more has begun, where nothing speaks against its name
 --   stepping b words records r   what the code says of a token, as a step
 --   StepKeeps words records words' records' r    what is kept of the tables: in order where it goes on, as they were where it is over
 --   StepPromise               what the code does with a token
@@ -12,7 +13,7 @@
 use mathlib.Core.Path.{_≡_}
 use mathlib.Core.Bool.{cond}
 use mathlib.Core.List.{List, []}
-use Prim.Native.Nat.{ℕ, _-_}
+use Prim.Native.Nat.{ℕ, zero, suc, _+_, _-_}
 use lib.ListN.{take}
 use Rattle.texts.specs.Lexemes.{Token, tokenAt}
 use Rattle.texts.specs.Names.{same, kindWord, mark, opening, closing, comma, bar, equals}
@@ -63,7 +64,7 @@ abbrev pub behindPlaceTurn : Token → Turn
 behindPlaceTurn u =
     cond (same u (mark comma)) (To AtPlace) (cond (same u (mark closing)) (To BehindPlaces) (Wrong placeEnd))
 
--- Names are not looked at here.
+-- Names are not looked at here, and `step` does not come here with them.
 abbrev pub turnOf : Token → Stage → Turn
 turnOf u AtStart = startTurn u
 turnOf u AtKind = To BehindKind
@@ -89,6 +90,10 @@ abbrev pub steppedOf : ℕ → ℕ → Turn → Stepped
 steppedOf c n (To p) = On p c n
 steppedOf c n Ends = Over
 steppedOf c n (Wrong why) = Fails why
+
+abbrev pub steppedKind : ℕ → ℕ → ℕ → Stepped
+steppedKind c n zero = On BehindKind (c + 1) n
+steppedKind c n (suc why) = Fails (suc why)
 
 pub record StepPromise (b : List ℕ) (K : List Token) (p : Stage) (c n s : ℕ) (words records words' records' : List ℕ) (r : Stepped) : Type 0 where
   pub same : stepping b words' records' r ≡ step K (declaring b p c n words records) (tokenAt b s)

@@ -5,12 +5,12 @@ ghost use lib.ListN.{length, take, set};
 ghost use Rattle.wire.specs.Vocabulary.{mostKinds, mostWords};
 ghost use Rattle.texts.specs.Lexemes.{tokenAt};
 ghost use Rattle.texts.specs.Lexicon.{mostPlaces};
-ghost use Rattle.texts.specs.LexiconReading.{nameWhy, placeWhy};
+ghost use Rattle.texts.specs.LexiconReading.{nameWhy, kindNameWhy, placeWhy};
 ghost use Rattle.texts.specs.Tabled.{namesIn};
 ghost use Rattle.texts.specs.Files.{mostText};
 ghost use Rattle.lexicon.specs.Rows.{countLast, begun, placed, Tables};
-ghost use Rattle.lexicon.specs.Stages.{onTurn, startTurn, wordTurn, behindWordTurn, behindPlaceTurn, turnOf, steppedOf, WordPromise, PlacePromise, StepPromise};
-ghost use Rattle.lexicon.specs.Answers.{NamesPromise, KindsKnown, endedOf, LexiconPromise};
+ghost use Rattle.lexicon.specs.Stages.{onTurn, startTurn, wordTurn, behindWordTurn, behindPlaceTurn, turnOf, steppedOf, steppedKind, WordPromise, PlacePromise, StepPromise};
+ghost use Rattle.lexicon.specs.Answers.{KindsKnown, endedOf, LexiconPromise};
 
 // What may come next.
 enum Stage {
@@ -65,25 +65,26 @@ fn place_why(text: &[u8], at: usize, kinds: &[u16; 16], k: usize, places: usize)
     if !lexer::is_identifier(text, at) {
         return 9;
     }
-    if k <= lexer::find(text, at, kinds, k) {
+    if 32 < lexer::end(text, at) - at {
+        return 3;
+    }
+    if lexer::find(text, at, kinds, k) < k {
+        if places < 8 {
+            return 0;
+        }
+        return 11;
+    }
+    if k < 16 {
         return 10;
     }
-    if places < 8 {
-        return 0;
-    }
-    11
+    28
 }
 
-// So many names, or why one is missing and where.
-enum NamesAnswer {
-    Named(usize),
-    Misnamed(usize, usize),
-}
-
-// The names of the kinds: the tokens behind each `kind`.
-fn read_names(text: &[u8], kinds: &mut [u16; 16]) -> NamesAnswer
+// Gathers the names of the kinds, the tokens behind each `kind`, and says how many they are. One that may not follow those
+// before it is passed over.
+fn read_names(text: &[u8], kinds: &mut [u16; 16]) -> usize
     requires { ⌜ length (now text) ≤ mostText ⌝ }
-    ensures { λ r. ⌜ NamesPromise (now (text .entry)) (now (kinds .exit)) r ⌝ }
+    ensures { λ r. ⌜ KindsKnown (now (text .entry)) (now (kinds .exit)) r ⌝ }
 {
     *kinds = [0u16; 16];
     let mut k = 0;
@@ -93,15 +94,13 @@ fn read_names(text: &[u8], kinds: &mut [u16; 16]) -> NamesAnswer
         at = lexer::end(text, s);
         if lexer::is_word(text, s, b"kind") {
             let name = lexer::start(text, at);
-            let why = name_why(text, name, kinds, k, 2, 4, 5, 16);
-            if why != 0 {
-                return NamesAnswer::Misnamed(why, name);
+            if name_why(text, name, kinds, k, 2, 4, 5, 16) == 0 {
+                kinds[k] = name as u16;
+                k += 1;
             }
-            kinds[k] = name as u16;
-            k += 1;
         }
     }
-    NamesAnswer::Named(k)
+    k
 }
 
 // What a token leads to, where it is not stored: to another stage, to the end of the vocabulary, or it is wrong.
@@ -232,6 +231,18 @@ fn last_kind(c: usize) -> u8
     (c - 1) as u8
 }
 
+// The token at an offset is the name of a kind, behind the first c.
+fn step_kind(text: &[u8], at: usize, kinds: &[u16; 16], c: usize, n: usize) -> Stepped
+    requires { ⌜ c ≤ mostKinds ⌝ }
+    ensures { λ r. ⌜ r ≡ steppedKind c n (kindNameWhy (namesIn (now (text .entry)) (take c (now (kinds .entry)))) (tokenAt (now (text .entry)) at)) ⌝ }
+{
+    let why = name_why(text, at, kinds, c, 2, 4, 5, 16);
+    if why != 0 {
+        return Stepped::Fails(why);
+    }
+    Stepped::On(Stage::BehindKind, c + 1, n)
+}
+
 // The token at an offset is the name of a word.
 fn step_word(
     text: &[u8],
@@ -315,12 +326,12 @@ fn step(
     words: &mut [u16; 96],
     records: &mut [u8; 960],
 ) -> Stepped
-    requires { ⌜ (at ≤ mostText) × (k ≤ mostKinds) × (c ≤ mostKinds) ⌝ }
+    requires { ⌜ (at ≤ mostText) × (k ≤ mostKinds) × (c ≤ k) ⌝ }
     requires { ⌜ Tables n (now words) (now records) ⌝ }
     ensures { λ r. ⌜ StepPromise (now (text .entry)) (namesIn (now (text .entry)) (take k (now (kinds .entry)))) stage c n at (now (words .entry)) (now (records .entry)) (now (words .exit)) (now (records .exit)) r ⌝ }
 {
     match stage {
-        Stage::AtKind => Stepped::On(Stage::BehindKind, c + 1, n),
+        Stage::AtKind => step_kind(text, at, kinds, c, n),
         Stage::AtWord => step_word(text, at, c, n, words, records),
         Stage::AtPlace => step_place(text, at, kinds, k, c, n, words, records),
         _ => step_mark(text, at, stage, c, n),
@@ -391,9 +402,6 @@ pub fn read_lexicon(
     if 65535 < text.len() {
         return LexiconAnswer::Bad(0, 0);
     }
-    let names = read_names(text, kinds);
-    match names {
-        NamesAnswer::Named(k) => read_rows(text, kinds, k, words, records),
-        NamesAnswer::Misnamed(why, at) => LexiconAnswer::Bad(why, at),
-    }
+    let k = read_names(text, kinds);
+    read_rows(text, kinds, k, words, records)
 }

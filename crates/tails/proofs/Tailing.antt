@@ -1,10 +1,10 @@
--- Tailing: what is put for the patterns of each kind together.
+-- Tailing: what is put behind the patterns, kind by kind.
 --
 --   course-moved               paragraphs that are read by the same names and words
 --   listable                   the patterns of a kind are such as a book may have
 --   good-phrases               the patterns of good paragraphs are good
---   kind-puts                  what is put for the patterns of a kind together
---   together-more              .. behind those of other kinds
+--   kind-puts                  what is put for a kind
+--   tails-more                 .. behind what is put for others
 --   kinds-many                 there are k kinds
 --   Tailing                    this was put for the first kinds
 --   tailing-none, tailing-turn, tailing-all    how that begins, goes on and ends
@@ -27,7 +27,8 @@ use Rattle.texts.specs.Lexemes.{Token, Lexeme, lexemesFrom}
 use Rattle.texts.specs.Lexicon.{Lexicon, vocabularyOf}
 use Rattle.texts.specs.Phrases.{Phrase, GoodWhole}
 use Rattle.texts.specs.Files.{Paragraph, phrasesOf, GoodParagraph}
-use Rattle.texts.specs.Together.{ofKind, IsTogether, AreTogether}
+use Rattle.texts.specs.Together.{ofKind}
+use Rattle.texts.specs.Tails.{IsTail, AreTails}
 use Rattle.texts.proofs.Entries.{phrase-linear}
 use Rattle.pages.specs.Pages.{Adds}
 use Rattle.pages.proofs.Pages.{adds-then, adds-nothing}
@@ -36,6 +37,7 @@ use Rattle.gatherings.specs.Courses.{Courses}
 use Rattle.gatherings.specs.Gathering.{Gathers}
 use Rattle.paragraphs.proofs.Putting.{tables-for}
 use Rattle.together.specs.Together.{PutsTogether}
+use Rattle.notes.specs.Notes.{PutsNote}
 use Rattle.tails.specs.Tails.{Given, PutsKind, PutsTails}
 
 pub course-moved : {K K′ N N′ : List Token} {W W′ : Vocabulary} → K ≡ K′ → N ≡ N′ → W ≡ W′ → (l : List Lexeme) (qs : List Paragraph) →
@@ -62,35 +64,39 @@ good-phrases X qs h =
     (all-implies (GoodParagraph X) (λ q. GoodWhole X (q .phrase)) (λ q g. g .phrase) qs h)
 
 module _ {b : List ℕ} {at : ℕ} {ks : List ℕ} {k : ℕ} {ws : List ℕ} {n : ℕ} {r ps v : List ℕ} {m s : ℕ} where
-  pub kind-puts : {book bytes page page′ : List ℕ} {g : Gathered} {to to′ : ℕ} → Gathers b at ks k ws n r m s book g →
-      (g .size ≤ 262145 → bytes ≡ take (g .size) book) → PutsTogether b ks ws ps v s (g .count) bytes page to page′ to′ →
-      PutsKind b at ks k ws n r ps v m s page to page′ to′
-  kind-puts gathers front put = record {
+  pub kind-puts : {book bytes page noted page′ : List ℕ} {g : Gathered} {to next to′ : ℕ} → PutsNote b ks v s page to noted next →
+      Gathers b at ks k ws n r m s book g → (g .size ≤ 262145 → bytes ≡ take (g .size) book) →
+      PutsTogether b ks ws ps v s (g .count) bytes noted next page′ to′ → PutsKind b at ks k ws n r ps v m s page to page′ to′
+  kind-puts note gathers front put = record {
     puts = λ X qs ls g few.
         let st = g .stands in
         let course = course-moved (sym (st .kinds)) (sym (st .words)) (sym (st .vocabulary)) (lexemesFrom b at) qs (g .due .course) in
         let got = gathers .gathers qs (g .readable) (g .due .count) course in
-        put .puts X (ofKind s (phrasesOf qs)) (st .good) few (tables-for st [] 0 (g .places) refl) (g .bytes) (got .0)
+        let tables = tables-for st [] 0 (g .places) refl in
+        let said = note .puts X (st .good) few (tables .kinds s few) (g .bytes) in
+        let left =
+        put .puts X (ofKind s (phrasesOf qs)) (st .good) few tables (g .bytes) (got .0)
         (listable X s (phrasesOf qs) (good-phrases X qs (g .due .goods)))
-        (λ most. front (gathers .room) ∙ got .1 most ∙ ap (λ (W : Vocabulary). encodeBook W s (ofKind s (phrasesOf qs))) (st .vocabulary));
+        (λ most. front (gathers .room) ∙ got .1 most ∙ ap (λ (W : Vocabulary). encodeBook W s (ofKind s (phrasesOf qs))) (st .vocabulary)) in
+        (said .0 ++ left .0, (said .0, left .0, said .1, left .1, refl), adds-then (said .2) (left .2));
   }
 
 -- ---- the kinds
 
-together-more : (X : Lexicon) (ps : List Phrase) (a n : ℕ) (done : List ℕ) {here : List ℕ} → AreTogether X ps a n done → {s : ℕ} → s ≡ a + n →
-    IsTogether X s (ofKind s ps) here → AreTogether X ps a (suc n) (done ++ here)
-together-more X ps a zero done {here} e {s} is one = (
+tails-more : (X : Lexicon) (ps : List Phrase) (a n : ℕ) (done : List ℕ) {here : List ℕ} → AreTails X ps a n done → {s : ℕ} → s ≡ a + n →
+    IsTail X ps s here → AreTails X ps a (suc n) (done ++ here)
+tails-more X ps a zero done {here} e {s} is one = (
   here,
   [],
-  subst (λ i. IsTogether X i (ofKind i ps) here) (omega (arith, is)) one,
+  subst (λ i. IsTail X ps i here) (omega (arith, is)) one,
   refl,
   ap (λ (l : List ℕ). l ++ here) e ∙ sym (append-nil here),
 )
-together-more X ps a (suc n) done {here} (first, behind, one, more, e) {s} is last = (
+tails-more X ps a (suc n) done {here} (first, behind, one, more, e) {s} is last = (
   first,
   behind ++ here,
   one,
-  together-more X ps (suc a) n behind more (omega (arith, is)) last,
+  tails-more X ps (suc a) n behind more (omega (arith, is)) last,
   ap (λ (l : List ℕ). l ++ here) e ∙ append-assoc first behind here,
 )
 
@@ -101,7 +107,7 @@ kinds-many g = ap (λ (W : Vocabulary). W .kinds) (g .stands .vocabulary)
 pub record Tailing (b : List ℕ) (at : ℕ) (ks : List ℕ) (k : ℕ) (ws : List ℕ) (n : ℕ) (r ps v : List ℕ) (m : ℕ) (page₀ : List ℕ) (to₀ s to : ℕ) (page : List ℕ) : Type 0 where
   pub below : s ≤ k
   pub goes : (X : Lexicon) (qs : List Paragraph) (ls : List (List Term)) → Given b at ks k ws n r ps v m X qs ls →
-      (done : List ℕ) × AreTogether X (phrasesOf qs) 0 s done × Adds page₀ to₀ page to done
+      (done : List ℕ) × AreTails X (phrasesOf qs) 0 s done × Adds page₀ to₀ page to done
 
 module _ {b : List ℕ} {at : ℕ} {ks : List ℕ} {k : ℕ} {ws : List ℕ} {n : ℕ} {r ps v : List ℕ} {m : ℕ} {page₀ : List ℕ} {to₀ : ℕ} where
   pub tailing-none : Tailing b at ks k ws n r ps v m page₀ to₀ 0 to₀ page₀
@@ -116,8 +122,8 @@ module _ {b : List ℕ} {at : ℕ} {ks : List ℕ} {k : ℕ} {ws : List ℕ} {n 
           let had = h .goes X qs ls g in
           let new = put .puts X qs ls g (omega (arith, kinds-many g)) in (
             had .0 ++ new .0,
-            subst (λ i. AreTogether X (phrasesOf qs) 0 i (had .0 ++ new .0)) (sym (add-one s))
-                (together-more X (phrasesOf qs) 0 s (had .0) (had .1) (omega arith) (new .1)),
+            subst (λ i. AreTails X (phrasesOf qs) 0 i (had .0 ++ new .0)) (sym (add-one s))
+                (tails-more X (phrasesOf qs) 0 s (had .0) (had .1) (omega arith) (new .1)),
             adds-then (had .2) (new .2),
           );
     }
@@ -128,5 +134,5 @@ module _ {b : List ℕ} {at : ℕ} {ks : List ℕ} {k : ℕ} {ws : List ℕ} {n 
           let had = h .goes X qs ls g in
           let b = h .below in
           let many : s ≡ length X = omega (arith, kinds-many g) in
-          (had .0, subst (λ i. AreTogether X (phrasesOf qs) 0 i (had .0)) many (had .1), had .2);
+          (had .0, subst (λ i. AreTails X (phrasesOf qs) 0 i (had .0)) many (had .1), had .2);
     }

@@ -1,2 +1,2 @@
--- What putting the leftovers of patterns together promises.
+-- What putting what stands behind the patterns promises.
 pub mod Tails

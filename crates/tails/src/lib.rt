@@ -1,4 +1,4 @@
-// What the desk prints for all patterns of a kind together, kind by kind.
+// What the desk says of each kind without complete situations, and prints for all patterns of a kind together, kind by kind.
 ghost use mathlib.Core.Path.{_≡_};
 ghost use Prim.Native.Nat.{_≤_};
 ghost use lib.ListN.{length, take};
@@ -22,7 +22,7 @@ fn front(bytes: &[u8; 262145], n: usize) -> &[u8]
     part(bytes, n)
 }
 
-// Puts what is printed for all patterns of kind s together. Their book is written to the lent bytes.
+// Puts what is said of kind s, and what is printed for all patterns of it together. Their book is written to the lent bytes.
 fn put_kind(
     text: &[u8],
     from: usize,
@@ -41,6 +41,7 @@ fn put_kind(
 ) -> usize
     ensures { λ r. ⌜ PutsKind (now (text .entry)) from (now (kinds .entry)) k (now (words .entry)) n (now (records .entry)) (now (places .entry)) (now (vocabulary .entry)) m s (now (page .entry)) to (now (page .exit)) r ⌝ }
 {
+    let noted = notes::put_note(text, kinds, vocabulary, s, page, to);
     let gathered = gatherings::gather(text, from, kinds, k, words, n, records, m, s, book);
     together::put_together(
         text,
@@ -52,11 +53,11 @@ fn put_kind(
         gathered.count,
         front(book, gathered.size),
         page,
-        to,
+        noted,
     )
 }
 
-// Puts what is printed for the patterns of each kind together, behind what the page holds up to an offset. The m paragraphs stand
+// Puts what is said of each kind and printed for its patterns together, behind what the page holds up to an offset. The m paragraphs stand
 // from an offset of the text on, and the tables are those of their vocabulary; where they are others, nothing is promised.
 pub fn put_tails(
     text: &[u8],

@@ -5,7 +5,7 @@
 --   head-line                       the pattern
 --   block-before                    a block before what is spelt
 --   together-line                   how many patterns there are together
---   blocks-spell-leftovers, together-spells-leftovers     the laws
+--   blocks-spell-leftovers, together-spells-leftovers, notes-are-comments     the laws
 --
 use mathlib.Core.Path.{_≡_, refl, sym, ap, subst, subst₂, _∙_}
 use mathlib.Core.List.{List, [], _∷_, _++_, append-nil, append-assoc}
@@ -29,9 +29,10 @@ use Rattle.texts.specs.Spelling.{none, space, whole as ended, Spells, en
 use Rattle.texts.specs.Lexicon.{Lexicon, kindNames, vocabularyOf, GoodLexicon}
 use Rattle.texts.specs.Phrases.{Phrase, labelTokens, wholeTokens, phraseTokens, phraseText, spell, GoodWhole}
 use Rattle.texts.specs.Leftovers.{leftoverLine, leftoversText}
+use Rattle.texts.specs.Notes.{inhabited, empty}
 use Rattle.texts.specs.Together.{togetherOf}
 use Rattle.texts.specs.Answers.{headText, tooManyText, blockText}
-use Rattle.texts.specs.Laws.{Sayable, entriesTokens, BlocksSpellLeftovers, TogetherSpellsLeftovers}
+use Rattle.texts.specs.Laws.{Sayable, entriesTokens, BlocksSpellLeftovers, TogetherSpellsLeftovers, NotesAreComments}
 use Rattle.texts.proofs.Spelt.{blank-before, terms-are-spelled}
 use Rattle.texts.proofs.Entries.{Entry, entries-known, entry-sayable}
 use Rattle.texts.proofs.BookEntries.{book-sayable, reordered-all}
@@ -122,3 +123,18 @@ together-spells-leftovers X s ts es l good kind listable limits listing reordere
     (leftovers-spelt X [] s good (32 ∷ togetherOf X s n) es [] [] (together-line X s n good)
     (reordered-all (Sayable X [] s) reordered (book-sayable X s ts l good kind listable listing))
     (end [] (ended none)))
+
+-- ---- kinds without complete situations
+
+pub notes-are-comments : NotesAreComments
+notes-are-comments X s text good (inhabited h) = end [] (ended none)
+notes-are-comments X s text good (empty h) =
+    let kind = nameAt (kindNames X) s in
+    let said = ascii " has no complete situation" in
+    subst (λ (x : List ℕ). Spells (comment ∷ x) []) (append-assoc (ascii " kind ") (kind ++ said) (10 ∷ 10 ∷ []) ∙ ap (λ (x : List ℕ). ascii " kind " ++ x) (append-assoc kind said (10 ∷ 10 ∷ [])))
+    (subst (λ (x : List ℕ). Spells (comment ∷ x) []) (append-assoc (ascii " kind " ++ (kind ++ said)) newline newline)
+    (blank-before
+    (line-blank (ascii " kind " ++ (kind ++ said))
+    (line-append (ascii " kind ") (kind ++ said) (line-by (ascii " kind ") refl)
+    (line-append kind said (line-at (kindNames X) (kinds-line X good) s) (line-by said refl))))
+    (end newline (ended (space 10 [] refl none)))))

@@ -15,7 +15,7 @@ use Rattle.wire.specs.Text.{ascii}
 use Rattle.texts.specs.Lexemes.{Token, tokens, lexemes}
 use Rattle.texts.specs.Lexicon.{WordText, KindText, Lexicon, kindNames, wordNames, lexiconTokens, lexiconText, vocabularyOf}
 use Rattle.texts.specs.Phrases.{phraseTokens, phraseText}
-use Rattle.texts.specs.Faults.{parsed, bad, otherKind, unknownWord, placesOver, notDeclared, kindTwice}
+use Rattle.texts.specs.Faults.{parsed, bad, otherKind, unknownWord, placesOver, notDeclared, kindTwice, kindNameDue}
 use Rattle.texts.specs.Complaints.{Known, complaint}
 use Rattle.texts.specs.LexiconReading.{readLexicon}
 use Rattle.texts.specs.PhraseReading.{readPhrase}
@@ -89,6 +89,17 @@ reads-lexicon = refl
 
 undeclared : readLexicon (lexemes (ascii "kind a = b(lamp)")) ≡ bad (record { why = notDeclared; at = 11; of = 0 })
 undeclared = refl
+
+-- From left to right: a fault before a name of a kind that is at fault, an undeclared place, and the name itself. A kind that is
+-- declared behind such a name is declared.
+earlier : readLexicon (lexemes (ascii "kind a = b(lamp) kind a = c")) ≡ bad (record { why = notDeclared; at = 11; of = 0 })
+earlier = refl
+
+itself : readLexicon (lexemes (ascii "kind a = b(lamp) kind a = c kind lamp")) ≡ bad (record { why = kindTwice; at = 22; of = 0 })
+itself = refl
+
+unnamed : readLexicon (lexemes (ascii "kind a = b kind")) ≡ bad (record { why = kindNameDue; at = 15; of = 0 })
+unnamed = refl
 
 abbrev known : Known
 known = record {

@@ -25,15 +25,15 @@ use Rattle.texts.specs.Phrases.{Phrase, labelTokens, phraseTokens, whole
 use Rattle.texts.specs.Questions.{questionTokens, questionsTokens, GoodQuestion}
 use Rattle.texts.specs.Files.{Paragraph, paragraphTokens, paragraphsTokens, GoodParagraph}
 use Rattle.texts.specs.Faults.{Fault, Parsed, parsed, bad, token}
-use Rattle.texts.specs.LexiconReading.{Names?, named, misnamed, readKindNames, LexiconRead, withNames, readLexicon}
+use Rattle.texts.specs.LexiconReading.{LexiconRead, readLexicon}
 use Rattle.texts.specs.PhraseReading.{readPhrase}
 use Rattle.texts.specs.QuestionReading.{beginsQuestion, readQuestion, readQuestions}
 use Rattle.texts.specs.Answering.{readIll, readParagraph, readParagraphs, vocabularyRead, withParagraphs, withLexicon}
-use Rattle.texts.specs.Laws.{tokensOf, Ascending, FirstFault, FirstFaultIn, beginsLabel, PhraseFirst, SoundLexicon, LexiconFirst, KindNameFault, QuestionFault, ReadBefore, AskedBefore, FileFault, inKindName, inLexicon, inPhrase, inQuestion, namesBehind, FileFaultsAreFirst}
+use Rattle.texts.specs.Laws.{tokensOf, Ascending, FirstFault, beginsLabel, PhraseFirst, kindsNamed, LexiconFault, QuestionFault, ReadBefore, AskedBefore, FileFault, inLexicon, inPhrase, inQuestion, FileFaultsAreFirst}
 use Rattle.texts.proofs.Rising.{lexemes-ascend}
 use Rattle.texts.proofs.LexiconsExact.{withLate, LexiconBefore, lexicon-before}
+use Rattle.texts.proofs.Gathering.{kinds-are-gathered}
 use Rattle.texts.proofs.LexiconFirst.{lexicon-faults-are-first}
-use Rattle.texts.proofs.KindNameFaults.{kind-name-faults-are-first}
 use Rattle.texts.proofs.PhrasesExact.{phrases-exact}
 use Rattle.texts.proofs.FirstFaults.{phrase-faults-are-first}
 use Rattle.texts.proofs.QuestionsExact.{questions-exact}
@@ -241,23 +241,16 @@ module _ (b : List ℕ) (x : Fault) where
   apart : Front L
   apart = ended-front L (text-ended b)
 
-  by-names : (n : Names?) → readKindNames [] L ≡ n → withNames L n ≡ bad x → FileFault L (x .at)
-  by-names (misnamed y) h e =
-      let f : y ≡ x = cc in
-      inKindName
-      (subst (λ (l : List Lexeme). KindNameFault l (x .at)) (sym (apart .all))
-      (kind-name-faults-are-first (apart .front) (apart .last) x (apart .tokens) (apart .empty)
-      (subst (λ (l : List Lexeme). readKindNames [] l ≡ misnamed x) (apart .all) (h ∙ ap misnamed f))))
-  by-names (named M) h e =
-      inLexicon M x h (ap (withNames L) h ∙ e)
-      (subst (λ (l : List Lexeme). FirstFaultIn (LexiconFirst SoundLexicon M) (LexiconFirst GoodLexicon M) l (x .at)) (sym (apart .all))
-      (lexicon-faults-are-first M (apart .front) (apart .last) x (apart .tokens) (apart .empty)
-      (subst (λ (l : List Lexeme). readKindNames [] l ≡ named M) (apart .all) h)
-      (subst (λ (l : List Lexeme). readLexicon l ≡ bad x) (apart .all) (ap (withNames L) h ∙ e))))
+  in-lexicon : readLexicon L ≡ bad x → FileFault L (x .at)
+  in-lexicon e =
+      inLexicon x e
+      (subst (λ (l : List Lexeme). LexiconFault (kindsNamed (tokensOf l)) l (x .at)) (sym (apart .all))
+      (lexicon-faults-are-first (apart .front) (apart .last) x (apart .tokens) (apart .empty)
+      (subst (λ (l : List Lexeme). readLexicon l ≡ bad x) (apart .all) e)))
 
   module _ (a : LexiconRead) (r : List Lexeme) (e : readLexicon L ≡ parsed a r) (read : LexiconBefore L r a) where
     abbrev X : Lexicon
-    X = withLate (read .before) r
+    X = withLate (read .before) (read .late)
 
     abbrev us : List Token
     us = kindsTokens (kindNames X) (read .before)
@@ -270,9 +263,9 @@ module _ (b : List ℕ) (x : Fault) where
         let d : Done L (us ++ paragraphsTokens X qs) m = done-more us (paragraphsTokens X qs) front (t .before) in
         record {
           declared = read .before;
-          late = namesBehind (tokensOf r);
+          late = read .late;
           whole = refl;
-          kinds = read .kinds;
+          kinds = read .kinds ∙ kinds-are-gathered (tokensOf L);
           lexicon = read .good;
           paragraphs = t .good;
           before = d .done;
@@ -305,6 +298,6 @@ file-faults-are-first b x T short e = second (readLexicon (lexemes b)) refl (sym
     third a r h (bad y) k e = let f : y ≡ x = cc in by-paragraphs b x a r h (lexicon-before (lexemes b) r a (text-tokens b) (text-closes b) h) (k ∙ ap bad f)
 
     second : (y : Parsed LexiconRead) → readLexicon (lexemes b) ≡ y → withLexicon y ≡ readIll x T → FileFault (lexemes b) (x .at)
-    second (bad y) h e = let f : y ≡ x = cc in by-names b x (readKindNames [] (lexemes b)) refl (h ∙ ap bad f)
+    second (bad y) h e = let f : y ≡ x = cc in in-lexicon b x (h ∙ ap bad f)
     second (parsed a r) h e =
         third a r h (readParagraphs (a .kindNames) (a .wordNames) (vocabularyRead a) (length r) r) refl e

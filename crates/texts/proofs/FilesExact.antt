@@ -28,7 +28,7 @@ use Rattle.texts.specs.Phrases.{Phrase, labelTokens, phraseTokens, whole
 use Rattle.texts.specs.Questions.{questionTokens, questionsTokens, GoodQuestion}
 use Rattle.texts.specs.Files.{mostText, Paragraph, File, paragraphTokens, paragraphsTokens, GoodParagraph, IsText}
 use Rattle.texts.specs.Faults.{Parsed, parsed, bad, place, noWords, longText}
-use Rattle.texts.specs.LexiconReading.{Names?, named, misnamed, readKindNames, Declaring, rowsOf, beginning, Stepped, on, over, fails, step, LexiconRead, ended, stepped, readRows, withNames, readLexicon}
+use Rattle.texts.specs.LexiconReading.{namesFrom, Declaring, rowsOf, beginning, Stepped, on, over, fails, step, LexiconRead, ended, stepped, readRows, readLexicon}
 use Rattle.texts.specs.QuestionReading.{beginsQuestion, readQuestion}
 use Rattle.texts.specs.Answering.{readWell, readIll, readParagraph, readParagraphs, vocabularyRead, withParagraphs, withLexicon, knownNothing}
 use Rattle.texts.specs.Laws.{tokensOf, lexiconRead, Ascending, FilesAreExact}
@@ -68,11 +68,7 @@ rows-behind K (y ∷ l) x = go (rows-behind K l) (step K x (y .token))
     go ih (fails why) = tt
 
 pub lexicon-behind : (l r : List Lexeme) (a : LexiconRead) → readLexicon l ≡ parsed a r → (done : List Lexeme) × (l ≡ done ++ r)
-lexicon-behind l r a e = subst (Behind l) e (go (readKindNames [] l))
-  where
-    go : (n : Names?) → Behind l (withNames l n)
-    go (named K) = rows-behind K l beginning
-    go (misnamed x) = tt
+lexicon-behind l r a e = subst (Behind l) e (rows-behind (namesFrom [] (tokensOf l)) l beginning)
 
 pub lexicon-rises : (l r : List Lexeme) (a : LexiconRead) → Ascending l → readLexicon l ≡ parsed a r → Ascending r
 lexicon-rises l r a h e = let k = lexicon-behind l r a e in rises-right (k .0) r (subst Ascending (k .1) h)
@@ -80,7 +76,7 @@ lexicon-rises l r a h e = let k = lexicon-behind l r a e in rises-right (k .0) r
 pub lexicon-ended : (l r : List Lexeme) (a : LexiconRead) → Ended (tokensOf l) → readLexicon l ≡ parsed a r → Ended (tokensOf r)
 lexicon-ended l r a c e =
     let h = lexicon-before l r a (ended-lexed l c) (ended-closes l c) e in
-    ended-rest (kindsTokens (kindNames (withLate (h .before) r)) (h .before)) (tokensOf r) (subst Ended (h .tokens) c) (closes-some r (h .closes))
+    ended-rest (kindsTokens (kindNames (withLate (h .before) (h .late))) (h .before)) (tokensOf r) (subst Ended (h .tokens) c) (closes-some r (h .closes))
 
 -- ---- the end
 

@@ -8,10 +8,6 @@
 --   Quiet us, mark-no-kind           no `kind` is among us; a mark is none
 --   names-kinds                      for the tokens of declarations, those are the names of the kinds
 --   names-quiet                      a list without `kind` has none
---   names-read                       where they are good names, readKindNames gives them
---   Called l, called-identifiers     behind each `kind` of l a name stands
---   KindsFine K                      K may be the names of kinds
---   NamesRead, read-names            where readKindNames gives names, they are those, and they are good
 --
 use mathlib.Core.Path.{_≡_, refl, sym, _∙_, ap, subst}
 use mathlib.Core.Bool.{Bool, true, false, _||_, cond, and-false, true≢false, false≢true}
@@ -31,8 +27,8 @@ use Rattle.texts.specs.Lexemes.{Token, Lexeme, isNameByte, isRun, asking
 use Rattle.texts.specs.Names.{same, kindWord, mark, comma, bar, equals, opening, closing, mostName, beginsName, isIdentifier, IsIdentifier, indexIn, nameAt, Distinct}
 use Rattle.texts.specs.Spelling.{IsToken, run, single}
 use Rattle.texts.specs.Lexicon.{WordText, KindText, Lexicon, kindNames, allWords, placeKindTokens, withPlaces, wordsTokens, kindsTokens, GoodWord}
-use Rattle.texts.specs.Faults.{token, longName, kindNameDue, kindTwice, manyKinds}
-use Rattle.texts.specs.LexiconReading.{nameWhy, kindNameWhy, named, kindNamed, readKindNames}
+use Rattle.texts.specs.Faults.{token, longName}
+use Rattle.texts.specs.LexiconReading.{nameWhy}
 use Rattle.texts.specs.Laws.{tokensOf, namesBehind}
 use Rattle.texts.proofs.Lookups.{identifier-no-kind, index-le, distinct-more, distinct-front}
 
@@ -147,106 +143,3 @@ module _ (K : List Token) (good : All (λ u. isIdentifier u ≡ true) K) where
       quiet-skips (wordsTokens K equals (x .words)) (kindsTokens K X ++ us)
       (quiet-words equals (x .words) (all-left (GoodWord (length K)) (x .words) (allWords X) w)) ∙
       names-kinds X us (k .1) (all-right (GoodWord (length K)) (x .words) (allWords X) w))
-
-pub names-read : (seen : List Token) (l : List Lexeme) → All IsIdentifier (namesBehind (tokensOf l)) →
-    Distinct (seen ++ namesBehind (tokensOf l)) → length (seen ++ namesBehind (tokensOf l)) ≤ mostKinds →
-    readKindNames seen l ≡ named (seen ++ namesBehind (tokensOf l))
-names-read seen [] a d f = ap named (sym (append-nil seen))
-names-read seen (x ∷ l) a d f = go (same (x .token) kindWord) (λ s. names-read s l) a d f
-  where
-    us : List Token
-    us = tokensOf l
-
-    behind : List Token
-    behind = namesBehind us
-
-    go : (b : Bool) →
-        ((s : List Token) → All IsIdentifier behind → Distinct (s ++ behind) → length (s ++ behind) ≤ mostKinds → readKindNames s l ≡ named (s ++ behind)) →
-        All IsIdentifier (cond b (first us ∷ behind) behind) → Distinct (seen ++ cond b (first us ∷ behind) behind) →
-        length (seen ++ cond b (first us ∷ behind) behind) ≤ mostKinds →
-        cond b (kindNamed (λ names. readKindNames names l) seen l (kindNameWhy seen (token l))) (readKindNames seen l) ≡
-        named (seen ++ cond b (first us ∷ behind) behind)
-    go false more a d f = more seen a d f
-    go true more a d f =
-        let fits : NameFits mostKinds seen (first us) = record {
-          identifier = a .0 .identifier;
-          short = a .0 .short;
-          new = distinct-front (first us) seen behind d;
-          room = omega (arith, length-append seen (first us ∷ behind));
-        } in
-        let joined : (seen ++ (first us ∷ [])) ++ behind ≡ seen ++ (first us ∷ behind) = append-assoc seen (first us ∷ []) behind in
-        ap (kindNamed (λ names. readKindNames names l) seen l)
-        (ap (kindNameWhy seen) (first-token l) ∙ fits-name kindNameDue kindTwice manyKinds mostKinds seen (first us) fits) ∙
-        ap (λ t. readKindNames (seen ++ (t ∷ [])) l) (first-token l) ∙
-        more (seen ++ (first us ∷ [])) (a .1) (subst Distinct (sym joined) d) (subst (λ (n : List Token). length n ≤ mostKinds) (sym joined) f) ∙
-        ap named joined
-
-abbrev pub Called : List Lexeme → Type 0
-Called [] = Unit {0}
-Called (x ∷ l) =
-    (same (x .token) kindWord ≡ true → (isIdentifier (token l) ≡ true) × (length (token l) ≤ mostName)) × Called l
-
-pub called-identifiers : (l : List Lexeme) → All Tokened (tokensOf l) → Called l → All IsIdentifier (namesBehind (tokensOf l))
-called-identifiers [] a c = tt
-called-identifiers (x ∷ l) a c = go (same (x .token) kindWord) (c .0) (called-identifiers l (a .1) (c .1))
-  where
-    go : (b : Bool) → (b ≡ true → (isIdentifier (token l) ≡ true) × (length (token l) ≤ mostName)) → All IsIdentifier (namesBehind (tokensOf l)) →
-        All IsIdentifier (cond b (first (tokensOf l) ∷ namesBehind (tokensOf l)) (namesBehind (tokensOf l)))
-    go false h more = more
-    go true h more =
-        let i = h refl in
-        (subst IsIdentifier (first-token l) (identifier (token l) (first-tokened l (a .1)) (i .0) (i .1)), more)
-
-pub record KindsFine (K : List Token) : Type 0 where
-  pub identifiers : All (λ u. isIdentifier u ≡ true) K
-  pub different : Distinct K
-  pub few : length K ≤ mostKinds
-
-pub record NamesRead (seen K : List Token) (l : List Lexeme) : Type 0 where
-  pub names : K ≡ seen ++ namesBehind (tokensOf l)
-  pub fine : KindsFine K
-  pub called : Called l
-
-pub read-names : (seen K : List Token) (l : List Lexeme) → KindsFine seen → readKindNames seen l ≡ named K → NamesRead seen K l
-read-names seen K [] f e =
-    let h : seen ≡ K = cc in
-    record { names = sym h ∙ sym (append-nil seen); fine = subst KindsFine h f; called = tt }
-read-names seen K (x ∷ l) f e = go (same (x .token) kindWord) refl (λ s. read-names s K l) e
-  where
-    us : List Token
-    us = tokensOf l
-
-    taken : (n : ℕ) → kindNameWhy seen (token l) ≡ n → same (x .token) kindWord ≡ true →
-        ((s : List Token) → KindsFine s → readKindNames s l ≡ named K → NamesRead s K l) →
-        kindNamed (λ names. readKindNames names l) seen l n ≡ named K → NamesRead seen K (x ∷ l)
-    taken (suc n) w h more e = let z : _≡_ {A = ℕ} 0 1 = cc in absurd (omega arith)
-    taken zero w h more e =
-        let fits : NameFits mostKinds seen (token l) = name-fits 1 3 4 mostKinds seen (token l) w in
-        let m : NamesRead (seen ++ (token l ∷ [])) K l =
-        more (seen ++ (token l ∷ []))
-        (record {
-          identifiers = all-append (λ u. isIdentifier u ≡ true) seen (token l ∷ []) (f .identifiers) (fits .identifier, tt);
-          different = distinct-more (token l) seen (f .different) (fits .new);
-          few = omega (arith, length-append seen (token l ∷ []), fits .room);
-        })
-        e in
-        record {
-          names =
-              m .names ∙ append-assoc seen (token l ∷ []) (namesBehind us) ∙
-              ap (λ t. seen ++ (t ∷ namesBehind us)) (first-token l) ∙
-              ap (λ t. seen ++ t) (sym (cond-true (same (x .token) kindWord) (first us ∷ namesBehind us) (namesBehind us) h));
-          fine = m .fine;
-          called = (λ z. (fits .identifier, fits .short), m .called);
-        }
-
-    go : (b : Bool) → same (x .token) kindWord ≡ b → ((s : List Token) → KindsFine s → readKindNames s l ≡ named K → NamesRead s K l) →
-        cond b (kindNamed (λ names. readKindNames names l) seen l (kindNameWhy seen (token l))) (readKindNames seen l) ≡ named K →
-        NamesRead seen K (x ∷ l)
-    go true h more e = taken (kindNameWhy seen (token l)) refl h more e
-    go false h more e =
-        let m : NamesRead seen K l = more seen f e in
-        record {
-          names = m .names ∙ ap (λ t. seen ++ t) (sym (cond-false (same (x .token) kindWord) (first us ∷ namesBehind us) (namesBehind us) h));
-          fine = m .fine;
-          called = (λ z. absurd (true≢false (sym z ∙ h)), m .called);
-        }

@@ -2,7 +2,7 @@
 --
 --   Stuck x s                the reading stops in the state x, where s follows
 --   Split K x l q            the lexemes l before the one at offset q, where the reading stops
---   to-kind, end-on          what is known of the step to a kind's name, and of the step behind the last token
+--   end-on                   what is known of the step behind the last token
 --   split                    a fault splits the lexemes
 --   textOf us                lexemes with the tokens us
 --   no-further               no good vocabulary begins with the tokens up to a fault
@@ -19,10 +19,9 @@ use Rattle.wire.proofs.Cond.{choice}
 use Rattle.texts.specs.Lexemes.{Token, Lexeme}
 use Rattle.texts.specs.Names.{same, kindWord, mark, opening, closing, comma, bar, equals, isIdentifier, indexIn}
 use Rattle.texts.specs.Lexicon.{kindNames, wordNames, lexiconTokens, GoodLexicon}
-use Rattle.texts.specs.Faults.{Fault, Parsed, parsed, bad, token, place, kindDue, wordDue, placeDue, placeEnd, noWords}
+use Rattle.texts.specs.Faults.{Fault, Parsed, parsed, bad, kindNameDue, kindDue, wordDue, placeDue, placeEnd, noWords}
 use Rattle.texts.specs.LexiconReading.{wordNameWhy, placeWhy, Phase, atStart, atKind, behindKind, atWord, behindWord, atPlace, behindPlace, behindPlaces, Declaring, rowsOf, beginning, Stepped, on, over, fails, goTo, stepWord, placesLast, stepPlace, stepIn, step, LexiconRead, stepped, readRows}
 use Rattle.texts.specs.Laws.{tokensOf, lexiconRead, LexiconFirst}
-use Rattle.texts.proofs.KindNames.{Called}
 use Rattle.texts.proofs.LexiconsRead.{andOn, walk, rows-walk, rows-read}
 
 abbrev pub Stuck : Declaring → Stepped → Type 0
@@ -96,10 +95,10 @@ over-on z e = let z : _≡_ {A = ℕ} 0 1 = cc in absurd (omega arith)
 fails-on : {A : Type 0} (why : ℕ) (z : Declaring) → fails why ≡ on z → A
 fails-on why z e = let z : _≡_ {A = ℕ} 0 1 = cc in absurd (omega arith)
 
--- Only a name of a kind may be empty, for all that the reading knows ..
-end-on : (K : List Token) (x z : Declaring) (p : Phase) → stepIn K x [] p ≡ on z → p ≡ atKind
-end-on K x z atKind e = refl
+-- No reading goes on with the empty token.
+pub end-on : (K : List Token) (x z : Declaring) (p : Phase) → stepIn K x [] p ≡ on z → ⊥
 end-on K x z atStart e = fails-on kindDue z e
+end-on K x z atKind e = fails-on kindNameDue z e
 end-on K x z behindKind e = over-on z e
 end-on K x z atWord e = fails-on wordDue z e
 end-on K x z behindWord e = over-on z e
@@ -107,78 +106,26 @@ end-on K x z atPlace e = fails-on placeDue z e
 end-on K x z behindPlace e = fails-on placeEnd z e
 end-on K x z behindPlaces e = over-on z e
 
-abbrev naming : Phase → Bool
-naming atStart = false
-naming atKind = true
-naming behindKind = false
-naming atWord = false
-naming behindWord = false
-naming atPlace = false
-naming behindPlace = false
-naming behindPlaces = false
-
--- .. and only behind a `kind` such a name is due.
-module _ (K : List Token) (x z : Declaring) (u : Token) where
-  abbrev ToKind : Stepped → Type 0
-  ToKind s = s ≡ on z → z .phase ≡ atKind → same u kindWord ≡ true
-
-  to-other : (y : Declaring) → naming (y .phase) ≡ false → ToKind (on y)
-  to-other y n e k =
-      let h : y ≡ z = cc in
-      absurd (true≢false (sym (ap naming (ap (λ (d : Declaring). d .phase) h ∙ k)) ∙ n))
-
-  -- The mark c, or what comes where it does not stand.
-  to-mark : (c : ℕ) (p : Phase) (s : Stepped) → naming p ≡ false → ToKind s → ToKind (cond (same u (mark c)) (goTo p x) s)
-  to-mark c p s n more = choice ToKind (same u (mark c)) (goTo p x) s (λ h. to-other _ n) (λ h. more)
-
-  to-next : (s : Stepped) → ToKind s → ToKind (cond (same u kindWord) (goTo atKind x) s)
-  to-next s more = choice ToKind (same u kindWord) (goTo atKind x) s (λ h e k. h) (λ h. more)
-
-  to-word : (why : ℕ) → ToKind (stepWord x u why)
-  to-word zero = to-other _ refl
-  to-word (suc why) = λ e k. fails-on (suc why) z e
-
-  to-place : (k why : ℕ) → ToKind (stepPlace x k why)
-  to-place k zero = to-other _ refl
-  to-place k (suc why) = λ e k. fails-on (suc why) z e
-
-  to-kind : (p : Phase) → ToKind (stepIn K x u p)
-  to-kind atStart = to-next _ (λ e k. fails-on kindDue z e)
-  to-kind atKind = to-other _ refl
-  to-kind behindKind = to-mark equals atWord _ refl (to-next over (λ e k. over-on z e))
-  to-kind atWord = to-word (wordNameWhy (x .names) u)
-  to-kind behindWord = to-mark opening atPlace _ refl (to-mark bar atWord _ refl (to-next over (λ e k. over-on z e)))
-  to-kind atPlace = to-place (indexIn u K) (placeWhy K (placesLast (x .last)) u)
-  to-kind behindPlace = to-mark comma atPlace _ refl (to-mark closing behindPlaces _ refl (λ e k. fails-on placeEnd z e))
-  to-kind behindPlaces = to-mark bar atWord _ refl (to-next over (λ e k. over-on z e))
-
 -- The empty lexeme at the end stops every reading.
-pub split : (K : List Token) (e : Lexeme) → e .token ≡ [] → (l : List Lexeme) (x : Declaring) (f : Fault) → Called (l ++ (e ∷ [])) →
-    (x .phase ≡ atKind → isIdentifier (token (l ++ (e ∷ []))) ≡ true) → readRows K x (l ++ (e ∷ [])) ≡ bad f →
-    Split K x (l ++ (e ∷ [])) (f .at)
-split K e t [] x f c r h =
+pub split : (K : List Token) (e : Lexeme) → e .token ≡ [] → (l : List Lexeme) (x : Declaring) (f : Fault) →
+    readRows K x (l ++ (e ∷ [])) ≡ bad f → Split K x (l ++ (e ∷ [])) (f .at)
+split K e t [] x f h =
     split-here K x e [] f (step K x (e .token)) refl
-    (λ z s m.
-    absurd
-    (false≢true (sym (ap isIdentifier t) ∙ r (end-on K x z (x .phase) (subst (λ u. stepIn K x u (x .phase) ≡ on z) t s)))))
-    h
-split K e t (y ∷ l) x f c r h =
+    (λ z s m. absurd (end-on K x z (x .phase) (subst (λ u. stepIn K x u (x .phase) ≡ on z) t s))) h
+split K e t (y ∷ l) x f h =
     split-here K x y (l ++ (e ∷ [])) f (step K x (y .token)) refl
-    (λ z s m.
-    split-next K x z y (l ++ (e ∷ [])) (f .at) s
-    (split K e t l z f (c .1) (λ k. c .0 (to-kind K x z (y .token) (x .phase) s k) .0) m))
-    h
+    (λ z s m. split-next K x z y (l ++ (e ∷ [])) (f .at) s (split K e t l z f m)) h
 
 abbrev pub textOf : List Token → List Lexeme
 textOf [] = []
 textOf (u ∷ us) = record { at = 0; token = u } ∷ textOf us
 
-tokens-text : (us : List Token) → tokensOf (textOf us) ≡ us
+pub tokens-text : (us : List Token) → tokensOf (textOf us) ≡ us
 tokens-text [] = refl
 tokens-text (u ∷ us) = ap (λ (t : List Token). u ∷ t) (tokens-text us)
 
 -- A reading that stops is a fault, whatever stands behind.
-stuck-bad : (K : List Token) (y : Declaring) (u : Token) (us : List Token) (l : List Lexeme) → Stuck y (step K y u) → tokensOf l ≡ u ∷ us →
+pub stuck-bad : (K : List Token) (y : Declaring) (u : Token) (us : List Token) (l : List Lexeme) → Stuck y (step K y u) → tokensOf l ≡ u ∷ us →
     (f : Fault) × (readRows K y l ≡ bad f)
 stuck-bad K y u us [] s e = let z : _≡_ {A = ℕ} 0 1 = cc in absurd (omega arith)
 stuck-bad K y u us (c ∷ l) s e = go (step K y (c .token)) (subst (λ v. Stuck y (step K y v)) (cc) s)

@@ -8,7 +8,6 @@
 --   new-word                    a word more, and the kinds that are left without words
 --   new-kind                    a kind with such a word
 --   complete                    what may follow at once, by the phase
---   coming p us                 the names of kinds that follow in the phase p
 --   follow, so-far              what may follow tokens that were read
 --
 use mathlib.Core.Path.{_≡_, refl, sym, _∙_, ap, subst}
@@ -16,19 +15,19 @@ use mathlib.Core.Bool.{Bool, true, false, cond}
 use mathlib.Core.List.{List, [], _∷_, _++_, map, append-nil, append-assoc, map-append}
 use Prim.Native.Nat.{ℕ, zero, suc, _-_, _<_, _≤_}
 use native.Mathlib.Omega.{arith}
-use lib.ListN.{length, length-append}
+use lib.ListN.{length, take, drop, length-append, List·getD-append}
 use Rattle.terms.specs.Lists.{All}
 use Rattle.terms.proofs.All.{all-append}
 use Rattle.wire.specs.Vocabulary.{mostWords}
-use Rattle.wire.proofs.Cond.{cond-true, cond-false}
 use Rattle.texts.specs.Lexemes.{Token}
 use Rattle.texts.specs.Names.{same, kindWord, mark, comma, bar, equals, opening, closing, IsIdentifier, indexIn, nameAt, Distinct}
 use Rattle.texts.specs.Lexicon.{WordText, Lexicon, kindNames, allWords, wordNames, placeKindTokens, withPlaces, wordsTokens, kindsTokens}
 use Rattle.texts.specs.Faults.{kindDue, placeEnd}
-use Rattle.texts.specs.LexiconReading.{wordNameWhy, placeWhy, WordRow, Phase, atStart, atKind, behindKind, atWord, behindWord, atPlace, behindPlace, behindPlaces, Declaring, beginning, Stepped, on, over, fails, goTo, stepWord, placesLast, grown, stepPlace, stepOn}
-use Rattle.texts.specs.Laws.{SoundWord, namesBehind}
+use Rattle.texts.specs.LexiconReading.{kindNameWhy, wordNameWhy, placeWhy, namesFrom, WordRow, Phase, atStart, atKind, behindKind, atWord, behindWord, atPlace, behindPlace, behindPlaces, Declaring, beginning, Stepped, on, over, fails, goTo, stepKind, stepWord, placesLast, grown, stepPlace, stepOn}
+use Rattle.texts.specs.Laws.{SoundWord}
 use Rattle.texts.proofs.Lookups.{same-eq, identifier-no-kind, at-index, distinct-more}
 use Rattle.texts.proofs.KindNames.{NameFits, name-fits, Tokened, identifier, mark-no-kind}
+use Rattle.texts.proofs.Gathering.{Left, Naming, Coming, naming, left-skip, left-kind, left-named, named-drop}
 use Rattle.texts.proofs.LexiconsRead.{state, name, andOn, walk}
 use Rattle.texts.proofs.LexiconsExact.{PlaceFits, place-fits, Fine}
 use Rattle.texts.proofs.FreshNames.{fresh}
@@ -171,7 +170,7 @@ module _ (K : List Token) where
         λ c. one-word c Ks N (u .name) rest (u .identifier) (no-places spelt Ks M rest rest refl (no-words bar Ks M rest left)),
       )
 
-  abbrev Due : Phase → List Token → Type 0
+  abbrev pub Due : Phase → List Token → Type 0
   Due atStart Ks = 1 ≤ length Ks
   Due atKind Ks = 1 ≤ length Ks
   Due behindKind Ks = Unit {0}
@@ -213,165 +212,163 @@ module _ (K : List Token) where
 
 -- ---- what was read
 
--- The names of the kinds that are still to come in the phase p before the tokens us.
-abbrev coming : Phase → List Token → List Token
-coming atStart us = namesBehind us
-coming atKind us = nameAt us 0 ∷ namesBehind us
-coming behindKind us = namesBehind us
-coming atWord us = namesBehind us
-coming behindWord us = namesBehind us
-coming atPlace us = namesBehind us
-coming behindPlace us = namesBehind us
-coming behindPlaces us = namesBehind us
+-- K are the names that were gathered, and `extra` may be kinds behind them. The tokens vs stand behind those that are read.
+module _ (K extra : List Token) (some : 1 ≤ length (K ++ extra)) (vs : List Token) (y : Declaring) where
+  abbrev J : List Token
+  J = K ++ extra
 
--- The tokens vs stand behind those that are read.
-module _ (K : List Token) (some : 1 ≤ length K) (vs : List Token) (y : Declaring) where
-  abbrev More : List Token → Type 0
-  More us =
-      (p : Phase) (n : ℕ) (N : List Token) (D L : List WordRow) (Ks : List Token) → Fine N → All IsIdentifier Ks → All Tokened us →
-      Ks ≡ coming p (us ++ vs) → Due K p Ks → walk K (state p n N D L) us ≡ on y → (m : List Token) × Outcome K p Ks N (us ++ m)
+  -- The kinds that are to come where n have begun.
+  abbrev ahead : ℕ → List Token
+  ahead n = drop n K ++ extra
 
-  module _ (u : Token) (us : List Token) (more : More us) (n : ℕ) (N : List Token) (fine : Fine N) (D L : List WordRow) (Ks : List Token)
-      (identifiers : All IsIdentifier Ks) (tokens : All Tokened (u ∷ us)) where
-    abbrev Follows : Stepped → Type 0
-    Follows s = andOn s (λ z. walk K z us) ≡ on y
+  module _ (due : Due J (y .phase) (ahead (y .kinds))) where
+    abbrev More : List Token → Type 0
+    More us =
+        (p : Phase) (n : ℕ) (N : List Token) (D L : List WordRow) → Fine N → All Tokened us → Coming K (naming p) n (us ++ vs) →
+        walk K (state p n N D L) us ≡ on y → (m : List Token) × Outcome J p (ahead n) N (us ++ m)
 
-    fails-not : {A : Type 0} (why : ℕ) → Follows (fails why) → A
-    fails-not why e = let z : _≡_ {A = ℕ} 0 1 = cc in absurd (omega arith)
+    module _ (u : Token) (us : List Token) (more : More us) (n : ℕ) (N : List Token) (fine : Fine N) (D L : List WordRow)
+        (tokens : All Tokened (u ∷ us)) where
+      abbrev Follows : Stepped → Type 0
+      Follows s = andOn s (λ z. walk K z us) ≡ on y
 
-    over-not : {A : Type 0} → Follows over → A
-    over-not e = let z : _≡_ {A = ℕ} 0 1 = cc in absurd (omega arith)
+      fails-not : {A : Type 0} (why : ℕ) → Follows (fails why) → A
+      fails-not why e = let z : _≡_ {A = ℕ} 0 1 = cc in absurd (omega arith)
 
-    skip : same u kindWord ≡ false → Ks ≡ namesBehind (u ∷ (us ++ vs)) → Ks ≡ namesBehind (us ++ vs)
-    skip h e = e ∙ cond-false (same u kindWord) _ _ h
+      over-not : {A : Type 0} → Follows over → A
+      over-not e = let z : _≡_ {A = ℕ} 0 1 = cc in absurd (omega arith)
 
-    skip-mark : (c : ℕ) → u ≡ mark c → Ks ≡ namesBehind (u ∷ (us ++ vs)) → Ks ≡ namesBehind (us ++ vs)
-    skip-mark c h e = skip (ap (λ t. same t kindWord) h ∙ mark-no-kind c) e
+      skip : same u kindWord ≡ false → Left K n (u ∷ (us ++ vs)) → Left K n (us ++ vs)
+      skip h t = left-skip K n u (us ++ vs) h t
 
-    -- A `kind`, where nothing else may stand.
-    kind-or : (t : Stepped) → Ks ≡ namesBehind (u ∷ (us ++ vs)) → (Follows t → ⊥) →
-        Follows (cond (same u kindWord) (on (state atKind n N D L)) t) → (m : List Token) × KindsLeft K Ks N (u ∷ (us ++ m))
-    kind-or t e other f = go (same u kindWord) refl f
-      where
-        go : (b : Bool) → same u kindWord ≡ b → Follows (cond b (on (state atKind n N D L)) t) → (m : List Token) × KindsLeft K Ks N (u ∷ (us ++ m))
-        go false h f = absurd (other f)
-        go true h f =
-            let q : Ks ≡ coming atKind (us ++ vs) = e ∙ cond-true (same u kindWord) _ _ h in
-            let r = more atKind n N D L Ks fine identifiers (tokens .1) q (subst (λ (M : List Token). 1 ≤ length M) (sym q) (omega arith)) f in
-            (r .0, subst (λ t. KindsLeft K Ks N (t ∷ (us ++ r .0))) (sym (same-eq u kindWord h)) (r .1))
+      skip-mark : (c : ℕ) → u ≡ mark c → Left K n (u ∷ (us ++ vs)) → Left K n (us ++ vs)
+      skip-mark c h t = skip (ap (λ t. same t kindWord) h ∙ mark-no-kind c) t
 
-    -- The mark c and a word, or none.
-    word-or : (p : Phase) (c : ℕ) → Ks ≡ namesBehind (u ∷ (us ++ vs)) →
-        Follows (cond (same u (mark c)) (goTo atWord (state p n N D L)) (stepOn (state p n N D L) u)) →
-        (m : List Token) × WordsLeft K c Ks N (u ∷ (us ++ m))
-    word-or p c e f = go (same u (mark c)) refl f
-      where
-        go : (b : Bool) → same u (mark c) ≡ b → Follows (cond b (goTo atWord (state p n N D L)) (stepOn (state p n N D L) u)) →
-            (m : List Token) × WordsLeft K c Ks N (u ∷ (us ++ m))
-        go false h f = let r = kind-or over e over-not f in (r .0, no-words K c Ks N (u ∷ (us ++ r .0)) (r .1))
-        go true h f =
-            let q : u ≡ mark c = same-eq u (mark c) h in
-            let r = more atWord n N D L Ks fine identifiers (tokens .1) (skip-mark c q e) tt f in
-            (r .0, subst (λ t. WordsLeft K c Ks N (t ∷ (us ++ r .0))) (sym q) (r .1 c))
+      -- A `kind`, where nothing else may stand.
+      kind-or : (s : Stepped) → Left K n (u ∷ (us ++ vs)) → (Follows s → ⊥) →
+          Follows (cond (same u kindWord) (on (state atKind n N D L)) s) → (m : List Token) × KindsLeft J (ahead n) N (u ∷ (us ++ m))
+      kind-or s t other f = go (same u kindWord) refl f
+        where
+          go : (b : Bool) → same u kindWord ≡ b → Follows (cond b (on (state atKind n N D L)) s) →
+              (m : List Token) × KindsLeft J (ahead n) N (u ∷ (us ++ m))
+          go false h f = absurd (other f)
+          go true h f =
+              let r = more atKind n N D L fine (tokens .1) (left-kind K n u (us ++ vs) h t) f in
+              (r .0, subst (λ t. KindsLeft J (ahead n) N (t ∷ (us ++ r .0))) (sym (same-eq u kindWord h)) (r .1))
 
-    -- The mark c and a place, or what comes where c does not stand.
-    place-or : (p : Phase) (spell : List ℕ → List Token) (c : ℕ) (t : Stepped) →
-        ((p : ℕ) (ps : List ℕ) → spell (p ∷ ps) ≡ placeKindTokens K c (p ∷ ps)) → Ks ≡ namesBehind (u ∷ (us ++ vs)) →
-        (Follows t → (m : List Token) × PlacesLeft K spell Ks N (u ∷ (us ++ m))) →
-        Follows (cond (same u (mark c)) (goTo atPlace (state p n N D L)) t) → (m : List Token) × PlacesLeft K spell Ks N (u ∷ (us ++ m))
-    place-or p spell c t spells e other f = go (same u (mark c)) refl f
-      where
-        go : (b : Bool) → same u (mark c) ≡ b → Follows (cond b (goTo atPlace (state p n N D L)) t) →
-            (m : List Token) × PlacesLeft K spell Ks N (u ∷ (us ++ m))
-        go false h f = other f
-        go true h f =
-            let q : u ≡ mark c = same-eq u (mark c) h in
-            let r = more atPlace n N D L Ks fine identifiers (tokens .1) (skip-mark c q e) tt f in
-            (r .0, subst (λ t. PlacesLeft K spell Ks N (t ∷ (us ++ r .0))) (sym q) (one-place K spell c Ks N (us ++ r .0) spells (r .1)))
+      -- The mark c and a word, or none.
+      word-or : (p : Phase) (c : ℕ) → Left K n (u ∷ (us ++ vs)) →
+          Follows (cond (same u (mark c)) (goTo atWord (state p n N D L)) (stepOn (state p n N D L) u)) →
+          (m : List Token) × WordsLeft J c (ahead n) N (u ∷ (us ++ m))
+      word-or p c t f = go (same u (mark c)) refl f
+        where
+          go : (b : Bool) → same u (mark c) ≡ b → Follows (cond b (goTo atWord (state p n N D L)) (stepOn (state p n N D L) u)) →
+              (m : List Token) × WordsLeft J c (ahead n) N (u ∷ (us ++ m))
+          go false h f = let r = kind-or over t over-not f in (r .0, no-words J c (ahead n) N (u ∷ (us ++ r .0)) (r .1))
+          go true h f =
+              let q : u ≡ mark c = same-eq u (mark c) h in
+              let r = more atWord n N D L fine (tokens .1) (skip-mark c q t) f in
+              (r .0, subst (λ t. WordsLeft J c (ahead n) N (t ∷ (us ++ r .0))) (sym q) (r .1 c))
 
-    closing-or : (p : Phase) → Ks ≡ namesBehind (u ∷ (us ++ vs)) →
-        Follows (cond (same u (mark closing)) (goTo behindPlaces (state p n N D L)) (fails placeEnd)) →
-        (m : List Token) × PlacesLeft K (placeKindTokens K comma) Ks N (u ∷ (us ++ m))
-    closing-or p e f = go (same u (mark closing)) refl f
-      where
-        go : (b : Bool) → same u (mark closing) ≡ b → Follows (cond b (goTo behindPlaces (state p n N D L)) (fails placeEnd)) →
-            (m : List Token) × PlacesLeft K (placeKindTokens K comma) Ks N (u ∷ (us ++ m))
-        go false h f = fails-not placeEnd f
-        go true h f =
-            let q : u ≡ mark closing = same-eq u (mark closing) h in
-            let r = more behindPlaces n N D L Ks fine identifiers (tokens .1) (skip-mark closing q e) tt f in (
-              r .0,
-              no-places K (placeKindTokens K comma) Ks N (u ∷ (us ++ r .0)) (us ++ r .0) (ap (λ (t : Token). t ∷ (us ++ r .0)) q) (r .1),
-            )
+      -- The mark c and a place, or what comes where c does not stand.
+      place-or : (p : Phase) (spell : List ℕ → List Token) (c : ℕ) (s : Stepped) →
+          ((p : ℕ) (ps : List ℕ) → spell (p ∷ ps) ≡ placeKindTokens J c (p ∷ ps)) → Left K n (u ∷ (us ++ vs)) →
+          (Follows s → (m : List Token) × PlacesLeft J spell (ahead n) N (u ∷ (us ++ m))) →
+          Follows (cond (same u (mark c)) (goTo atPlace (state p n N D L)) s) → (m : List Token) × PlacesLeft J spell (ahead n) N (u ∷ (us ++ m))
+      place-or p spell c s spells t other f = go (same u (mark c)) refl f
+        where
+          go : (b : Bool) → same u (mark c) ≡ b → Follows (cond b (goTo atPlace (state p n N D L)) s) →
+              (m : List Token) × PlacesLeft J spell (ahead n) N (u ∷ (us ++ m))
+          go false h f = other f
+          go true h f =
+              let q : u ≡ mark c = same-eq u (mark c) h in
+              let r = more atPlace n N D L fine (tokens .1) (skip-mark c q t) f in (
+                r .0,
+                subst (λ t. PlacesLeft J spell (ahead n) N (t ∷ (us ++ r .0))) (sym q) (one-place J spell c (ahead n) N (us ++ r .0) spells (r .1)),
+              )
 
-    named-kind : Ks ≡ u ∷ namesBehind (u ∷ (us ++ vs)) → Follows (on (state behindKind (suc n) N D L)) →
-        (m : List Token) × KindsLeft K Ks N (kindWord ∷ u ∷ (us ++ m))
-    named-kind e f =
-        let i : IsIdentifier u = subst (All IsIdentifier) e identifiers .0 in
-        let q : Ks ≡ u ∷ namesBehind (us ++ vs) =
-        e ∙ ap (λ (t : List Token). u ∷ t) (cond-false (same u kindWord) _ _ (identifier-no-kind u (i .identifier))) in
-        let r =
-        more behindKind (suc n) N D L (namesBehind (us ++ vs)) fine (subst (All IsIdentifier) q identifiers .1) (tokens .1) refl tt f in (
-          r .0,
-          subst (λ (M : List Token). KindsLeft K M N (kindWord ∷ u ∷ (us ++ r .0))) (sym q)
-              (one-kind K (namesBehind (us ++ vs)) N u (us ++ r .0) (r .1)),
-        )
+      closing-or : (p : Phase) → Left K n (u ∷ (us ++ vs)) →
+          Follows (cond (same u (mark closing)) (goTo behindPlaces (state p n N D L)) (fails placeEnd)) →
+          (m : List Token) × PlacesLeft J (placeKindTokens J comma) (ahead n) N (u ∷ (us ++ m))
+      closing-or p t f = go (same u (mark closing)) refl f
+        where
+          go : (b : Bool) → same u (mark closing) ≡ b → Follows (cond b (goTo behindPlaces (state p n N D L)) (fails placeEnd)) →
+              (m : List Token) × PlacesLeft J (placeKindTokens J comma) (ahead n) N (u ∷ (us ++ m))
+          go false h f = fails-not placeEnd f
+          go true h f =
+              let q : u ≡ mark closing = same-eq u (mark closing) h in
+              let r = more behindPlaces n N D L fine (tokens .1) (skip-mark closing q t) f in (
+                r .0,
+                no-places J (placeKindTokens J comma) (ahead n) N (u ∷ (us ++ r .0)) (us ++ r .0) (ap (λ (t : Token). t ∷ (us ++ r .0)) q) (r .1),
+              )
 
-    named-word : (why : ℕ) → wordNameWhy N u ≡ why → Ks ≡ namesBehind (u ∷ (us ++ vs)) → Follows (stepWord (state atWord n N D L) u why) →
-        (m : List Token) × ((c : ℕ) → WordsLeft K c Ks N (mark c ∷ u ∷ (us ++ m)))
-    named-word (suc why) h e f = fails-not (suc why) f
-    named-word zero h e f =
-        let t : NameFits mostWords N u = name-fits 5 6 7 mostWords N u h in
-        let r =
-        more behindWord n (N ++ (u ∷ [])) (D ++ L) (record { kind = n - 1; places = [] } ∷ []) Ks
-        (record {
-          different = distinct-more u N (fine .different) (t .new);
-          few = omega (arith, t .room, length-append N (u ∷ []));
-        })
-        identifiers (tokens .1) (skip (identifier-no-kind u (t .identifier)) e) tt f in
-        (r .0, λ c. one-word K c Ks N u (us ++ r .0) (identifier u (tokens .0) (t .identifier) (t .short)) (r .1))
+      named-kind : (why : ℕ) → kindNameWhy (take n K) u ≡ why → Naming K n (u ∷ (us ++ vs)) → Follows (stepKind (state atKind n N D L) why) →
+          (m : List Token) × KindsLeft J (ahead n) N (kindWord ∷ u ∷ (us ++ m))
+      named-kind (suc why) h t f = fails-not (suc why) f
+      named-kind zero h t f =
+          let r = more behindKind (suc n) N D L fine (tokens .1) (left-named K n u (us ++ vs) h t) f in (
+            r .0,
+            subst (λ (M : List Token). KindsLeft J M N (kindWord ∷ u ∷ (us ++ r .0)))
+                (ap (λ (M : List Token). M ++ extra) (sym (named-drop K n u (us ++ vs) h t)))
+                (one-kind J (ahead (suc n)) N u (us ++ r .0) (r .1)),
+          )
 
-    named-place : (why : ℕ) → placeWhy K (placesLast L) u ≡ why → Ks ≡ namesBehind (u ∷ (us ++ vs)) →
-        Follows (stepPlace (state atPlace n N D L) (indexIn u K) why) → (m : List Token) × PlaceLeft K Ks N (u ∷ (us ++ m))
-    named-place (suc why) h e f = fails-not (suc why) f
-    named-place zero h e f =
-        let t : PlaceFits K (placesLast L) u = place-fits K (placesLast L) u h in
-        let r =
-        more behindPlace n N D (map (grown (indexIn u K)) L) Ks fine identifiers (tokens .1) (skip (identifier-no-kind u (t .identifier)) e) tt f in (
-          r .0,
-          record {
-            place = indexIn u K;
-            behind = us ++ r .0;
-            tokens = ap (λ (t : Token). t ∷ (us ++ r .0)) (sym (at-index u K (t .declared)));
-            below = t .declared;
-            left = r .1;
-          },
-        )
+      named-word : (why : ℕ) → wordNameWhy N u ≡ why → Left K n (u ∷ (us ++ vs)) → Follows (stepWord (state atWord n N D L) u why) →
+          (m : List Token) × ((c : ℕ) → WordsLeft J c (ahead n) N (mark c ∷ u ∷ (us ++ m)))
+      named-word (suc why) h t f = fails-not (suc why) f
+      named-word zero h t f =
+          let i : NameFits mostWords N u = name-fits 5 6 7 mostWords N u h in
+          let r =
+          more behindWord n (N ++ (u ∷ [])) (D ++ L) (record { kind = n - 1; places = [] } ∷ [])
+          (record {
+            different = distinct-more u N (fine .different) (i .new);
+            few = omega (arith, i .room, length-append N (u ∷ []));
+          })
+          (tokens .1) (skip (identifier-no-kind u (i .identifier)) t) f in
+          (r .0, λ c. one-word J c (ahead n) N u (us ++ r .0) (identifier u (tokens .0) (i .identifier) (i .short)) (r .1))
 
-  follow : (us : List Token) → More us
-  follow [] p n N D L Ks fine ids tokens e due f = complete K some p Ks N fine due
-  follow (u ∷ us) atStart n N D L Ks fine ids tokens e due f =
-      kind-or u us (follow us) n N fine D L Ks ids tokens (fails kindDue) e
-      (λ g. fails-not u us (follow us) n N fine D L Ks ids tokens kindDue g) f
-  follow (u ∷ us) atKind n N D L Ks fine ids tokens e due f = named-kind u us (follow us) n N fine D L Ks ids tokens e f
-  follow (u ∷ us) behindKind n N D L Ks fine ids tokens e due f =
-      word-or u us (follow us) n N fine D L Ks ids tokens behindKind equals e f
-  follow (u ∷ us) atWord n N D L Ks fine ids tokens e due f =
-      named-word u us (follow us) n N fine D L Ks ids tokens (wordNameWhy N u) refl e f
-  follow (u ∷ us) behindWord n N D L Ks fine ids tokens e due f =
-      place-or u us (follow us) n N fine D L Ks ids tokens behindWord (spelt K) opening _ (λ p ps. refl) e
-      (λ f.
-      let r = word-or u us (follow us) n N fine D L Ks ids tokens behindWord bar e f in
-      (r .0, no-places K (spelt K) Ks N (u ∷ (us ++ r .0)) (u ∷ (us ++ r .0)) refl (r .1)))
-      f
-  follow (u ∷ us) atPlace n N D L Ks fine ids tokens e due f =
-      named-place u us (follow us) n N fine D L Ks ids tokens (placeWhy K (placesLast L) u) refl e f
-  follow (u ∷ us) behindPlace n N D L Ks fine ids tokens e due f =
-      place-or u us (follow us) n N fine D L Ks ids tokens behindPlace (placeKindTokens K comma) comma _ (λ p ps. refl) e
-      (closing-or u us (follow us) n N fine D L Ks ids tokens behindPlace e) f
-  follow (u ∷ us) behindPlaces n N D L Ks fine ids tokens e due f =
-      word-or u us (follow us) n N fine D L Ks ids tokens behindPlaces bar e f
+      named-place : (why : ℕ) → placeWhy K (placesLast L) u ≡ why → Left K n (u ∷ (us ++ vs)) →
+          Follows (stepPlace (state atPlace n N D L) (indexIn u K) why) → (m : List Token) × PlaceLeft J (ahead n) N (u ∷ (us ++ m))
+      named-place (suc why) h t f = fails-not (suc why) f
+      named-place zero h t f =
+          let i : PlaceFits K (placesLast L) u = place-fits K (placesLast L) u h in
+          let r = more behindPlace n N D (map (grown (indexIn u K)) L) fine (tokens .1) (skip (identifier-no-kind u (i .identifier)) t) f in (
+            r .0,
+            record {
+              place = indexIn u K;
+              behind = us ++ r .0;
+              tokens =
+                  ap (λ (t : Token). t ∷ (us ++ r .0))
+                  (sym (List·getD-append K extra [] (indexIn u K) (i .declared) ∙ at-index u K (i .declared)));
+              below = omega (arith, i .declared, length-append K extra);
+              left = r .1;
+            },
+          )
 
-  pub so-far : (us : List Token) → All IsIdentifier K → All Tokened us → K ≡ namesBehind (us ++ vs) → walk K beginning us ≡ on y →
-      (m : List Token) × KindsLeft K K [] (us ++ m)
-  so-far us ids tokens e f = follow us atStart 0 [] [] [] K (record { different = tt; few = omega arith }) ids tokens e some f
+    follow : (us : List Token) → More us
+    follow [] p n N D L fine tokens t f =
+        let h : y ≡ state p n N D L = cc in
+        complete J some p (ahead n) N fine (subst (λ (z : Declaring). Due J (z .phase) (ahead (z .kinds))) h due)
+    follow (u ∷ us) atStart n N D L fine tokens t f =
+        kind-or u us (follow us) n N fine D L tokens (fails kindDue) t (λ g. fails-not u us (follow us) n N fine D L tokens kindDue g) f
+    follow (u ∷ us) atKind n N D L fine tokens t f =
+        named-kind u us (follow us) n N fine D L tokens (kindNameWhy (take n K) u) refl t f
+    follow (u ∷ us) behindKind n N D L fine tokens t f = word-or u us (follow us) n N fine D L tokens behindKind equals t f
+    follow (u ∷ us) atWord n N D L fine tokens t f = named-word u us (follow us) n N fine D L tokens (wordNameWhy N u) refl t f
+    follow (u ∷ us) behindWord n N D L fine tokens t f =
+        place-or u us (follow us) n N fine D L tokens behindWord (spelt J) opening _ (λ p ps. refl) t
+        (λ f.
+        let r = word-or u us (follow us) n N fine D L tokens behindWord bar t f in
+        (r .0, no-places J (spelt J) (ahead n) N (u ∷ (us ++ r .0)) (u ∷ (us ++ r .0)) refl (r .1)))
+        f
+    follow (u ∷ us) atPlace n N D L fine tokens t f =
+        named-place u us (follow us) n N fine D L tokens (placeWhy K (placesLast L) u) refl t f
+    follow (u ∷ us) behindPlace n N D L fine tokens t f =
+        place-or u us (follow us) n N fine D L tokens behindPlace (placeKindTokens J comma) comma _ (λ p ps. refl) t
+        (closing-or u us (follow us) n N fine D L tokens behindPlace t) f
+    follow (u ∷ us) behindPlaces n N D L fine tokens t f = word-or u us (follow us) n N fine D L tokens behindPlaces bar t f
+
+    pub so-far : (us : List Token) → All Tokened us → namesFrom [] (us ++ vs) ≡ K → walk K beginning us ≡ on y →
+        (m : List Token) × KindsLeft J J [] (us ++ m)
+    so-far us tokens e f =
+        follow us atStart 0 [] [] [] (record { different = tt; few = omega arith }) tokens (record { few = omega arith; rest = e }) f

@@ -2,7 +2,7 @@
 --
 --   Plain l                    what is known of the lexemes l alone
 --   Fine N                     the names of words N are different and not too many
---   Ready p L l                what is known in the phase p
+--   Ready p L                  what is known in the phase p
 --   longer ps ρ                the row ρ with the places ps more
 --   PlaceFits, place-fits      what placeWhy tests
 --   KindsLeft, WordsLeft, PlacesLeft, PlaceLeft     what the tokens that are still to be read stand for, by what may come next
@@ -19,22 +19,24 @@ use mathlib.Core.List.{List, [], _∷_, _++_, map, append-nil, append-assoc, map
 use mathlib.Core.Logic.{_⊎_}
 use Prim.Native.Nat.{ℕ, zero, suc, _+_, _-_, _<_, _≤_}
 use native.Mathlib.Omega.{arith}
-use lib.Dec.{eqb, ltb}
-use lib.ListN.{length, length-append, length-map}
-use borrow.Author.Tests.{ltb-true, eqb-false}
+use lib.Dec.{eqb, ltb, leb}
+use lib.ListN.{length, take, drop, length-append, length-map, drop-of-length-le}
+use lib.Seq.{length-take-le}
+use borrow.Author.Tests.{ltb-true, leb-true, eqb-false}
 use Rattle.terms.specs.Lists.{All}
-use Rattle.terms.proofs.All.{all-append, all-map, all-unmap, all-implies}
-use Rattle.wire.specs.Vocabulary.{mostWords}
+use Rattle.terms.proofs.All.{all-append, all-map, all-unmap}
+use Rattle.wire.specs.Vocabulary.{mostKinds, mostWords}
 use Rattle.texts.specs.Lexemes.{Token, Lexeme}
 use Rattle.texts.specs.Names.{same, kindWord, mark, comma, bar, equals, opening, closing, mostName, isIdentifier, IsIdentifier, indexIn, nameAt, Distinct}
 use Rattle.texts.specs.Spelling.{IsToken}
 use Rattle.texts.specs.Lexicon.{WordText, KindText, Lexicon, kindNames, allWords, wordNames, placeKindTokens, withPlaces, wordsTokens, kindsTokens, mostPlaces, GoodWord, GoodLexicon}
-use Rattle.texts.specs.Faults.{parsed, bad, token, place, kindDue, placeDue, notDeclared, manyPlaces, placeEnd, noWords}
-use Rattle.texts.specs.LexiconReading.{wordNameWhy, placeWhy, Names?, named, misnamed, readKindNames, WordRow, Phase, atStart, atKind, behindKind, atWord, behindWord, atPlace, behindPlace, behindPlaces, Declaring, Stepped, over, fails, goTo, stepWord, grown, stepPlace, stepOn, LexiconRead, stepped, readRows, withNames, readLexicon}
-use Rattle.texts.specs.Laws.{tokensOf, rowsFrom, lexiconRead, Closes, LexiconsExact, namesBehind, bareKinds}
-use Rattle.texts.proofs.Lookups.{same-eq, identifier-some, at-index, distinct-more}
+use Rattle.texts.specs.Faults.{parsed, bad, place, kindDue, kindBeyond, longName, placeDue, notDeclared, manyPlaces, placeEnd, noWords}
+use Rattle.texts.specs.LexiconReading.{kindNameWhy, wordNameWhy, placeWhy, namesFrom, WordRow, Phase, atStart, atKind, behindKind, atWord, behindWord, atPlace, behindPlace, behindPlaces, Declaring, Stepped, over, fails, goTo, stepKind, stepWord, grown, stepPlace, stepOn, LexiconRead, stepped, readRows, readLexicon}
+use Rattle.texts.specs.Laws.{tokensOf, rowsFrom, lexiconRead, Closes, LexiconsExact, bareKinds}
+use Rattle.texts.proofs.Lookups.{same-eq, identifier-no-kind, identifier-some, at-index, distinct-more}
 use Rattle.texts.proofs.Closing.{closes-next}
-use Rattle.texts.proofs.KindNames.{NameFits, name-fits, identifier, names-kinds, names-quiet, Called, called-identifiers, KindsFine, NamesRead, read-names}
+use Rattle.texts.proofs.KindNames.{NameFits, name-fits, identifier, Quiet, mark-no-kind}
+use Rattle.texts.proofs.Gathering.{KindsFine, names-fine, none-more, Left, Naming, Coming, naming, left-skip, left-kind, left-named, named-drop}
 use Rattle.texts.proofs.LexiconsRead.{state, rowOf, name}
 
 abbrev Tokened : Lexeme → Type 0
@@ -43,10 +45,9 @@ Tokened x = (x .token ≡ []) ⊎ IsToken (x .token)
 record Plain (l : List Lexeme) : Type 0 where
   tokens : All Tokened l
   closes : Closes l
-  called : Called l
 
 plain-next : (x : Lexeme) (l : List Lexeme) → Plain (x ∷ l) → (x .token ≡ [] → ⊥) → Plain l
-plain-next x l p n = record { tokens = p .tokens .1; closes = closes-next x l (p .closes) n; called = p .called .1 }
+plain-next x l p n = record { tokens = p .tokens .1; closes = closes-next x l (p .closes) n }
 
 -- A mark and the word kind are not empty.
 some-token : (u v : Token) (b : ℕ) (w : Token) → u ≡ v → v ≡ b ∷ w → u ≡ [] → ⊥
@@ -60,15 +61,15 @@ abbrev Some : List WordRow → Type 0
 Some [] = ⊥
 Some (ρ ∷ L) = length (ρ .places) ≤ mostPlaces
 
-abbrev Ready : Phase → List WordRow → List Lexeme → Type 0
-Ready atStart L l = Unit {0}
-Ready atKind L l = (isIdentifier (token l) ≡ true) × (length (token l) ≤ mostName)
-Ready behindKind L l = Unit {0}
-Ready atWord L l = Unit {0}
-Ready behindWord L l = Some L
-Ready atPlace L l = Some L
-Ready behindPlace L l = Some L
-Ready behindPlaces L l = Unit {0}
+abbrev Ready : Phase → List WordRow → Type 0
+Ready atStart L = Unit {0}
+Ready atKind L = Unit {0}
+Ready behindKind L = Unit {0}
+Ready atWord L = Unit {0}
+Ready behindWord L = Some L
+Ready atPlace L = Some L
+Ready behindPlace L = Some L
+Ready behindPlaces L = Unit {0}
 
 -- A row with the places ps behind those that it has.
 abbrev longer : List ℕ → WordRow → WordRow
@@ -86,18 +87,27 @@ longer-grown p ps (ρ ∷ L) =
 
 pub record PlaceFits (K : List Token) (m : ℕ) (u : Token) : Type 0 where
   pub identifier : isIdentifier u ≡ true
+  pub short : length u ≤ mostName
   pub declared : indexIn u K < length K
   pub room : m < mostPlaces
 
 pub place-fits : (K : List Token) (m : ℕ) (u : Token) → placeWhy K m u ≡ 0 → PlaceFits K m u
-place-fits K m u e = go (isIdentifier u) (ltb (indexIn u K) (length K)) (ltb m mostPlaces) refl refl refl e
+place-fits K m u e =
+    go (isIdentifier u) (leb (length u) mostName) (ltb (indexIn u K) (length K)) (ltb m mostPlaces) (ltb (length K) mostKinds) refl refl refl refl e
   where
-    go : (b c f : Bool) → isIdentifier u ≡ b → ltb (indexIn u K) (length K) ≡ c → ltb m mostPlaces ≡ f →
-        cond b (cond c (cond f 0 manyPlaces) notDeclared) placeDue ≡ 0 → PlaceFits K m u
-    go false c f p q r e = absurd (omega arith)
-    go true false f p q r e = absurd (omega arith)
-    go true true false p q r e = absurd (omega arith)
-    go true true true p q r e = record { identifier = p; declared = ltb-true _ _ q; room = ltb-true _ _ r }
+    go : (b s c f g : Bool) → isIdentifier u ≡ b → leb (length u) mostName ≡ s → ltb (indexIn u K) (length K) ≡ c → ltb m mostPlaces ≡ f →
+        cond b (cond s (cond c (cond f 0 manyPlaces) (cond g notDeclared kindBeyond)) longName) placeDue ≡ 0 → PlaceFits K m u
+    go false s c f g p q r t e = absurd (omega arith)
+    go true false c f g p q r t e = absurd (omega arith)
+    go true true false f true p q r t e = absurd (omega arith)
+    go true true false f false p q r t e = absurd (omega arith)
+    go true true true false g p q r t e = absurd (omega arith)
+    go true true true true g p q r t e = record {
+      identifier = p;
+      short = leb-true (length u) mostName q;
+      declared = ltb-true _ _ r;
+      room = ltb-true _ _ t;
+    }
 
 module _ (K : List Token) (r : List Lexeme) (a : LexiconRead) where
   record End : Type 0 where
@@ -106,6 +116,8 @@ module _ (K : List Token) (r : List Lexeme) (a : LexiconRead) where
     some : 1 ≤ length (a .wordNames)
     few : length (a .wordNames) ≤ mostWords
     closes : Closes r
+    late : List Token
+    quiet : Quiet (tokensOf r) → late ≡ []
 
   record KindsLeft (n : ℕ) (N : List Token) (R : List WordRow) (us : List Token) : Type 0 where
     kinds : Lexicon
@@ -113,8 +125,8 @@ module _ (K : List Token) (r : List Lexeme) (a : LexiconRead) where
     names : a .wordNames ≡ N ++ wordNames kinds
     rows : a .rows ≡ R ++ rowsFrom n kinds
     goodWords : All (GoodWord (length K)) (allWords kinds)
-    goodKinds : All (λ (x : KindText). IsIdentifier (x .name)) kinds
     end : End
+    listed : drop n K ≡ kindNames kinds ++ end .late
 
   record WordsLeft (c n : ℕ) (N : List Token) (R : List WordRow) (us : List Token) : Type 0 where
     words : List WordText
@@ -153,7 +165,7 @@ module _ (K : List Token) (r : List Lexeme) (a : LexiconRead) where
 
   abbrev More : List Lexeme → Type 0
   More l =
-      (p : Phase) (n : ℕ) (N : List Token) (D L : List WordRow) → Plain l → Fine N → Ready p L l →
+      (p : Phase) (n : ℕ) (N : List Token) (D L : List WordRow) → Plain l → Coming K (naming p) n (tokensOf l) → Fine N → Ready p L →
       readRows K (state p n N D L) l ≡ parsed a r → Outcome p n N D L (tokensOf l)
 
   -- ---- the same, said in another way
@@ -165,8 +177,8 @@ module _ (K : List Token) (r : List Lexeme) (a : LexiconRead) where
     names = k .names ∙ ap (λ (T : List Token). T ++ wordNames (k .kinds)) e;
     rows = k .rows ∙ ap (λ (T : List WordRow). T ++ rowsFrom n (k .kinds)) f;
     goodWords = k .goodWords;
-    goodKinds = k .goodKinds;
     end = k .end;
+    listed = k .listed;
   }
 
   no-words : (c n : ℕ) (N : List Token) (R : List WordRow) (us : List Token) → KindsLeft n N R us → WordsLeft c n N R us
@@ -225,9 +237,9 @@ module _ (K : List Token) (r : List Lexeme) (a : LexiconRead) where
             (m .left);
       }
 
-  one-kind : (n : ℕ) (N : List Token) (R : List WordRow) (u : Token) (us : List Token) → IsIdentifier u → WordsLeft equals (suc n) N R us →
-      KindsLeft n N R (kindWord ∷ u ∷ us)
-  one-kind n N R u us i w =
+  one-kind : (n : ℕ) (N : List Token) (R : List WordRow) (u : Token) (us : List Token) → drop n K ≡ u ∷ drop (suc n) K →
+      WordsLeft equals (suc n) N R us → KindsLeft n N R (kindWord ∷ u ∷ us)
+  one-kind n N R u us d w =
       let k = w .left in
       let own : List Token = wordsTokens K equals (w .words) in
       let before : suc n - 1 ≡ n = omega arith in
@@ -243,21 +255,30 @@ module _ (K : List Token) (r : List Lexeme) (a : LexiconRead) where
             k .rows ∙ append-assoc R (map (rowOf (suc n - 1)) (w .words)) (rowsFrom (suc n) (k .kinds)) ∙
             ap (λ (m : ℕ). R ++ (map (rowOf m) (w .words) ++ rowsFrom (suc n) (k .kinds))) before;
         goodWords = all-append (GoodWord (length K)) (w .words) (allWords (k .kinds)) (w .good) (k .goodWords);
-        goodKinds = (i, k .goodKinds);
         end = k .end;
+        listed = d ∙ ap (λ (t : List Token). u ∷ t) (k .listed);
       }
 
   -- ---- one token
 
   module _ (y : Lexeme) (l : List Lexeme) (more : More l) (plain : Plain (y ∷ l)) (n : ℕ) (N : List Token) (fine : Fine N) (D : List WordRow) where
+    abbrev here : List Token
+    here = tokensOf (y ∷ l)
+
+    skip : same (y .token) kindWord ≡ false → Left K n here → Left K n (tokensOf l)
+    skip h t = left-skip K n (y .token) (tokensOf l) h t
+
+    skip-mark : (c : ℕ) → y .token ≡ mark c → Left K n here → Left K n (tokensOf l)
+    skip-mark c u t = skip (ap (λ v. same v kindWord) u ∙ mark-no-kind c) t
+
     abbrev Follows : Declaring → Stepped → Type 0
     Follows x s = stepped (λ z. readRows K z l) K x (y ∷ l) s ≡ parsed a r
 
     fails-not : {A : Type 0} (x : Declaring) (why : ℕ) → Follows x (fails why) → A
     fails-not x why e = let z : _≡_ {A = ℕ} 0 1 = cc in absurd (omega arith)
 
-    finish : (p : Phase) (L : List WordRow) → Follows (state p n N D L) over → KindsLeft n N (D ++ L) (tokensOf (y ∷ l))
-    finish p L e = go (eqb (length N) 0) refl e
+    finish : (p : Phase) (L : List WordRow) → Left K n here → Follows (state p n N D L) over → KindsLeft n N (D ++ L) (tokensOf (y ∷ l))
+    finish p L t e = go (eqb (length N) 0) refl e
       where
         read : LexiconRead
         read = record { kindNames = K; wordNames = N; rows = D ++ L }
@@ -276,14 +297,19 @@ module _ (K : List Token) (r : List Lexeme) (a : LexiconRead) where
               names = sym names ∙ sym (append-nil N);
               rows = ap (λ (x : LexiconRead). x .rows) (sym same) ∙ sym (append-nil (D ++ L));
               goodWords = tt;
-              goodKinds = tt;
               end = record {
                 kinds = ap (λ (x : LexiconRead). x .kindNames) (sym same);
                 different = subst Distinct names (fine .different);
                 some = subst (λ (M : List Token). 1 ≤ length M) names (positive (length N) (eqb-false (length N) 0 h));
                 few = subst (λ (M : List Token). length M ≤ mostWords) names (fine .few);
                 closes = subst Closes rest (plain .closes);
+                late = drop n K;
+                quiet = λ q.
+                    let all : take n K ≡ K =
+                    sym (none-more here (take n K) (subst (λ (m : List Lexeme). Quiet (tokensOf m)) (sym rest) q)) ∙ t .rest in
+                    drop-of-length-le K {i = n} (omega (arith, ap length all, length-take-le n K (t .few)));
               };
+              listed = refl;
             }
           where
             positive : (m : ℕ) → (m ≡ 0 → ⊥) → 1 ≤ m
@@ -291,10 +317,11 @@ module _ (K : List Token) (r : List Lexeme) (a : LexiconRead) where
             positive (suc m) f = omega arith
 
     -- A `kind`, or what comes where none stands.
-    kind-or : (p : Phase) (L : List WordRow) (s : Stepped) → (Follows (state p n N D L) s → KindsLeft n N (D ++ L) (tokensOf (y ∷ l))) →
+    kind-or : (p : Phase) (L : List WordRow) (s : Stepped) → Left K n here →
+        (Follows (state p n N D L) s → KindsLeft n N (D ++ L) (tokensOf (y ∷ l))) →
         Follows (state p n N D L) (cond (same (y .token) kindWord) (goTo atKind (state p n N D L)) s) →
         KindsLeft n N (D ++ L) (tokensOf (y ∷ l))
-    kind-or p L s other e = go (same (y .token) kindWord) refl e
+    kind-or p L s t other e = go (same (y .token) kindWord) refl e
       where
         go : (b : Bool) → same (y .token) kindWord ≡ b → Follows (state p n N D L) (cond b (goTo atKind (state p n N D L)) s) →
             KindsLeft n N (D ++ L) (tokensOf (y ∷ l))
@@ -302,31 +329,31 @@ module _ (K : List Token) (r : List Lexeme) (a : LexiconRead) where
         go true h e =
             let u : y .token ≡ kindWord = same-eq (y .token) kindWord h in
             subst (λ t. KindsLeft n N (D ++ L) (t ∷ tokensOf l)) (sym u)
-            (more atKind n N D L (plain-next y l plain (some-token (y .token) kindWord _ _ u refl)) fine (plain .called .0 h) e)
+            (more atKind n N D L (plain-next y l plain (some-token (y .token) kindWord _ _ u refl)) (left-kind K n (y .token) (tokensOf l) h t) fine tt e)
 
     -- The mark c and a word, or none.
-    word-or : (p : Phase) (L : List WordRow) (c : ℕ) →
+    word-or : (p : Phase) (L : List WordRow) (c : ℕ) → Left K n here →
         Follows (state p n N D L)
         (cond (same (y .token) (mark c)) (goTo atWord (state p n N D L)) (stepOn (state p n N D L) (y .token))) →
         WordsLeft c n N (D ++ L) (tokensOf (y ∷ l))
-    word-or p L c e = go (same (y .token) (mark c)) refl e
+    word-or p L c t e = go (same (y .token) (mark c)) refl e
       where
         go : (b : Bool) → same (y .token) (mark c) ≡ b →
             Follows (state p n N D L) (cond b (goTo atWord (state p n N D L)) (stepOn (state p n N D L) (y .token))) →
             WordsLeft c n N (D ++ L) (tokensOf (y ∷ l))
-        go false h e = no-words c n N (D ++ L) (tokensOf (y ∷ l)) (kind-or p L over (finish p L) e)
+        go false h e = no-words c n N (D ++ L) (tokensOf (y ∷ l)) (kind-or p L over t (finish p L t) e)
         go true h e =
             let u : y .token ≡ mark c = same-eq (y .token) (mark c) h in
             subst (λ t. WordsLeft c n N (D ++ L) (t ∷ tokensOf l)) (sym u)
-            (more atWord n N D L (plain-next y l plain (some-token (y .token) (mark c) _ _ u refl)) fine tt e c)
+            (more atWord n N D L (plain-next y l plain (some-token (y .token) (mark c) _ _ u refl)) (skip-mark c u t) fine tt e c)
 
     -- The mark c and a place, or what comes where c does not stand.
     place-or : (p : Phase) (ρ : WordRow) (L : List WordRow) (c : ℕ) (spell : List ℕ → List Token) (s : Stepped) →
-        ((p : ℕ) (ps : List ℕ) → spell (p ∷ ps) ≡ placeKindTokens K c (p ∷ ps)) → length (ρ .places) ≤ mostPlaces →
+        ((p : ℕ) (ps : List ℕ) → spell (p ∷ ps) ≡ placeKindTokens K c (p ∷ ps)) → Left K n here → length (ρ .places) ≤ mostPlaces →
         (Follows (state p n N D (ρ ∷ L)) s → PlacesLeft spell n N D ρ L (tokensOf (y ∷ l))) →
         Follows (state p n N D (ρ ∷ L)) (cond (same (y .token) (mark c)) (goTo atPlace (state p n N D (ρ ∷ L))) s) →
         PlacesLeft spell n N D ρ L (tokensOf (y ∷ l))
-    place-or p ρ L c spell s spelt ready other e = go (same (y .token) (mark c)) refl e
+    place-or p ρ L c spell s spelt t ready other e = go (same (y .token) (mark c)) refl e
       where
         go : (b : Bool) → same (y .token) (mark c) ≡ b →
             Follows (state p n N D (ρ ∷ L)) (cond b (goTo atPlace (state p n N D (ρ ∷ L))) s) →
@@ -336,33 +363,37 @@ module _ (K : List Token) (r : List Lexeme) (a : LexiconRead) where
             let u : y .token ≡ mark c = same-eq (y .token) (mark c) h in
             subst (λ t. PlacesLeft spell n N D ρ L (t ∷ tokensOf l)) (sym u)
             (one-place spell c n N D ρ L (tokensOf l) spelt
-            (more atPlace n N D (ρ ∷ L) (plain-next y l plain (some-token (y .token) (mark c) _ _ u refl)) fine ready e))
+            (more atPlace n N D (ρ ∷ L) (plain-next y l plain (some-token (y .token) (mark c) _ _ u refl)) (skip-mark c u t) fine ready e))
 
-    named-kind : (L : List WordRow) → (isIdentifier (y .token) ≡ true) × (length (y .token) ≤ mostName) →
-        readRows K (state behindKind (suc n) N D L) l ≡ parsed a r → KindsLeft n N (D ++ L) (kindWord ∷ tokensOf (y ∷ l))
-    named-kind L i e =
-        one-kind n N (D ++ L) (y .token) (tokensOf l) (identifier (y .token) (plain .tokens .0) (i .0) (i .1))
-        (more behindKind (suc n) N D L (plain-next y l plain (identifier-some (y .token) (i .0))) fine tt e)
+    named-kind : (L : List WordRow) (why : ℕ) → kindNameWhy (take n K) (y .token) ≡ why → Naming K n here →
+        Follows (state atKind n N D L) (stepKind (state atKind n N D L) why) → KindsLeft n N (D ++ L) (kindWord ∷ tokensOf (y ∷ l))
+    named-kind L (suc why) h t e = fails-not (state atKind n N D L) (suc why) e
+    named-kind L zero h t e =
+        let f : NameFits mostKinds (take n K) (y .token) = name-fits 1 3 4 mostKinds (take n K) (y .token) h in
+        one-kind n N (D ++ L) (y .token) (tokensOf l) (named-drop K n (y .token) (tokensOf l) h t)
+        (more behindKind (suc n) N D L (plain-next y l plain (identifier-some (y .token) (f .identifier)))
+        (left-named K n (y .token) (tokensOf l) h t) fine tt e)
 
-    named-word : (L : List WordRow) (why c : ℕ) → wordNameWhy N (y .token) ≡ why →
+    named-word : (L : List WordRow) (why c : ℕ) → wordNameWhy N (y .token) ≡ why → Left K n here →
         Follows (state atWord n N D L) (stepWord (state atWord n N D L) (y .token) why) → WordsLeft c n N (D ++ L) (mark c ∷ tokensOf (y ∷ l))
-    named-word L (suc why) c h e = fails-not (state atWord n N D L) (suc why) e
-    named-word L zero c h e =
+    named-word L (suc why) c h t e = fails-not (state atWord n N D L) (suc why) e
+    named-word L zero c h t e =
         let f : NameFits mostWords N (y .token) = name-fits 5 6 7 mostWords N (y .token) h in
         one-word c n N (D ++ L) (y .token) (tokensOf l) (identifier (y .token) (plain .tokens .0) (f .identifier) (f .short))
         (more behindWord n (N ++ (y .token ∷ [])) (D ++ L) (record { kind = n - 1; places = [] } ∷ [])
         (plain-next y l plain (identifier-some (y .token) (f .identifier)))
+        (skip (identifier-no-kind (y .token) (f .identifier)) t)
         (record {
           different = distinct-more (y .token) N (fine .different) (f .new);
           few = omega (arith, f .room, length-append N (y .token ∷ []));
         })
         (omega arith) e)
 
-    named-place : (ρ : WordRow) (L : List WordRow) (why : ℕ) → placeWhy K (length (ρ .places)) (y .token) ≡ why →
+    named-place : (ρ : WordRow) (L : List WordRow) (why : ℕ) → placeWhy K (length (ρ .places)) (y .token) ≡ why → Left K n here →
         Follows (state atPlace n N D (ρ ∷ L)) (stepPlace (state atPlace n N D (ρ ∷ L)) (indexIn (y .token) K) why) →
         PlaceLeft n N D ρ L (tokensOf (y ∷ l))
-    named-place ρ L (suc why) h e = fails-not (state atPlace n N D (ρ ∷ L)) (suc why) e
-    named-place ρ L zero h e =
+    named-place ρ L (suc why) h t e = fails-not (state atPlace n N D (ρ ∷ L)) (suc why) e
+    named-place ρ L zero h t e =
         let f : PlaceFits K (length (ρ .places)) (y .token) = place-fits K (length (ρ .places)) (y .token) h in
         record {
           place = indexIn (y .token) K;
@@ -371,15 +402,16 @@ module _ (K : List Token) (r : List Lexeme) (a : LexiconRead) where
           below = f .declared;
           left =
               more behindPlace n N D (map (grown (indexIn (y .token) K)) (ρ ∷ L))
-              (plain-next y l plain (identifier-some (y .token) (f .identifier))) fine
+              (plain-next y l plain (identifier-some (y .token) (f .identifier)))
+              (skip (identifier-no-kind (y .token) (f .identifier)) t) fine
               (omega (arith, f .room, length-append (ρ .places) (indexIn (y .token) K ∷ []))) e;
         }
 
-    closing-or : (ρ : WordRow) (L : List WordRow) → length (ρ .places) ≤ mostPlaces →
+    closing-or : (ρ : WordRow) (L : List WordRow) → Left K n here → length (ρ .places) ≤ mostPlaces →
         Follows (state behindPlace n N D (ρ ∷ L))
         (cond (same (y .token) (mark closing)) (goTo behindPlaces (state behindPlace n N D (ρ ∷ L))) (fails placeEnd)) →
         PlacesLeft (placeKindTokens K comma) n N D ρ L (tokensOf (y ∷ l))
-    closing-or ρ L ready e = go (same (y .token) (mark closing)) refl e
+    closing-or ρ L t ready e = go (same (y .token) (mark closing)) refl e
       where
         go : (b : Bool) → same (y .token) (mark closing) ≡ b →
             Follows (state behindPlace n N D (ρ ∷ L)) (cond b (goTo behindPlaces (state behindPlace n N D (ρ ∷ L))) (fails placeEnd)) →
@@ -388,36 +420,37 @@ module _ (K : List Token) (r : List Lexeme) (a : LexiconRead) where
         go true h e =
             let u : y .token ≡ mark closing = same-eq (y .token) (mark closing) h in
             no-places (placeKindTokens K comma) n N D ρ L (tokensOf (y ∷ l)) (tokensOf l) ready (ap (λ (t : Token). t ∷ tokensOf l) u)
-            (more behindPlaces n N D (ρ ∷ L) (plain-next y l plain (some-token (y .token) (mark closing) _ _ u refl)) fine tt e)
+            (more behindPlaces n N D (ρ ∷ L) (plain-next y l plain (some-token (y .token) (mark closing) _ _ u refl)) (skip-mark closing u t) fine tt e)
 
   outcome : (l : List Lexeme) → More l
-  outcome [] p n N D L plain fine ready e = absurd (plain .closes)
-  outcome (y ∷ l) atStart n N D L plain fine ready e =
-      kind-or y l (outcome l) plain n N fine D atStart L (fails kindDue) (fails-not y l (outcome l) plain n N fine D (state atStart n N D L) kindDue) e
-  outcome (y ∷ l) atKind n N D L plain fine ready e = named-kind y l (outcome l) plain n N fine D L ready e
-  outcome (y ∷ l) behindKind n N D L plain fine ready e = word-or y l (outcome l) plain n N fine D behindKind L equals e
-  outcome (y ∷ l) atWord n N D L plain fine ready e = λ c. named-word y l (outcome l) plain n N fine D L (wordNameWhy N (y .token)) c refl e
-  outcome (y ∷ l) behindWord n N D [] plain fine ready e = tt
-  outcome (y ∷ l) behindWord n N D (ρ ∷ L) plain fine ready e =
-      place-or y l (outcome l) plain n N fine D behindWord ρ L opening (λ ps. withPlaces ps (placeKindTokens K opening ps)) _ (λ p ps. refl) ready
+  outcome [] p n N D L plain t fine ready e = absurd (plain .closes)
+  outcome (y ∷ l) atStart n N D L plain t fine ready e =
+      kind-or y l (outcome l) plain n N fine D atStart L (fails kindDue) t
+      (fails-not y l (outcome l) plain n N fine D (state atStart n N D L) kindDue) e
+  outcome (y ∷ l) atKind n N D L plain t fine ready e =
+      named-kind y l (outcome l) plain n N fine D L (kindNameWhy (take n K) (y .token)) refl t e
+  outcome (y ∷ l) behindKind n N D L plain t fine ready e = word-or y l (outcome l) plain n N fine D behindKind L equals t e
+  outcome (y ∷ l) atWord n N D L plain t fine ready e =
+      λ c. named-word y l (outcome l) plain n N fine D L (wordNameWhy N (y .token)) c refl t e
+  outcome (y ∷ l) behindWord n N D [] plain t fine ready e = tt
+  outcome (y ∷ l) behindWord n N D (ρ ∷ L) plain t fine ready e =
+      place-or y l (outcome l) plain n N fine D behindWord ρ L opening (λ ps. withPlaces ps (placeKindTokens K opening ps)) _ (λ p ps. refl) t
+      ready
       (λ e. no-places (λ ps. withPlaces ps (placeKindTokens K opening ps)) n N D ρ L (tokensOf (y ∷ l)) (tokensOf (y ∷ l)) ready refl
-      (word-or y l (outcome l) plain n N fine D behindWord (ρ ∷ L) bar e))
+      (word-or y l (outcome l) plain n N fine D behindWord (ρ ∷ L) bar t e))
       e
-  outcome (y ∷ l) atPlace n N D [] plain fine ready e = tt
-  outcome (y ∷ l) atPlace n N D (ρ ∷ L) plain fine ready e =
-      named-place y l (outcome l) plain n N fine D ρ L (placeWhy K (length (ρ .places)) (y .token)) refl e
-  outcome (y ∷ l) behindPlace n N D [] plain fine ready e = tt
-  outcome (y ∷ l) behindPlace n N D (ρ ∷ L) plain fine ready e =
-      place-or y l (outcome l) plain n N fine D behindPlace ρ L comma (placeKindTokens K comma) _ (λ p ps. refl) ready
-      (closing-or y l (outcome l) plain n N fine D ρ L ready) e
-  outcome (y ∷ l) behindPlaces n N D L plain fine ready e = word-or y l (outcome l) plain n N fine D behindPlaces L bar e
+  outcome (y ∷ l) atPlace n N D [] plain t fine ready e = tt
+  outcome (y ∷ l) atPlace n N D (ρ ∷ L) plain t fine ready e =
+      named-place y l (outcome l) plain n N fine D ρ L (placeWhy K (length (ρ .places)) (y .token)) refl t e
+  outcome (y ∷ l) behindPlace n N D [] plain t fine ready e = tt
+  outcome (y ∷ l) behindPlace n N D (ρ ∷ L) plain t fine ready e =
+      place-or y l (outcome l) plain n N fine D behindPlace ρ L comma (placeKindTokens K comma) _ (λ p ps. refl) t ready
+      (closing-or y l (outcome l) plain n N fine D ρ L t ready) e
+  outcome (y ∷ l) behindPlaces n N D L plain t fine ready e = word-or y l (outcome l) plain n N fine D behindPlaces L bar t e
 
 some-kind : (X : Lexicon) → 1 ≤ length (allWords X) → 1 ≤ length X
 some-kind [] h = h
 some-kind (x ∷ X) h = omega arith
-
-pub no-kinds : KindsFine []
-no-kinds = record { identifiers = tt; different = tt; few = omega arith }
 
 -- ---- kinds without words, behind the others
 
@@ -438,59 +471,54 @@ bare-rows k (x ∷ X) us = ap (λ (R : List WordRow). map (rowOf k) (x .words) +
 
 -- ---- the vocabulary as a whole
 
--- The vocabulary Y, and the kinds that are named in the lexemes r behind it.
-abbrev pub withLate : Lexicon → List Lexeme → Lexicon
-withLate Y r = Y ++ bareKinds (namesBehind (tokensOf r))
+-- The vocabulary Y, and kinds without words behind it.
+abbrev pub withLate : Lexicon → List Token → Lexicon
+withLate Y late = Y ++ bareKinds late
 
 pub record LexiconBefore (l r : List Lexeme) (a : LexiconRead) : Type 0 where
   pub before : Lexicon
-  pub good : GoodLexicon (withLate before r)
-  pub kinds : kindNames (withLate before r) ≡ namesBehind (tokensOf l)
-  pub read : a ≡ lexiconRead (withLate before r)
-  pub tokens : tokensOf l ≡ kindsTokens (kindNames (withLate before r)) before ++ tokensOf r
+  pub late : List Token
+  pub good : GoodLexicon (withLate before late)
+  pub kinds : kindNames (withLate before late) ≡ namesFrom [] (tokensOf l)
+  pub read : a ≡ lexiconRead (withLate before late)
+  pub tokens : tokensOf l ≡ kindsTokens (kindNames (withLate before late)) before ++ tokensOf r
   pub closes : Closes r
+  pub quiet : Quiet (tokensOf r) → late ≡ []
 
-before : (l r : List Lexeme) (a : LexiconRead) (K : List Token) → All Tokened l → NamesRead [] K l → KindsLeft K r a 0 [] [] (tokensOf l) →
-    LexiconBefore l r a
-before l r a K tokened m k = record {
+before : (l r : List Lexeme) (a : LexiconRead) (K : List Token) → K ≡ namesFrom [] (tokensOf l) → KindsFine K →
+    KindsLeft K r a 0 [] [] (tokensOf l) → LexiconBefore l r a
+before l r a K gathered fine k = record {
   before = Y;
+  late = late;
   good = record {
-    kinds =
-        all-unmap IsIdentifier (λ (x : KindText). x .name) X
-        (subst (All IsIdentifier) (sym (m .names) ∙ kinds)
-        (called-identifiers l (all-map (λ u. (u ≡ []) ⊎ IsToken u) (λ (x : Lexeme). x .token) l tokened) (m .called)));
-    differentKinds = subst Distinct kinds (m .fine .different);
+    kinds = all-unmap IsIdentifier (λ (x : KindText). x .name) X (subst (All IsIdentifier) kinds (fine .identifiers));
+    differentKinds = subst Distinct kinds (fine .different);
     someKind = some-kind X some;
-    fewKinds = omega (arith, m .fine .few, count);
+    fewKinds = omega (arith, fine .few, count);
     words =
         subst (All (GoodWord (length X))) (sym (bare-words Y late)) (subst (λ n. All (GoodWord n) (allWords Y)) count (k .goodWords));
     differentWords = subst Distinct names (k .end .different);
     someWord = some;
     fewWords = omega (arith, k .end .few, words);
   };
-  kinds = sym kinds ∙ m .names;
+  kinds = sym kinds ∙ gathered;
   read = λ i. record { kindNames = (k .end .kinds ∙ kinds) i; wordNames = names i; rows = (k .rows ∙ sym (bare-rows 0 Y late)) i };
   tokens = k .tokens ∙ ap (λ (M : List Token). kindsTokens M Y ++ tokensOf r) kinds;
   closes = k .end .closes;
+  quiet = k .end .quiet;
 }
   where
     Y : Lexicon
     Y = k .kinds
 
     late : List Token
-    late = namesBehind (tokensOf r)
+    late = k .end .late
 
     X : Lexicon
-    X = withLate Y r
+    X = withLate Y late
 
     kinds : K ≡ kindNames X
-    kinds =
-        m .names ∙ ap namesBehind (k .tokens) ∙
-        names-kinds K (m .fine .identifiers) Y (tokensOf r)
-        (all-implies (λ (x : KindText). IsIdentifier (x .name)) (λ (x : KindText). isIdentifier (x .name) ≡ true) (λ x i. i .identifier) Y
-        (k .goodKinds))
-        (k .goodWords) ∙
-        sym (bare-names Y late)
+    kinds = k .listed ∙ sym (bare-names Y late)
 
     count : length K ≡ length X
     count = ap length kinds ∙ length-map X (λ (x : KindText). x .name)
@@ -505,15 +533,12 @@ before l r a K tokened m k = record {
     some = omega (arith, k .end .some, words)
 
 pub lexicon-before : (l r : List Lexeme) (a : LexiconRead) → All Tokened l → Closes l → readLexicon l ≡ parsed a r → LexiconBefore l r a
-lexicon-before l r a tokened closes e = go (readKindNames [] l) refl e
-  where
-    go : (n : Names?) → readKindNames [] l ≡ n → withNames l n ≡ parsed a r → LexiconBefore l r a
-    go (misnamed x) h e = let z : _≡_ {A = ℕ} 0 1 = cc in absurd (omega arith)
-    go (named K) h e =
-        let m : NamesRead [] K l = read-names [] K l no-kinds h in
-        before l r a K tokened m
-        (outcome K r a l atStart 0 [] [] [] (record { tokens = tokened; closes = closes; called = m .called })
-        (record { different = tt; few = omega arith }) tt e)
+lexicon-before l r a tokened closes e =
+    let K : List Token = namesFrom [] (tokensOf l) in
+    before l r a K refl
+    (names-fine (tokensOf l) (all-map (λ u. (u ≡ []) ⊎ IsToken u) (λ (x : Lexeme). x .token) l tokened))
+    (outcome K r a l atStart 0 [] [] [] (record { tokens = tokened; closes = closes }) (record { few = omega arith; rest = refl })
+    (record { different = tt; few = omega arith }) tt e)
 
 pub lexicons-exact : LexiconsExact
 lexicons-exact l r a tokened closes e quiet = (
@@ -529,8 +554,8 @@ lexicons-exact l r a tokened closes e quiet = (
     Y : Lexicon
     Y = h .before
 
-    whole : withLate Y r ≡ Y
+    whole : withLate Y (h .late) ≡ Y
     whole =
         ap (λ (us : List Token). Y ++ bareKinds us)
-        (names-quiet (tokensOf r) (all-map (λ u. same u kindWord ≡ false) (λ (x : Lexeme). x .token) r quiet)) ∙
+        (h .quiet (all-map (λ u. same u kindWord ≡ false) (λ (x : Lexeme). x .token) r quiet)) ∙
         append-nil Y

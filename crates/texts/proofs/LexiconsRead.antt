@@ -19,22 +19,25 @@ use mathlib.Core.Path.{_≡_, refl, sym, _∙_, ap, ap₂, subst}
 use mathlib.Core.Bool.{true, false}
 use mathlib.Core.List.{List, [], _∷_, _++_, map, append-nil, append-assoc, map-append}
 use Prim.Native.Nat.{ℕ, suc, _-_, _<_, _≤_}
+use native.Mathlib.Numerals.{add-one}
 use native.Mathlib.Omega.{arith}
-use lib.Dec.{eqb, ltb}
-use lib.ListN.{length, drop, length-append, length-map}
-use borrow.Author.Tests.{lt-ltb, ne-eqb}
+use lib.Dec.{eqb, ltb, leb}
+use lib.ListN.{length, take, drop, length-append, length-map, take-append-drop}
+use lib.Seq.{drop-drop}
+use borrow.Author.Tests.{lt-ltb, le-leb, ne-eqb}
 use Rattle.terms.specs.Lists.{All}
 use Rattle.terms.proofs.All.{all-at, all-left, all-right, all-map, all-implies}
 use Rattle.wire.specs.Vocabulary.{mostKinds, mostWords}
 use Rattle.wire.proofs.Cond.{cond-true, cond-false}
 use Rattle.texts.specs.Lexemes.{Token, Lexeme}
-use Rattle.texts.specs.Names.{same, kindWord, mark, comma, bar, equals, opening, isIdentifier, IsIdentifier, indexIn, nameAt, Distinct}
+use Rattle.texts.specs.Names.{same, kindWord, mark, comma, bar, equals, opening, mostName, isIdentifier, IsIdentifier, indexIn, nameAt, Distinct}
 use Rattle.texts.specs.Lexicon.{WordText, KindText, Lexicon, kindNames, allWords, wordNames, placeKindTokens, withPlaces, wordTokens, wordsTokens, kindsTokens, lexiconTokens, mostPlaces, GoodWord, GoodLexicon}
-use Rattle.texts.specs.Faults.{Parsed, parsed, token, wordDue, wordTwice, manyWords, placeDue, notDeclared, manyPlaces}
-use Rattle.texts.specs.LexiconReading.{placeWhy, WordRow, Phase, atStart, atKind, behindKind, atWord, behindWord, atPlace, behindPlace, behindPlaces, Declaring, rowsOf, beginning, Stepped, on, over, fails, stepWord, stepPlace, stepIn, step, LexiconRead, ended, stepped, named, readKindNames, readRows, withNames}
+use Rattle.texts.specs.Faults.{Parsed, parsed, token, kindNameDue, kindTwice, manyKinds, longName, wordDue, wordTwice, manyWords, placeDue, manyPlaces}
+use Rattle.texts.specs.LexiconReading.{kindNameWhy, placeWhy, WordRow, Phase, atStart, atKind, behindKind, atWord, behindWord, atPlace, behindPlace, behindPlaces, Declaring, rowsOf, beginning, Stepped, on, over, fails, stepKind, stepWord, stepPlace, stepIn, step, LexiconRead, ended, stepped, namesFrom, readRows}
 use Rattle.texts.specs.Laws.{tokensOf, rowsFrom, lexiconRead, Stops, LexiconsRead, namesBehind}
 use Rattle.texts.proofs.Lookups.{index-at, distinct-front}
-use Rattle.texts.proofs.KindNames.{NameFits, fits-name, names-kinds, names-quiet, names-read}
+use Rattle.texts.proofs.KindNames.{NameFits, fits-name, names-kinds, names-quiet}
+use Rattle.texts.proofs.Gathering.{KindsFine, names-read}
 
 abbrev pub state : Phase → ℕ → List Token → List WordRow → List WordRow → Declaring
 state p n N D L = record { phase = p; kinds = n; names = N; done = D; last = L }
@@ -167,13 +170,37 @@ kind-step K atWord n N D L h = absurd h
 kind-step K atPlace n N D L h = absurd h
 kind-step K behindPlace n N D L h = absurd h
 
-module _ (K : List Token) (good : All (λ u. isIdentifier u ≡ true) K) (different : Distinct K) where
+module _ (K : List Token) (fine : KindsFine K) where
+  different : Distinct K
+  different = fine .different
+
   place-fits : (m p : ℕ) → p < length K → m < mostPlaces → placeWhy K m (nameAt K p) ≡ 0
   place-fits m p h f =
-      cond-true (isIdentifier (nameAt K p)) _ placeDue (all-at (λ u. isIdentifier u ≡ true) [] K good p h) ∙
-      cond-true (ltb (indexIn (nameAt K p) K) (length K)) _ notDeclared
+      let i : IsIdentifier (nameAt K p) = all-at IsIdentifier [] K (fine .identifiers) p h in
+      cond-true (isIdentifier (nameAt K p)) _ placeDue (i .identifier) ∙
+      cond-true (leb (length (nameAt K p)) mostName) _ longName (le-leb _ _ (i .short)) ∙
+      cond-true (ltb (indexIn (nameAt K p) K) (length K)) _ _
       (lt-ltb _ _ (subst (λ i. i < length K) (sym (index-at K p different h)) h)) ∙
       cond-true (ltb m mostPlaces) 0 manyPlaces (lt-ltb _ _ f)
+
+  -- The kinds whose names are Ks are those of K behind the first n.
+  abbrev Behind : ℕ → List Token → Type 0
+  Behind n Ks = drop n K ≡ Ks
+
+  behind-more : (n : ℕ) (u : Token) (Ks : List Token) → Behind n (u ∷ Ks) → Behind (suc n) Ks
+  behind-more n u Ks e = ap (λ i. drop i K) (sym (add-one n)) ∙ sym (drop-drop 1 n K) ∙ ap (drop 1) e
+
+  kind-fits : (n : ℕ) (u : Token) (Ks : List Token) → Behind n (u ∷ Ks) → kindNameWhy (take n K) u ≡ 0
+  kind-fits n u Ks e =
+      let parts : take n K ++ (u ∷ Ks) ≡ K = ap (λ (l : List Token). take n K ++ l) (sym e) ∙ take-append-drop n K in
+      let i : IsIdentifier u = all-right IsIdentifier (take n K) (u ∷ Ks) (subst (All IsIdentifier) (sym parts) (fine .identifiers)) .0 in
+      fits-name kindNameDue kindTwice manyKinds mostKinds (take n K) u
+      (record {
+        identifier = i .identifier;
+        short = i .short;
+        new = distinct-front u (take n K) Ks (subst Distinct (sym parts) different);
+        room = omega (arith, fine .few, ap length parts, length-append (take n K) (u ∷ Ks));
+      })
 
   place-step : (us : List Token) (p k n : ℕ) (N : List Token) (D : List WordRow) (qs : List ℕ) → p < length K → length qs < mostPlaces →
       walk K (state atPlace n N D (record { kind = k; places = qs } ∷ [])) (nameAt K p ∷ us) ≡
@@ -255,17 +282,18 @@ module _ (K : List Token) (good : All (λ u. isIdentifier u ≡ true) K) (differ
       chain K (state behindKind n N D L) (state atWord n N D L) (mark equals ∷ []) (wordTokens K w ++ wordsTokens K bar ws) n _ _ refl
       (word-then w ws vs n N D L (walk-words ws vs n (a .1)) (a .0) r)
 
-  kind-then : (x : KindText) (X : Lexicon) (n : ℕ) (N : List Token) (D L : List WordRow) →
-      ((y : Declaring) → Rests (y .phase) → Room (y .names) (wordNames X) →
+  kind-then : (x : KindText) (X : Lexicon) (n : ℕ) (N : List Token) (D L : List WordRow) → Behind n (kindNames (x ∷ X)) →
+      ((y : Declaring) → Rests (y .phase) → Behind (y .kinds) (kindNames X) → Room (y .names) (wordNames X) →
       (m : ℕ) × Reached K y (kindsTokens K X) m (y .names ++ wordNames X) (rowsOf y ++ rowsFrom (y .kinds) X)) →
       All (GoodWord (length K)) (x .words) → Room N (wordNames (x ∷ X)) →
       (m : ℕ) ×
       Reached K (state atKind n N D L) (x .name ∷ (wordsTokens K equals (x .words) ++ kindsTokens K X)) m (N ++ wordNames (x ∷ X))
       ((D ++ L) ++ rowsFrom n (x ∷ X))
-  kind-then x X n N D L more a r = (
+  kind-then x X n N D L left more a r = (
     rest .0,
     chain K (state atKind n N D L) (state behindKind (suc n) N D L) (x .name ∷ [])
-        (wordsTokens K equals (x .words) ++ kindsTokens K X) (rest .0) _ _ refl
+        (wordsTokens K equals (x .words) ++ kindsTokens K X) (rest .0) _ _
+        (ap (λ w. andOn (stepKind (state atKind n N D L) w) on) (kind-fits n (x .name) (kindNames X) left))
         (said K _ _ (rest .0) (rest .0) _ _ _ _ refl
         (ap (λ (M : List Token). M ++ wordNames X) (front .names) ∙ append-assoc N (map name (x .words)) (wordNames X) ∙
         ap (λ (M : List Token). N ++ M) (sym (map-append name (x .words) (allWords X))))
@@ -291,11 +319,13 @@ module _ (K : List Token) (good : All (λ u. isIdentifier u ≡ true) K) (differ
           (rowsOf (front .state) ++ rowsFrom (front .state .kinds) X)
       rest =
           more (front .state) (front .rests)
+          (ap (λ i. drop i K) (front .kinds) ∙ behind-more n (x .name) (kindNames X) left)
           (subst (λ M. Room M (wordNames X)) (sym (front .names)) (room-next N (map name (x .words)) (wordNames X) split))
 
-  walk-kinds : (X : Lexicon) → All (GoodWord (length K)) (allWords X) → (y : Declaring) → Rests (y .phase) → Room (y .names) (wordNames X) →
+  walk-kinds : (X : Lexicon) → All (GoodWord (length K)) (allWords X) → (y : Declaring) → Rests (y .phase) →
+      Behind (y .kinds) (kindNames X) → Room (y .names) (wordNames X) →
       (m : ℕ) × Reached K y (kindsTokens K X) m (y .names ++ wordNames X) (rowsOf y ++ rowsFrom (y .kinds) X)
-  walk-kinds [] a y h r = (
+  walk-kinds [] a y h left r = (
     y .kinds,
     record {
       state = y;
@@ -306,8 +336,8 @@ module _ (K : List Token) (good : All (λ u. isIdentifier u ≡ true) K) (differ
       rows = sym (append-nil (rowsOf y));
     },
   )
-  walk-kinds (x ∷ X) a y h r =
-      let b = kind-then x X (y .kinds) (y .names) (y .done) (y .last)
+  walk-kinds (x ∷ X) a y h left r =
+      let b = kind-then x X (y .kinds) (y .names) (y .done) (y .last) left
       (walk-kinds X (all-right (GoodWord (length K)) (x .words) (allWords X) a))
       (all-left (GoodWord (length K)) (x .words) (allWords X) a) r in (
         b .0,
@@ -316,11 +346,11 @@ module _ (K : List Token) (good : All (λ u. isIdentifier u ≡ true) K) (differ
             (ap (λ s. andOn s on) (kind-step K (y .phase) (y .kinds) (y .names) (y .done) (y .last) h)) (b .1),
       )
 
-  walk-all : (X : Lexicon) → 1 ≤ length X → All (GoodWord (length K)) (allWords X) → Room [] (wordNames X) →
+  walk-all : (X : Lexicon) → 1 ≤ length X → K ≡ kindNames X → All (GoodWord (length K)) (allWords X) → Room [] (wordNames X) →
       (m : ℕ) × Reached K beginning (kindsTokens K X) m (wordNames X) (rowsFrom 0 X)
-  walk-all [] h a r = absurd (omega arith)
-  walk-all (x ∷ X) h a r =
-      let b = kind-then x X 0 [] [] [] (walk-kinds X (all-right (GoodWord (length K)) (x .words) (allWords X) a))
+  walk-all [] h left a r = absurd (omega arith)
+  walk-all (x ∷ X) h left a r =
+      let b = kind-then x X 0 [] [] [] left (walk-kinds X (all-right (GoodWord (length K)) (x .words) (allWords X) a))
       (all-left (GoodWord (length K)) (x .words) (allWords X) a) r in (
         b .0,
         chain K beginning (state atKind 0 [] [] []) (kindWord ∷ []) (x .name ∷ (wordsTokens K equals (x .words) ++ kindsTokens K X)) (b .0)
@@ -364,6 +394,13 @@ module _ (X : Lexicon) (g : GoodLexicon X) where
   identifiers : All IsIdentifier (kindNames X)
   identifiers = all-map IsIdentifier (λ (x : KindText). x .name) X (g .kinds)
 
+  kinds-fine : KindsFine (kindNames X)
+  kinds-fine = record {
+    identifiers = identifiers;
+    different = g .differentKinds;
+    few = subst (λ n. n ≤ mostKinds) (sym (length-map X (λ (x : KindText). x .name))) (g .fewKinds);
+  }
+
   plain : All (λ u. isIdentifier u ≡ true) (kindNames X)
   plain = all-implies IsIdentifier (λ u. isIdentifier u ≡ true) (λ u i. i .identifier) (kindNames X) identifiers
 
@@ -388,7 +425,7 @@ module _ (X : Lexicon) (g : GoodLexicon X) where
       room = record { different = g .differentWords; few = subst (λ n. n ≤ mostWords) (sym (length-map (allWords X) name)) (g .fewWords) }
 
       reached : (m : ℕ) × Reached K beginning (kindsTokens K X) m (wordNames X) (rowsFrom 0 X)
-      reached = walk-all K plain (g .differentKinds) X (g .someKind) words room
+      reached = walk-all K kinds-fine X (g .someKind) refl words room
 
       y : Reached K beginning (kindsTokens K X) (reached .0) (wordNames X) (rowsFrom 0 X)
       y = reached .1
@@ -404,7 +441,8 @@ stops-over [] s = record { noKind = refl; noEquals = refl; noBar = refl; noOpeni
 stops-over (b ∷ r) s = record { noKind = s .noKind .0; noEquals = s .noEquals; noBar = s .noBar; noOpening = s .noOpening }
 
 pub lexicons-read : LexiconsRead
-lexicons-read X l r g e s = ap (withNames l) called ∙ rows-read X g l (tokensOf r) e (stops-over r s)
+lexicons-read X l r g e s =
+    ap (λ (M : List Token). readRows M beginning l) gathered ∙ rows-read X g l (tokensOf r) e (stops-over r s)
   where
     K : List Token
     K = kindNames X
@@ -419,9 +457,8 @@ lexicons-read X l r g e s = ap (withNames l) called ∙ rows-read X g l (tokensO
         (names-quiet (tokensOf r) (all-map (λ u. same u kindWord ≡ false) (λ (x : Lexeme). x .token) r (s .noKind))) ∙
         append-nil K
 
-    called : readKindNames [] l ≡ named K
-    called =
-        names-read [] l (subst (All IsIdentifier) (sym behind) (identifiers X g)) (subst Distinct (sym behind) (g .differentKinds))
-        (subst (λ (us : List Token). length us ≤ mostKinds) (sym behind)
-        (subst (λ n. n ≤ mostKinds) (sym (length-map X (λ (x : KindText). x .name))) (g .fewKinds))) ∙
-        ap named behind
+    gathered : namesFrom [] (tokensOf l) ≡ K
+    gathered =
+        names-read (tokensOf l) [] (subst (All IsIdentifier) (sym behind) (identifiers X g)) (subst Distinct (sym behind) (g .differentKinds))
+        (subst (λ (us : List Token). length us ≤ mostKinds) (sym behind) (kinds-fine X g .few)) ∙
+        behind

@@ -15,13 +15,16 @@ pub mod Rising
 -- On vocabularies: what their words are, and how they are read.
 pub mod Lexicon
 pub mod KindNames
+pub mod Gathering
 pub mod LexiconsRead
 pub mod LexiconsExact
+pub mod Begun
 pub mod FreshNames
 pub mod LexiconSoFar
 pub mod LexiconFaults
-pub mod LexiconFirst
+pub mod Alike
 pub mod KindNameFaults
+pub mod LexiconFirst
 pub mod LexiconsSpelt
 -- On patterns and entries: how they are written ..
 pub mod Saying

@@ -283,6 +283,7 @@ module _ (X : Lexicon) (lex : GoodLexicon X) (p : Phrase) (whole : GoodWhole X p
               true≢false (sym (same-refl (p .label)) ∙ (ap (λ (u : Token). same u (p .label)) (sym label) ∙ e));
         };
         closed = tt;
+        asked = inl refl;
       }
 
   module _ (x y : Lexeme) (is : IsIdentifier (p .label)) (label : x .token ≡ p .label) (asks : y .token ≡ mark asking) where
@@ -312,6 +313,7 @@ module _ (X : Lexicon) (lex : GoodLexicon X) (p : Phrase) (whole : GoodWhole X p
         ap isOpen label ∙ name-shut (p .label) (is .identifier),
         (ap isOpen asks, all-unmap (λ (u : Token). isOpen u ≡ false) (λ (z : Lexeme). z .token) (s .before) (s .shut)),
       );
+      asked = inr label;
     }
 
     situated : (l : List Lexeme) (z : Parsed Ground) → First X lex (p .kind) known l z → Faulty (x ∷ y ∷ l) z

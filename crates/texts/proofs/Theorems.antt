@@ -16,8 +16,8 @@
 --   files-are-read              a text of a file is accepted, and read as that file ..
 --   files-are-exact             .. and what is read is a file that it is a text of
 --   vocabularies-are-read       the vocabulary that is read is the one that the lexicon stands for
---   lexicon-faults-are-first    a fault of a vocabulary whose kinds are named well is at the first byte at fault, but for too many words and places
---   kind-name-faults-are-first  a fault of a kind's name is at the first one that may not stand there
+--   kinds-are-gathered          the names of kinds that are gathered are those of the kinds that a text names
+--   lexicon-faults-are-first    a fault of a vocabulary is at the first byte at fault, but for too many kinds, words and places
 --   lexicons-are-spelled        a vocabulary in words spells its tokens
 --   lexicon-is-one              two good vocabularies with the same tokens are one
 --   text-is-one                 a text is a text of one file alone
@@ -25,7 +25,8 @@
 --   entries-printed-alike       .. and so are two leftovers of one pattern
 --   names-are-no-words          no variable is a word, a kind or a label
 --   together-spells-leftovers   what is printed of patterns together spells their leftovers and nothing else
---   desk-spells-leftovers       the whole answer spells the leftovers and nothing else
+--   notes-are-comments          what is said of kinds without complete situations spells nothing
+--   desk-spells-leftovers       the whole answer spells the leftovers of each pattern, and then what its tail spells
 --   questions-read              the tokens of a good question are read as that question
 --   questions-exact             what is read is a good question, and its tokens are those that were read
 --   question-faults-are-first   a fault of a question is at the first byte at fault
@@ -34,7 +35,7 @@
 --   walks-are-comparisons       by tokens, a pattern and a situation are compared as by terms
 --   situations-end              where the tokens of a situation end
 --
-use Rattle.texts.specs.Laws.{SpellingIsExact, TermsAreSpelled, PhrasesAreSpelled, PhrasesRead, PhrasesExact, SaysTerms, SaysPhrases, LexiconsRead, LexiconsExact, PhraseFaultsAreFirst, BlocksAreAnswers, BlocksSpellLeftovers, EntriesArePhrases, FilesAreRead, FilesAreExact, VocabulariesAreRead, LexiconFaultsAreFirst, KindNameFaultsAreFirst, LexiconsAreSpelled, LexiconIsOne, TextIsOne, PrintedAlike, EntriesPrintedAlike, NamesAreNoWords, TogetherSpellsLeftovers, DeskSpellsLeftovers, QuestionsRead, QuestionsExact, QuestionFaultsAreFirst, FileFaultsAreFirst, VerdictsAreMatches, WalksAreComparisons, SituationsEnd}
+use Rattle.texts.specs.Laws.{SpellingIsExact, TermsAreSpelled, PhrasesAreSpelled, PhrasesRead, PhrasesExact, SaysTerms, SaysPhrases, LexiconsRead, LexiconsExact, PhraseFaultsAreFirst, BlocksAreAnswers, BlocksSpellLeftovers, EntriesArePhrases, FilesAreRead, FilesAreExact, VocabulariesAreRead, KindsAreGathered, LexiconFaultsAreFirst, LexiconsAreSpelled, LexiconIsOne, TextIsOne, PrintedAlike, EntriesPrintedAlike, NamesAreNoWords, TogetherSpellsLeftovers, NotesAreComments, DeskSpellsLeftovers, QuestionsRead, QuestionsExact, QuestionFaultsAreFirst, FileFaultsAreFirst, VerdictsAreMatches, WalksAreComparisons, SituationsEnd}
 
 pub spelling-is-exact : SpellingIsExact
 spelling-is-exact = Rattle.texts.proofs.Spelling.spelling-is-exact
@@ -84,11 +85,11 @@ files-are-exact = Rattle.texts.proofs.FilesExact.files-are-exact
 pub vocabularies-are-read : VocabulariesAreRead
 vocabularies-are-read = Rattle.texts.proofs.FilesRead.vocabularies-are-read
 
+pub kinds-are-gathered : KindsAreGathered
+kinds-are-gathered = Rattle.texts.proofs.Gathering.kinds-are-gathered
+
 pub lexicon-faults-are-first : LexiconFaultsAreFirst
 lexicon-faults-are-first = Rattle.texts.proofs.LexiconFirst.lexicon-faults-are-first
-
-pub kind-name-faults-are-first : KindNameFaultsAreFirst
-kind-name-faults-are-first = Rattle.texts.proofs.KindNameFaults.kind-name-faults-are-first
 
 pub lexicons-are-spelled : LexiconsAreSpelled
 lexicons-are-spelled = Rattle.texts.proofs.LexiconsSpelt.lexicons-are-spelled
@@ -110,6 +111,9 @@ names-are-no-words = Rattle.texts.proofs.Unique.names-are-no-words
 
 pub together-spells-leftovers : TogetherSpellsLeftovers
 together-spells-leftovers = Rattle.texts.proofs.BlocksSpelt.together-spells-leftovers
+
+pub notes-are-comments : NotesAreComments
+notes-are-comments = Rattle.texts.proofs.BlocksSpelt.notes-are-comments
 
 pub desk-spells-leftovers : DeskSpellsLeftovers
 desk-spells-leftovers = Rattle.texts.proofs.DeskSpelt.desk-spells-leftovers

@@ -7,7 +7,7 @@
 --   tooManyText n          where the list of leftovers has n bytes, which is too many
 --   blockText X p l        what is printed for a pattern whose leftovers are l
 --   blocksText X qs ls     what is printed for each of the paragraphs qs: the leftovers, and the answers to what is asked
---   deskText F ls tail     the whole answer, where tail is what is printed of patterns together
+--   deskText F ls tail     the whole answer, where tail is what stands behind the patterns (Tails)
 --   tooLongText            where an answer would be too long
 --   bounded t              the answer t, where it is not too long
 --   AreListings X ps ls    ls are the leftovers of the patterns ps, in document 01's order

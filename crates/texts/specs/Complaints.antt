@@ -3,7 +3,9 @@
 --   Known                    what complaints need of a vocabulary
 --   reasons, endings         what is said of each reason, before and behind the token at fault
 --   tokenThen u l            the token u and l behind it; nothing where l is empty
---   alternatives T s n i c   those of the n words from word i on that are of kind s: c before the first, and `or` between them
+--   between c                what stands before a word that is listed; c: another one stands before it
+--   unlisted c               what is said where no word is listed
+--   alternatives T s n i c   those of the n words from word i on that are of kind s; c: another one stands before them
 --   dueText T s              the kind s is due, with its words
 --   beginsTerm u             a term may begin with the token u
 --   firstToken l             the token of the first of the lexemes l
@@ -12,10 +14,11 @@
 --   takesText n              how many places a word takes
 --   missingText u, overText u n c     what is said where u stands in place of the mark before a place, or of the ) behind the last
 --   placesText T x u c       how many places the word takes that the fault x is about, and what is wrong with those that are written
+--   joinsWords u             u is a , a | or a =
 --   noPatternText u          what is said where u begins no pattern
 --   tokenBehind b at         the token behind the one at the offset at of a text
 --   unknownText u v          what is said where u is no word, and v stands behind it
---   unmarked u               u begins with a byte order mark
+--   orderMarked u            u begins with a byte order mark
 --   reasonText T x u v c     what is wrong, where u stands at the fault and v behind it
 --   newlines l               how many lines end in l
 --   lineStartFrom, lineStart l   where the last line of l begins
@@ -34,7 +37,7 @@ use Rattle.wire.specs.Reply.{outside}
 use Rattle.wire.specs.Row.{writeRow}
 use Rattle.wire.specs.Text.{ascii, newline, decimal}
 use Rattle.texts.specs.Lexemes.{Token, asking, blanks, tokenSize, Lexeme, lexemesFrom, tokenAt}
-use Rattle.texts.specs.Names.{same, opened, kindWord, mark, opening, comma, closing, colon, isIdentifier, isVariable, nameAt}
+use Rattle.texts.specs.Names.{same, opened, kindWord, mark, opening, comma, closing, bar, equals, colon, isIdentifier, isVariable, nameAt}
 use Rattle.texts.specs.Faults.{Fault, kindDue, patternDue, termDue, unknownWord, otherKind, placesWrong, placesOver}
 
 -- What complaints need of a vocabulary: the names of kinds and words, the words' kinds, and how many places each takes.
@@ -60,7 +63,7 @@ reasons =
     ∷ ascii "kind "
     ∷ ascii "8 places are the most, and this is one more"
     ∷ ascii "a , or a ) is due here"
-    ∷ ascii "no kind has a word"
+    ∷ ascii "no kind up to here has a word; words stand behind =, as in kind button = up | down"
     ∷ []
     ∷ []
     ∷ []
@@ -75,6 +78,7 @@ reasons =
     ∷ []
     ∷ ascii "a situation has no open place and no name"
     ∷ ascii "a question begins with the label of the pattern before it, and this is another name"
+    ∷ ascii "kind "
     ∷ []
 
 -- .. and then what stands behind it. Where there is nothing the token is not named: it stands in the line that is shown.
@@ -108,22 +112,30 @@ endings =
     ∷ []
     ∷ []
     ∷ []
+    ∷ ascii " is none of the first 16 kinds, and 16 are the most"
     ∷ []
 
 abbrev pub tokenThen : Token → List ℕ → List ℕ
 tokenThen u [] = []
 tokenThen u (b ∷ l) = u ++ (b ∷ l)
 
--- `free or full`: the words of kind s, from word i on, where n are left to look at.
-abbrev pub alternatives : Known → ℕ → ℕ → ℕ → List ℕ → List ℕ
-alternatives T s zero i c = []
-alternatives T s (suc n) i c =
-    cond (eqb (getD (T .results) i 0) s) (c ++ (nameAt (T .words) i ++ alternatives T s n (suc i) (ascii " or ")))
-    (alternatives T s n (suc i) c)
+abbrev pub between : Bool → List ℕ
+between true = ascii " or "
+between false = ascii ": "
 
--- `queue is due here: free or full`
+abbrev pub unlisted : Bool → List ℕ
+unlisted true = []
+unlisted false = ascii ", and no word of that kind is declared before the first pattern"
+
+-- `: free or full`: the words of kind s, from word i on, where n are left to look at.
+abbrev pub alternatives : Known → ℕ → ℕ → ℕ → Bool → List ℕ
+alternatives T s zero i c = unlisted c
+alternatives T s (suc n) i c =
+    cond (eqb (getD (T .results) i 0) s) (between c ++ (nameAt (T .words) i ++ alternatives T s n (suc i) true)) (alternatives T s n (suc i) c)
+
+-- `queue is due here: free or full`.
 abbrev pub dueText : Known → ℕ → List ℕ
-dueText T s = nameAt (T .kinds) s ++ (ascii " is due here" ++ alternatives T s (length (T .words)) 0 (ascii ": "))
+dueText T s = nameAt (T .kinds) s ++ (ascii " is due here" ++ alternatives T s (length (T .words)) 0 false)
 
 abbrev pub beginsTerm : Token → Bool
 beginsTerm u = isIdentifier u || (same u opened || isVariable u)
@@ -167,8 +179,15 @@ placesText T x u c =
     let n : ℕ = getD (T .places) (x .of) 0 in
     nameAt (T .words) (x .of) ++ (takesText n ++ cond (eqb (x .why) placesOver) (overText u n c) (missingText u))
 
+abbrev pub joinsWords : Token → Bool
+joinsWords u = same u (mark comma) || (same u (mark bar) || same u (mark equals))
+
+-- A mark that may have been meant for the words of a kind, as in `kind button = up, down`, is told with what stands there.
 abbrev pub noPatternText : Token → List ℕ
-noPatternText u = cond (same u kindWord) (ascii "all kinds are declared before the first pattern") (ascii "a pattern is due here")
+noPatternText u =
+    cond (same u kindWord) (ascii "all kinds are declared before the first pattern")
+    (cond (joinsWords u) (ascii "a pattern is due here; no mark stands between patterns, and the words of a kind stand behind =, with a | between them")
+    (ascii "a pattern is due here"))
 
 abbrev pub tokenBehind : List ℕ → ℕ → Token
 tokenBehind b at =
@@ -182,8 +201,8 @@ unknownText u v =
     (ascii "no word "
     ++ (u ++ (ascii " in this vocabulary" ++ cond (isVariable v) (ascii "; in a question a blank is due behind the ?") [])))
 
-abbrev pub unmarked : Token → Bool
-unmarked u = same (take 3 u) (239 ∷ 187 ∷ 191 ∷ [])
+abbrev pub orderMarked : Token → Bool
+orderMarked u = same (take 3 u) (239 ∷ 187 ∷ 191 ∷ [])
 
 -- A ( where no place is due, as in `done(up)`, is told as such; so is what some editors put before a text.
 abbrev pub reasonText : Known → Fault → Token → Token → ℕ → List ℕ
@@ -194,7 +213,7 @@ reasonText T x u v c =
     (cond (eqb (x .why) placesWrong || eqb (x .why) placesOver) (placesText T x u c)
     (cond (eqb (x .why) patternDue) (noPatternText u)
     (cond (eqb (x .why) unknownWord) (unknownText u v)
-    (cond (eqb (x .why) kindDue && unmarked u) (ascii "a byte order mark stands here, and a text begins with `kind`")
+    (cond (eqb (x .why) kindDue && orderMarked u) (ascii "a byte order mark stands here, and a text begins with `kind`")
     (getD reasons (x .why) [] ++ tokenThen u (getD endings (x .why) [])))))))
 
 abbrev pub newlines : List ℕ → ℕ

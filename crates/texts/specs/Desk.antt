@@ -11,7 +11,7 @@ use Rattle.terms.specs.Term.{Term}
 use Rattle.texts.specs.Files.{File, phrasesOf, IsText}
 use Rattle.texts.specs.Faults.{Fault}
 use Rattle.texts.specs.Complaints.{Known, complaint}
-use Rattle.texts.specs.Together.{AreTogether}
+use Rattle.texts.specs.Tails.{AreTails}
 use Rattle.texts.specs.Answers.{deskText, bounded, AreListings}
 use Rattle.texts.specs.Answering.{readIll, readFile}
 
@@ -19,8 +19,8 @@ pub record DeskPromise (b text : List ℕ) : Type 0 where
   -- One of the two cases below holds of every input.
   pub one : ((F : File) × (ls : List (List Term)) × IsText b F × AreListings (F .lexicon) (phrasesOf (F .paragraphs)) ls) ⊎
       ((x : Fault) × (T : Known) × (readFile b ≡ readIll x T))
-  -- The leftovers of each pattern, in document 01's order: list's entries, in words; what each is asked, answered; and the leftovers
-  -- of all patterns of a kind together.
+  -- The leftovers of each pattern, in document 01's order: list's entries, in words; what each is asked, answered; which kinds have no
+  -- complete situation; and the leftovers of all patterns of a kind together.
   pub answers : (F : File) (ls : List (List Term)) → IsText b F → AreListings (F .lexicon) (phrasesOf (F .paragraphs)) ls →
-      (tail : List ℕ) × AreTogether (F .lexicon) (phrasesOf (F .paragraphs)) 0 (length (F .lexicon)) tail × (text ≡ bounded (deskText F ls tail))
+      (tail : List ℕ) × AreTails (F .lexicon) (phrasesOf (F .paragraphs)) 0 (length (F .lexicon)) tail × (text ≡ bounded (deskText F ls tail))
   pub complains : (x : Fault) (T : Known) → readFile b ≡ readIll x T → text ≡ bounded (complaint b T x)

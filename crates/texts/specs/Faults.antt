@@ -51,6 +51,10 @@ placeDue = 9
 abbrev pub notDeclared : ℕ
 notDeclared = 10
 
+-- As many kinds as may be are named, and this is none of them.
+abbrev pub kindBeyond : ℕ
+kindBeyond = 28
+
 abbrev pub manyPlaces : ℕ
 manyPlaces = 11
 
@@ -58,7 +62,7 @@ manyPlaces = 11
 abbrev pub placeEnd : ℕ
 placeEnd = 12
 
--- No kind has a word.
+-- No kind has a word, up to where the declarations end.
 abbrev pub noWords : ℕ
 noWords = 13
 

@@ -26,12 +26,15 @@
 --   SaysTerms               the walk over the bytes of a pattern or entry says it in words
 --   SaysPhrases             .. of a good pattern
 --   FirstFaultIn Sound Good l q     as FirstFault, where less is asked of what begins with the tokens before the fault
---   SoundWord, SoundLexicon X       as GoodWord and GoodLexicon, without the limits on how many places and words there are
+--   SoundWord, SoundLexicon X       as GoodWord and GoodLexicon, without the limits on how many kinds, places and words there are
 --   LexiconFirst Fine K us  the tokens us begin with a vocabulary that is Fine, whose kinds are K
---   LexiconFaultsAreFirst   a fault of a vocabulary whose kinds are named well is at the first byte at fault, but for too many words and places
 --   namesBehind us          the tokens behind each `kind` of us
---   KindNameFault l q       of the names behind each `kind` of l the one at offset q is the first that may not stand there
---   KindNameFaultsAreFirst  a fault of a kind's name is at the first one that may not stand there
+--   mayBeNamed u, firstOnes seen l     u may be the name of a kind; the tokens of l, each once, without those of `seen`
+--   kindsNamed us           the kinds that a text names: the first 16 different ones behind each `kind`
+--   KindsAreGathered        these are the names of kinds that are gathered
+--   KindNameFault K l q     the lexeme at offset q is the first at fault, and no name that a kind may have there
+--   LexiconFault K l q      the lexeme at offset q is the first at fault in a vocabulary, where K are the kinds that the text names
+--   LexiconFaultsAreFirst   a fault of a vocabulary is at the first byte at fault, but for too many kinds, words and places
 --   LexiconsAreSpelled      a vocabulary in words spells its tokens
 --   LexiconIsOne            two good vocabularies with the same tokens are one
 --   TextIsOne               a text is a text of one file alone
@@ -41,7 +44,8 @@
 --   leftoversTokens X ps ls     the tokens of all leftovers of the patterns ps, one behind the other
 --   ListingsFit X ps ls     each list of leftovers is short enough to be printed
 --   TogetherSpellsLeftovers     what is printed of patterns together spells their leftovers and nothing else
---   DeskSpellsLeftovers     the whole answer spells the leftovers and nothing else
+--   NotesAreComments        what is said of kinds without complete situations spells nothing
+--   DeskSpellsLeftovers     the whole answer spells the leftovers of each pattern, and then what its tail spells
 --   Ascending l             the offsets of the lexemes l rise
 --   QuestionsRead           the tokens of a good question are read as that question
 --   QuestionsExact          what is read is a good question, and its tokens are those that were read
@@ -62,8 +66,9 @@ use mathlib.Core.Bool.{Bool, true, false, _&&_, cond}
 use mathlib.Core.List.{List, [], _∷_, _++_, map}
 use mathlib.Core.Logic.{_⊎_, _↔_}
 use Prim.Native.Nat.{ℕ, suc, _<_, _≤_}
+use lib.Dec.{ltb, leb}
 use lib.ListN.{length, take, drop}
-use Rattle.terms.specs.Lists.{All, Reordered}
+use Rattle.terms.specs.Lists.{All, Reordered, keep}
 use Rattle.terms.specs.Term.{Term, Ground, Sorted, names}
 use Rattle.terms.specs.Filling.{Binding, Filling, TurnsInto}
 use Rattle.terms.specs.Book.{IsBookListing}
@@ -84,9 +89,10 @@ use Rattle.texts.specs.Files.{mostText, Paragraph, File, phrasesOf, para
 use Rattle.texts.specs.Faults.{Fault, parsed, bad, token, rest}
 use Rattle.texts.specs.Complaints.{Known}
 use Rattle.texts.specs.Verdicts.{covers, compare}
+use Rattle.texts.specs.Notes.{IsNote}
 use Rattle.texts.specs.Together.{togetherText}
 use Rattle.texts.specs.Answers.{blockText, deskText, AreListings}
-use Rattle.texts.specs.LexiconReading.{named, misnamed, readKindNames, WordRow, LexiconRead, readLexicon}
+use Rattle.texts.specs.LexiconReading.{namesFrom, WordRow, LexiconRead, readLexicon}
 use Rattle.texts.specs.PhraseReading.{PhraseRead, readPhrase}
 use Rattle.texts.specs.QuestionReading.{isOpen, beginsQuestion, readQuestion, readQuestions}
 use Rattle.texts.specs.Comparing.{termSize, walk, asWalked}
@@ -267,8 +273,8 @@ pub record FirstFaultIn (Sound Good : List Token → Type 0) (l : List Lexeme) (
   pub soFar : (more : List Token) × Sound (tokensOf before ++ more)
   pub noFurther : (more : List Token) → Good (tokensOf before ++ (here .token ∷ more)) → ⊥
 
--- A place or a word too many is refused where it stands, although nothing good could follow the , or | before it. So the number of places
--- and of words is no part of what is sound.
+-- A kind, a place or a word too many is refused where it stands, although nothing good could follow the `kind`, the , or the | before it.
+-- So the numbers of kinds, places and words are no part of what is sound.
 pub record SoundWord (kinds : ℕ) (w : WordText) : Type 0 where
   pub name : IsIdentifier (w .name)
   pub places : All (λ k. k < kinds) (w .places)
@@ -277,13 +283,12 @@ pub record SoundLexicon (X : Lexicon) : Type 0 where
   pub kinds : All (λ (x : KindText). IsIdentifier (x .name)) X
   pub differentKinds : Distinct (kindNames X)
   pub someKind : 1 ≤ length X
-  pub fewKinds : length X ≤ mostKinds
   pub words : All (SoundWord (length X)) (allWords X)
   pub differentWords : Distinct (wordNames X)
   pub someWord : 1 ≤ length (allWords X)
 
--- The tokens us are those of a vocabulary, and others behind it with which no declaration goes on. Its kinds are K; where a text has no
--- `kind` at all, they are any.
+-- The tokens us are those of a vocabulary, and others behind it with which no declaration goes on. Its kinds are K, or any where K is
+-- empty.
 pub record LexiconFirst (Fine : Lexicon → Type 0) (K us : List Token) : Type 0 where
   pub lexicon : Lexicon
   pub rest : List Token
@@ -295,39 +300,56 @@ pub record LexiconFirst (Fine : Lexicon → Type 0) (K us : List Token) : Type 0
   pub noBar : same (nameAt rest 0) (mark bar) ≡ false
   pub noOpening : same (nameAt rest 0) (mark opening) ≡ false
 
--- The names K of the kinds are read first, from the whole text.
-abbrev pub LexiconFaultsAreFirst : Type 0
-LexiconFaultsAreFirst =
-    (K : List Token) (l : List Lexeme) (e : Lexeme) (x : Fault) → All (λ (y : Lexeme). IsToken (y .token)) l → e .token ≡ [] →
-    readKindNames [] (l ++ (e ∷ [])) ≡ named K → readLexicon (l ++ (e ∷ [])) ≡ bad x →
-    FirstFaultIn (LexiconFirst SoundLexicon K) (LexiconFirst GoodLexicon K) (l ++ (e ∷ [])) (x .at)
-
 abbrev pub namesBehind : List Token → List Token
 namesBehind [] = []
 namesBehind (u ∷ us) = cond (same u kindWord) (nameAt us 0 ∷ namesBehind us) (namesBehind us)
 
--- The names behind each `kind` before it may be names of kinds; its token may not follow them: it is no name, too long, one of them, or
--- one too many.
-pub record KindNameFault (l : List Lexeme) (q : ℕ) : Type 0 where
+-- The token u may be the name of a kind.
+abbrev pub mayBeNamed : Token → Bool
+mayBeNamed u = isIdentifier u && leb (length u) mostName
+
+-- The tokens of l in their order, each where it stands first, without those of `seen`.
+abbrev pub firstOnes : List Token → List Token → List Token
+firstOnes seen [] = []
+firstOnes seen (u ∷ l) = cond (ltb (indexIn u seen) (length seen)) (firstOnes seen l) (u ∷ firstOnes (seen ++ (u ∷ [])) l)
+
+-- The kinds that a text names, as they may be used before they are declared: of the tokens behind each `kind` that may be names of kinds
+-- the first 16 different ones.
+abbrev pub kindsNamed : List Token → List Token
+kindsNamed us = take mostKinds (firstOnes [] (keep mayBeNamed (namesBehind us)))
+
+abbrev pub KindsAreGathered : Type 0
+KindsAreGathered = (us : List Token) → namesFrom [] us ≡ kindsNamed us
+
+-- The last token before the lexeme at offset q is `kind`. Something sound whose kinds are K begins with the tokens before that, and
+-- something sound with `kind` behind them. The lexeme's own token may not follow the names of kinds among them: it is no name, too long,
+-- one of them, or one too many.
+pub record KindNameFault (K : List Token) (l : List Lexeme) (q : ℕ) : Type 0 where
   pub before : List Lexeme
-  pub kind : Lexeme
   pub here : Lexeme
   pub behind : List Lexeme
-  pub all : l ≡ before ++ (kind ∷ here ∷ behind)
-  pub isKind : kind .token ≡ kindWord
+  pub all : l ≡ before ++ (here ∷ behind)
   pub place : here .at ≡ q
-  pub identifiers : All IsIdentifier (namesBehind (tokensOf before))
-  pub different : Distinct (namesBehind (tokensOf before))
-  pub few : length (namesBehind (tokensOf before)) ≤ mostKinds
+  pub declared : List Token
+  pub due : tokensOf before ≡ declared ++ (kindWord ∷ [])
+  pub soFar : (more : List Token) × LexiconFirst SoundLexicon K (declared ++ more)
+  pub another : (more : List Token) × LexiconFirst SoundLexicon [] (declared ++ (kindWord ∷ more))
   pub wrong : (isIdentifier (here .token) ≡ false) ⊎
       ((mostName < length (here .token)) ⊎
-      ((indexIn (here .token) (namesBehind (tokensOf before)) < length (namesBehind (tokensOf before))) ⊎
-      (length (namesBehind (tokensOf before)) ≡ mostKinds)))
+      ((indexIn (here .token) (namesBehind declared) < length (namesBehind declared)) ⊎ (length (namesBehind declared) ≡ mostKinds)))
 
-abbrev pub KindNameFaultsAreFirst : Type 0
-KindNameFaultsAreFirst =
+-- Something sound whose kinds are K begins with the tokens before the fault. A name that is none of K is at fault where a place's kind is
+-- due, as nothing good with these kinds goes on so; elsewhere nothing good at all does.
+pub data LexiconFault (K : List Token) (l : List Lexeme) (q : ℕ) : Type 0 where
+  inName : KindNameFault K l q → LexiconFault K l q
+  inPlace : (f : FirstFaultIn (LexiconFirst SoundLexicon K) (LexiconFirst GoodLexicon K) l q) → isIdentifier (f .here .token) ≡ true →
+      indexIn (f .here .token) K ≡ length K → LexiconFault K l q
+  inRest : FirstFaultIn (LexiconFirst SoundLexicon K) (LexiconFirst GoodLexicon []) l q → LexiconFault K l q
+
+abbrev pub LexiconFaultsAreFirst : Type 0
+LexiconFaultsAreFirst =
     (l : List Lexeme) (e : Lexeme) (x : Fault) → All (λ (y : Lexeme). IsToken (y .token)) l → e .token ≡ [] →
-    readKindNames [] (l ++ (e ∷ [])) ≡ misnamed x → KindNameFault (l ++ (e ∷ [])) (x .at)
+    readLexicon (l ++ (e ∷ [])) ≡ bad x → LexiconFault (kindsNamed (tokensOf (l ++ (e ∷ [])))) (l ++ (e ∷ [])) (x .at)
 
 -- ---- what fixes what
 
@@ -377,6 +399,10 @@ TogetherSpellsLeftovers =
     WithinLimits (vocabularyOf X) s ts → IsBookListing (signature (vocabularyOf X)) s ts l → Reordered es l →
     Spells (togetherText X s (length ts) es) (entriesTokens X [] s es)
 
+-- What is said of a kind that no complete situation has is a comment.
+abbrev pub NotesAreComments : Type 0
+NotesAreComments = (X : Lexicon) (s : ℕ) (text : List ℕ) → GoodLexicon X → IsNote X s text → Spells text []
+
 -- Read as a text, the answer is the leftovers of the first pattern, then those of the second, and so on, and then what `tail` spells.
 -- What is asked, and the answers, are comments.
 abbrev pub DeskSpellsLeftovers : Type 0
@@ -424,10 +450,12 @@ pub record QuestionFirst (X : Lexicon) (p : Phrase) (us : List Token) : Type 0 w
   pub good : GoodQuestion X p situation
   pub tokens : us ≡ questionTokens X p situation ++ rest
 
--- Where a kind has no situation none begins with its words, so a pattern is enough before the fault; but nothing open stands there.
+-- Where a kind has no situation none begins with its words, so a pattern is enough before the fault; but nothing open stands there, and
+-- another label than the pattern's is itself at fault.
 pub record QuestionFault (X : Lexicon) (p : Phrase) (l : List Lexeme) (q : ℕ) : Type 0 where
   pub first : FirstFaultIn (QuestionBegun X (p .kind)) (QuestionFirst X p) l q
   pub closed : All (λ (x : Lexeme). isOpen (x .token) ≡ false) (first .before)
+  pub asked : (first .before ≡ []) ⊎ (token l ≡ p .label)
 
 abbrev pub QuestionFaultsAreFirst : Type 0
 QuestionFaultsAreFirst =
@@ -463,13 +491,13 @@ abbrev pub bareKinds : List Token → Lexicon
 bareKinds us = map (λ (u : Token). record { name = u; words = [] }) us
 
 -- The vocabulary X and the paragraphs qs are read off the lexemes l, and r is left: all of it is good, and its tokens are those before r.
--- A `kind` behind the first pattern is itself at fault, but something before it may be at fault first. As the names of the kinds are read
--- from the whole text, its kind is one of X then, without words; where no `kind` stands there, `declared` is X.
+-- A `kind` behind the first pattern is itself at fault, but something before it may be at fault first. As the names of the kinds are
+-- gathered from the whole text, its kind is one of X then, without words; where no `kind` stands there, `declared` is X.
 pub record ReadBefore (l : List Lexeme) (X : Lexicon) (qs : List Paragraph) (r : List Lexeme) : Type 0 where
   pub declared : Lexicon
   pub late : List Token
   pub whole : X ≡ declared ++ bareKinds late
-  pub kinds : kindNames X ≡ namesBehind (tokensOf l)
+  pub kinds : kindNames X ≡ kindsNamed (tokensOf l)
   pub lexicon : GoodLexicon X
   pub paragraphs : All (GoodParagraph X) qs
   pub before : List Lexeme
@@ -493,9 +521,7 @@ pub record AskedBefore (l : List Lexeme) (X : Lexicon) (p : Phrase) (gs : List G
 -- Of the lexemes l of a text the one at offset q is the first at fault: all vocabulary, patterns and questions before the one in which
 -- it stands are good, and it is the first at fault in that one. Which one that is, is fixed by what the readers make of what stands before it.
 pub data FileFault (l : List Lexeme) (q : ℕ) : Type 0 where
-  inKindName : KindNameFault l q → FileFault l q
-  inLexicon : (K : List Token) (x : Fault) → readKindNames [] l ≡ named K → readLexicon l ≡ bad x →
-      FirstFaultIn (LexiconFirst SoundLexicon K) (LexiconFirst GoodLexicon K) l q → FileFault l q
+  inLexicon : (x : Fault) → readLexicon l ≡ bad x → LexiconFault (kindsNamed (tokensOf l)) l q → FileFault l q
   inPhrase : (X : Lexicon) (qs : List Paragraph) (r : List Lexeme) → ReadBefore l X qs r → 1 ≤ length (token r) →
       FirstFault (PhraseFirst X (beginsLabel r)) r q → FileFault l q
   inQuestion : (X : Lexicon) (qs : List Paragraph) (m : List Lexeme) (p : Phrase) (gs : List Ground) (r : List Lexeme) →

@@ -16,7 +16,8 @@ use Rattle.texts.specs.Phrases.{phraseText}
 abbrev pub leftoverLine : Lexicon → List Token → ℕ → Term → List ℕ
 leftoverLine X vs s e = phraseText X vs s e ++ newline
 
--- `# 3 leftovers:`, the entries, and `# end of 3 leftovers`. No other comment line of an answer has a number first, or `end of` and a number.
+-- `# 3 leftovers:`, the entries, and `# end of 3 leftovers`. No other comment line of an answer has a number and then `leftovers`, or begins
+-- with `end of` but the last, which counts patterns.
 abbrev pub leftoversText : Lexicon → List Token → ℕ → List Term → List ℕ
 leftoversText X vs s l =
     ascii "# "

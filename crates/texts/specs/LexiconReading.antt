@@ -1,13 +1,13 @@
--- LexiconReading: a vocabulary in words, read off the lexemes of a text, token by token. The names of the kinds come first, since a
--- kind may be used before it is declared.
+-- LexiconReading: a vocabulary in words, read off the lexemes of a text, token by token. The names of the kinds are gathered first,
+-- since a kind may be used before it is declared.
 --
--- This file is an algorithm: LexiconsRead and LexiconsExact (Laws) fix what it accepts, KindNameFaultsAreFirst and LexiconFaultsAreFirst
--- where a fault is. Which reason is given there is by its tests (kindNameWhy, wordNameWhy, placeWhy).
+-- This file is an algorithm: LexiconsRead and LexiconsExact (Laws) fix what it accepts, LexiconFaultsAreFirst where a fault is. Which
+-- reason is given there is by its tests (kindNameWhy, wordNameWhy, placeWhy).
 --
 --   nameWhy due twice many most seen u    why the token u is no name that may stand behind the names `seen`; 0 where it is
 --   kindNameWhy, wordNameWhy, placeWhy    the same for a kind's name, a word's, and the kind of a place
---   Names?                    names, or a fault
---   kindNamed, readKindNames seen l      the names behind each `kind` of l, after the names `seen`
+--   withName seen u why       the names `seen`, and u behind them where nothing speaks against it
+--   namesFrom seen us         the names behind each `kind` of the tokens us that may follow those before them, after the names `seen`
 --   WordRow                       a word that was read: its kind, and the kinds of its places
 --   rowWord x                 its record
 --   Phase                     what may come next
@@ -21,18 +21,18 @@
 --   LexiconRead               the names of kinds and words, and the words' rows
 --   ended, stepped            the vocabulary ends before the lexemes l; what follows a token
 --   readRows K x l            the declarations that l begins with
---   withNames, readLexicon l  the vocabulary that l begins with
+--   readLexicon l             the vocabulary that l begins with
 --
-use mathlib.Core.Bool.{Bool, true, false, cond}
+use mathlib.Core.Bool.{cond}
 use mathlib.Core.List.{List, [], _∷_, _++_, map}
 use Prim.Native.Nat.{ℕ, zero, suc, _-_}
 use lib.Dec.{eqb, ltb, leb}
-use lib.ListN.{length}
+use lib.ListN.{length, take}
 use Rattle.wire.specs.Vocabulary.{Word, mostKinds, mostWords}
 use Rattle.texts.specs.Lexemes.{Token, Lexeme}
-use Rattle.texts.specs.Names.{same, kindWord, mark, opening, closing, comma, bar, equals, mostName, isIdentifier, indexIn}
+use Rattle.texts.specs.Names.{same, kindWord, mark, opening, closing, comma, bar, equals, mostName, isIdentifier, indexIn, nameAt}
 use Rattle.texts.specs.Lexicon.{gaplessMap, mostPlaces}
-use Rattle.texts.specs.Faults.{Fault, Parsed, parsed, bad, token, place, kindDue, kindNameDue, longName, kindTwice, manyKinds, wordDue, wordTwice, manyWords, placeDue, notDeclared, manyPlaces, placeEnd, noWords}
+use Rattle.texts.specs.Faults.{Parsed, parsed, bad, place, kindDue, kindNameDue, longName, kindTwice, manyKinds, wordDue, wordTwice, manyWords, placeDue, notDeclared, kindBeyond, manyPlaces, placeEnd, noWords}
 
 abbrev pub nameWhy : ℕ → ℕ → ℕ → ℕ → List Token → Token → ℕ
 nameWhy due twice many most seen u =
@@ -48,24 +48,25 @@ kindNameWhy seen u = nameWhy kindNameDue kindTwice manyKinds mostKinds seen u
 abbrev pub wordNameWhy : List Token → Token → ℕ
 wordNameWhy seen u = nameWhy wordDue wordTwice manyWords mostWords seen u
 
--- K are the names of the kinds, and n places stand before this one.
+-- K are the names of the kinds, and n places stand before this one. Where there are as many as may be, another may be declared or not.
 abbrev pub placeWhy : List Token → ℕ → Token → ℕ
 placeWhy K n u =
-    cond (isIdentifier u) (cond (ltb (indexIn u K) (length K)) (cond (ltb n mostPlaces) 0 manyPlaces) notDeclared) placeDue
+    cond (isIdentifier u)
+    (cond (leb (length u) mostName)
+    (cond (ltb (indexIn u K) (length K)) (cond (ltb n mostPlaces) 0 manyPlaces)
+    (cond (ltb (length K) mostKinds) notDeclared kindBeyond))
+    longName)
+    placeDue
 
-pub data Names? : Type 0 where
-  named : List Token → Names?
-  misnamed : Fault → Names?
+abbrev pub withName : List Token → Token → ℕ → List Token
+withName seen u zero = seen ++ (u ∷ [])
+withName seen u (suc why) = seen
 
-abbrev pub kindNamed : (List Token → Names?) → List Token → List Lexeme → ℕ → Names?
-kindNamed more seen l zero = more (seen ++ (token l ∷ []))
-kindNamed more seen l (suc why) = misnamed (record { why = suc why; at = place l; of = 0 })
-
-abbrev pub readKindNames : List Token → List Lexeme → Names?
-readKindNames seen [] = named seen
-readKindNames seen (x ∷ l) =
-    cond (same (x .token) kindWord) (kindNamed (λ names. readKindNames names l) seen l (kindNameWhy seen (token l)))
-    (readKindNames seen l)
+-- A name that may not follow those before it is passed over here: it is at fault where the declarations come to it.
+abbrev pub namesFrom : List Token → List Token → List Token
+namesFrom seen [] = seen
+namesFrom seen (u ∷ us) =
+    namesFrom (cond (same u kindWord) (withName seen (nameAt us 0) (kindNameWhy seen (nameAt us 0))) seen) us
 
 pub record WordRow : Type 0 where
   pub kind : ℕ
@@ -112,8 +113,9 @@ pub data Stepped : Type 0 where
 abbrev pub goTo : Phase → Declaring → Stepped
 goTo p x = on (record { phase = p; kinds = x .kinds; names = x .names; done = x .done; last = x .last })
 
-abbrev pub stepKind : Declaring → Stepped
-stepKind x = on (record { phase = behindKind; kinds = suc (x .kinds); names = x .names; done = x .done; last = x .last })
+abbrev pub stepKind : Declaring → ℕ → Stepped
+stepKind x zero = on (record { phase = behindKind; kinds = suc (x .kinds); names = x .names; done = x .done; last = x .last })
+stepKind x (suc why) = fails (suc why)
 
 abbrev pub stepWord : Declaring → Token → ℕ → Stepped
 stepWord x u zero =
@@ -150,9 +152,10 @@ stepPlace x k (suc why) = fails (suc why)
 abbrev pub stepOn : Declaring → Token → Stepped
 stepOn x u = cond (same u kindWord) (goTo atKind x) over
 
+-- The kinds that have begun are the first ones of K.
 abbrev pub stepIn : List Token → Declaring → Token → Phase → Stepped
 stepIn K x u atStart = cond (same u kindWord) (goTo atKind x) (fails kindDue)
-stepIn K x u atKind = stepKind x
+stepIn K x u atKind = stepKind x (kindNameWhy (take (x .kinds) K) u)
 stepIn K x u behindKind = cond (same u (mark equals)) (goTo atWord x) (stepOn x u)
 stepIn K x u atWord = stepWord x u (wordNameWhy (x .names) u)
 stepIn K x u behindWord =
@@ -186,9 +189,5 @@ abbrev pub readRows : List Token → Declaring → List Lexeme → Parsed Lexico
 readRows K x [] = ended K x []
 readRows K x (y ∷ l) = stepped (λ z. readRows K z l) K x (y ∷ l) (step K x (y .token))
 
-abbrev pub withNames : List Lexeme → Names? → Parsed LexiconRead
-withNames l (misnamed x) = bad x
-withNames l (named K) = readRows K beginning l
-
 abbrev pub readLexicon : List Lexeme → Parsed LexiconRead
-readLexicon l = withNames l (readKindNames [] l)
+readLexicon l = readRows (namesFrom [] (map (λ (x : Lexeme). x .token) l)) beginning l

@@ -11,7 +11,9 @@ pub mod Faults
 pub mod Complaints
 pub mod Verdicts
 pub mod Leftovers
+pub mod Notes
 pub mod Together
+pub mod Tails
 pub mod Answers
 -- Ways to compute it. Laws fix what they accept and where a fault is; which reason is given there is what these files say:
 pub mod Saying

@@ -22,7 +22,7 @@
 --   labelled u p             the pattern p with the label u
 --   readPhrase K N W l       a pattern, where K are the names of the kinds, N those of the words, and W is the vocabulary
 --
-use mathlib.Core.Bool.{Bool, true, false, not, _&&_, cond}
+use mathlib.Core.Bool.{_&&_, cond}
 use mathlib.Core.List.{List, [], _∷_, _++_}
 use Prim.Native.Nat.{ℕ, zero, suc, _+_}
 use lib.Dec.{eqb, ltb, leb}
@@ -34,7 +34,7 @@ use Rattle.wire.specs.TermBytes.{nameCount, mostBytes, mostLevels}
 use Rattle.texts.specs.Lexemes.{Token, Lexeme}
 use Rattle.texts.specs.Names.{same, opened, mark, opening, closing, comma, colon, mostName, isIdentifier, isVariable, indexIn}
 use Rattle.texts.specs.Phrases.{Phrase}
-use Rattle.texts.specs.Faults.{Fault, Parsed, parsed, bad, parseThen, token, place, rest, longName, notDeclared, placeDue, patternDue, termDue, unknownWord, otherKind, placesWrong, placesOver, tooDeep, tooLong, variableTwice, manyVariables, colonDue}
+use Rattle.texts.specs.Faults.{Parsed, parsed, bad, parseThen, token, place, rest, longName, notDeclared, placeDue, patternDue, termDue, unknownWord, otherKind, placesWrong, placesOver, tooDeep, tooLong, variableTwice, manyVariables, colonDue}
 
 pub record Seen : Type 0 where
   pub variables : List Token

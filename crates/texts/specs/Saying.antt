@@ -11,6 +11,7 @@
 --   sayPlaces sayer n c m l the terms of n places, c before the first, where m has the bits of those that are written
 --   sayBehind, sayWord      what stands behind a word's name, and a word with its places
 --   sayTerm T left l        the term at the front of l, at most `left` levels deep
+--   withKind T s text       the text of a root that has no word, and its kind s behind it
 --   sayRoot, sayPhrase T b  a pattern or entry with its kind byte
 --
 use mathlib.Core.Path.{_≡_}

@@ -6,12 +6,10 @@
 --   togetherText X s n es    what is printed for n patterns of kind s together, whose leftovers are es
 --   manyText, pastText X s n ..     where there are too many patterns, and where what they leave is too long
 --   IsTogether X s ts text   the text is what is printed for the patterns ts of kind s together
---   AreTogether X ps s k text    .. for each of the k kinds from s on, of the patterns ps
 --
-use mathlib.Core.Path.{_≡_}
 use mathlib.Core.Bool.{cond}
 use mathlib.Core.List.{List, [], _∷_, _++_}
-use Prim.Native.Nat.{ℕ, zero, suc, _<_, _≤_}
+use Prim.Native.Nat.{ℕ, suc, _<_, _≤_}
 use lib.Dec.{eqb}
 use lib.ListN.{length}
 use Rattle.terms.specs.Lists.{Reordered}
@@ -61,8 +59,3 @@ pub data IsTogether (X : Lexicon) (s : ℕ) (ts : List Term) : List ℕ → Type
       IsTogether X s ts (pastText X s (length ts) i)
   listed : (es l : List Term) → fewTogether ≤ length ts → length ts ≤ mostPatterns → WithinLimits (vocabularyOf X) s ts →
       IsBookListing (signature (vocabularyOf X)) s ts l → Reordered es l → IsTogether X s ts (togetherText X s (length ts) es)
-
-abbrev pub AreTogether : Lexicon → List Phrase → ℕ → ℕ → List ℕ → Type 0
-AreTogether X ps s zero text = text ≡ []
-AreTogether X ps s (suc k) text =
-    (here behind : List ℕ) × IsTogether X s (ofKind s ps) here × AreTogether X ps (suc s) k behind × (text ≡ here ++ behind)

@@ -588,6 +588,76 @@ impl Gen {
         }
     }
 
+    /// Damages kinds: what stands behind a `kind` is no name, none that a kind
+    /// may have or another kind's, a `kind` stands where none is due, or there
+    /// are too many; and kinds are used before a fault and declared behind it.
+    fn damage_kinds(&mut self, all: &mut Vec<Piece>, called: &Called) {
+        for _ in 0..self.pick(&[1, 1, 2, 3]) {
+            let named: Vec<usize> = (1..all.len())
+                .filter(|&at| all[at - 1].token == b"kind")
+                .collect();
+            if named.is_empty() {
+                return;
+            }
+            let at = self.pick(&named);
+            match self.below(9) {
+                0 => drop(all.remove(at)),
+                1 => all[at].token = self.pick(&["_", "kind", "?n", "?", "=", "(", ":"]).into(),
+                2 => all[at].token = all[self.pick(&named)].token.clone(),
+                3 => {
+                    // The name is too long wherever it stands.
+                    let (name, long) = (all[at].token.clone(), self.long_name());
+                    for piece in all.iter_mut().filter(|piece| piece.token == name) {
+                        piece.token = long.clone();
+                    }
+                }
+                4 | 5 => {
+                    let mut tokens = vec![b"kind".to_vec()];
+                    match self.below(3) {
+                        0 => (),
+                        1 => tokens.push(called.kinds[self.below(called.kinds.len())].clone()),
+                        _ => tokens.push(self.identifier()),
+                    }
+                    let at = self.below(all.len() + 1);
+                    all.splice(at..at, pieces(tokens));
+                }
+                6 | 7 => self.more_kinds(all, named.len()),
+                _ => {
+                    let ends = (at..all.len()).find(|&end| all[end].first);
+                    let moved: Vec<Piece> = all.drain(at - 1..ends.unwrap_or(all.len())).collect();
+                    let front = self.front(all);
+                    all.splice(front..front, moved);
+                }
+            }
+        }
+    }
+
+    /// The front of a declaration or a pattern, or the end.
+    fn front(&mut self, all: &[Piece]) -> usize {
+        let fronts = (0..all.len()).filter(|&at| all[at].first);
+        let fronts: Vec<usize> = fronts.chain([all.len()]).collect();
+        self.pick(&fronts)
+    }
+
+    /// Adds kinds to those that there are, about as many as may be, each before
+    /// or behind any other, and names one of them in a place.
+    fn more_kinds(&mut self, all: &mut Vec<Piece>, kinds: usize) {
+        let most = self.pick(&[15, 16, 16, 17, 17, 18]);
+        let names = self.identifiers(most);
+        // The vocabulary stands in front.
+        for name in names.iter().skip(kinds) {
+            let front = self.front(all).min(self.front(all));
+            all.splice(front..front, pieces(vec![b"kind".to_vec(), name.clone()]));
+        }
+        let places: Vec<usize> = (1..all.len())
+            .filter(|&at| matches!(all[at - 1].token[..], [b'(' | b',']))
+            .collect();
+        if !places.is_empty() {
+            let at = places[self.below(places.len()).min(self.below(places.len()))];
+            all[at].token = names[most - 1].clone();
+        }
+    }
+
     /// The next text.
     pub fn text_case(&mut self) -> TextCase {
         let v = self.text_vocabulary();
@@ -610,6 +680,10 @@ impl Gen {
             let (phrase, meant) = self.phrase(&v, &called);
             all.extend(phrase);
             patterns.push(meant);
+        }
+        if self.once_in(10) {
+            damaged = true;
+            self.damage_kinds(&mut all, &called);
         }
         if self.once_in(3) {
             damaged = true;

@@ -32,6 +32,7 @@ pub(super) const LONG_TEXT: u8 = 24;
 pub(super) const PLACES_OVER: u8 = 25;
 pub(super) const SITUATION_OPEN: u8 = 26;
 pub(super) const OTHER_LABEL: u8 = 27;
+pub(super) const PAST_KINDS: u8 = 28;
 
 /// What is said of a ( where no place is due.
 const NO_PLACES: &str = "no places are due here, as what stands before takes none or has them all";
@@ -47,6 +48,10 @@ fn goes_on(byte: u8) -> bool {
 const NO_PATTERN: &str =
     "a question stands behind its pattern, and begins with its label";
 const BLANK_DUE: &str = " in this vocabulary; in a question a blank is due behind the ?";
+
+/// What is said of a mark between places or words where a pattern is due.
+const NO_MARK: &str = "a pattern is due here; no mark stands between patterns, \
+    and the words of a kind stand behind =, with a | between them";
 
 fn begins_term(token: &[u8]) -> bool {
     is_identifier(token) || token == b"_" || is_name(token)
@@ -106,9 +111,14 @@ impl Refused<'_> {
             NOT_DECLARED => return around("kind ", " is used and not declared"),
             MANY_PLACES => "8 places are the most, and this is one more",
             PLACE_END => "a , or a ) is due here",
-            NO_WORDS => "no kind has a word",
-            PATTERN_DUE if token == b"kind" => "all kinds are declared before the first pattern",
-            PATTERN_DUE => "a pattern is due here",
+            NO_WORDS => {
+                "no kind up to here has a word; words stand behind =, as in kind button = up | down"
+            }
+            PATTERN_DUE => match token {
+                b"kind" => "all kinds are declared before the first pattern",
+                b"," | b"|" | b"=" => NO_MARK,
+                _ => "a pattern is due here",
+            },
             TERM_DUE | OTHER_KIND => return self.due(out),
             NO_WORD => match lexemes(rest)[1].token {
                 b"?" => NO_PATTERN,
@@ -142,19 +152,28 @@ impl Refused<'_> {
             OTHER_LABEL => {
                 "a question begins with the label of the pattern before it, and this is another name"
             }
+            PAST_KINDS => {
+                return around("kind ", " is none of the first 16 kinds, and 16 are the most")
+            }
             why => unreachable!("there is no reason {why}"),
         };
         out.extend_from_slice(plain.as_bytes());
     }
 
-    /// The kind that is due, with its words.
+    /// The kind that is due, with its words, or that it has none.
     fn due(&self, out: &mut Vec<u8>) {
         let of = self.fault.of;
         out.extend_from_slice(self.vocabulary.kinds[of]);
         out.extend_from_slice(b" is due here");
         let words = self.vocabulary.words.iter();
-        for (number, word) in words.filter(|word| word.kind as usize == of).enumerate() {
-            out.extend_from_slice(if number == 0 { b": " } else { b" or " });
+        let mut words = words.filter(|word| word.kind as usize == of);
+        let Some(first) = words.next() else {
+            return out.extend_from_slice(b", and no word of that kind is declared before the first pattern");
+        };
+        out.extend_from_slice(b": ");
+        out.extend_from_slice(first.name);
+        for word in words {
+            out.extend_from_slice(b" or ");
             out.extend_from_slice(word.name);
         }
     }

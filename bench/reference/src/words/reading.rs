@@ -47,6 +47,12 @@ fn new_name<'a>(
     }
 }
 
+/// Whether a kind of this name may be declared behind others.
+fn new_kind(token: &[u8], before: &[&[u8]]) -> Result<(), u8> {
+    let whys = [KIND_NAME_DUE, KIND_TWICE, MANY_KINDS];
+    new_name(token, before.iter().copied(), MOST_KINDS, whys)
+}
+
 impl<'a> Reader<'a> {
     pub fn new(text: &'a [u8]) -> Self {
         Reader {
@@ -87,38 +93,34 @@ impl<'a> Reader<'a> {
         }
     }
 
-    /// Every name behind a `kind` in the whole text: a kind may be used before
-    /// it is declared.
-    fn kinds(&self) -> Result<Vec<&'a [u8]>, Fault> {
+    /// The names behind each `kind` in the whole text, as many as can be names
+    /// of kinds together: a kind may be used before it is declared. No other
+    /// is a fault here; it is one where the reading comes to it.
+    fn gathered(&self) -> Vec<&'a [u8]> {
         let mut kinds: Vec<&[u8]> = Vec::new();
         for pair in self.lexemes.windows(2) {
-            if pair[0].token != b"kind" {
-                continue;
+            let name = pair[1].token;
+            if pair[0].token == b"kind" && new_kind(name, &kinds).is_ok() {
+                kinds.push(name);
             }
-            let Lexeme { at, token } = pair[1];
-            let whys = [KIND_NAME_DUE, KIND_TWICE, MANY_KINDS];
-            new_name(token, kinds.iter().copied(), MOST_KINDS, whys).map_err(|why| Fault {
-                why,
-                at,
-                of: 0,
-            })?;
-            kinds.push(token);
         }
-        Ok(kinds)
+        kinds
     }
 
     /// The declarations at the beginning of the text.
     pub fn vocabulary(&mut self) -> Result<Vocabulary<'a>, Fault> {
         let mut read = Vocabulary {
-            kinds: self.kinds()?,
+            kinds: self.gathered(),
             words: Vec::new(),
         };
         if self.here() != b"kind" {
             return Err(self.fault(KIND_DUE, 0));
         }
-        let mut kind = 0;
+        let mut declared: Vec<&[u8]> = Vec::new();
         while self.over(b"kind") {
-            // Its name is known to be one.
+            new_kind(self.here(), &declared).map_err(|why| self.fault(why, 0))?;
+            let kind = declared.len() as u8;
+            declared.push(self.here());
             self.step();
             if self.over(b"=") {
                 self.word(kind, &mut read)?;
@@ -126,7 +128,6 @@ impl<'a> Reader<'a> {
                     self.word(kind, &mut read)?;
                 }
             }
-            kind += 1;
         }
         if read.words.is_empty() {
             return Err(self.fault(NO_WORDS, 0));
@@ -143,7 +144,7 @@ impl<'a> Reader<'a> {
         let mut places = Vec::new();
         if self.over(b"(") {
             loop {
-                let place = self.kind(&read.kinds)?;
+                let place = self.place(&read.kinds)?;
                 if places.len() == MOST_PLACES {
                     return Err(self.fault(MANY_PLACES, 0));
                 }
@@ -159,6 +160,19 @@ impl<'a> Reader<'a> {
         }
         read.words.push(Word { name, kind, places });
         Ok(())
+    }
+
+    /// The number of the kind of a place, whose name is the next token. It may
+    /// be declared later, but not with a name that is too long, and not behind
+    /// as many kinds as there may be.
+    fn place(&self, kinds: &[&[u8]]) -> Result<u8, Fault> {
+        if is_identifier(self.here()) && self.here().len() > MOST_NAME {
+            return Err(self.fault(LONG_NAME, 0));
+        }
+        self.kind(kinds).map_err(|fault| match fault.why {
+            NOT_DECLARED if kinds.len() == MOST_KINDS => self.fault(PAST_KINDS, 0),
+            _ => fault,
+        })
     }
 
     /// The number of the kind whose name is the next token.

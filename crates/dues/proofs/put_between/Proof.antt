@@ -1,7 +1,7 @@
 -- `dues::put_between` meets its contract.
 use mathlib.Core.Path.{sym, ap}
 use Rattle.pages.proofs.Pages.{adds-is}
-use Rattle.dues.specs.Parts.{between}
+use Rattle.texts.specs.Complaints.{between}
 use borrow.Author.Needs.{needs}
 use Rattle.dues.proofs.put_between.Statement.{statement}
 use Rattle.dues.proofs.put_between.Tie as tie

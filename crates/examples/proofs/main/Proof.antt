@@ -7,13 +7,13 @@ use Rattle.examples.proofs.main.Statement.{statement}
 use Rattle.examples.proofs.main.Tie as tie
 
 slice-aggregate-read-full : tie.Need-slice-aggregate-read-full
-slice-aggregate-read-full c = sym (length-replicate {A = ℕ} 262144 0)
+slice-aggregate-read-full c = sym (length-replicate {A = ℕ} 393216 0)
 
 read-full-requires : tie.Need-read-full-requires
 read-full-requires c κs = search needs
 
 slice-aggregate-between : tie.Need-slice-aggregate-between
-slice-aggregate-between c = sym (c .before .before .read-full .kept .1 .0 ∙ length-replicate {A = ℕ} 262144 0)
+slice-aggregate-between c = sym (c .before .before .read-full .kept .1 .0 ∙ length-replicate {A = ℕ} 393216 0)
 
 between-requires : tie.Need-between-requires
 between-requires c κs = search needs

@@ -1,5 +1,5 @@
 -- `lexicon::name_why` meets its contract.
-use Rattle.lexicon.proofs.Whys.{name-due, name-long, name-twice, name-good, name-many}
+use Rattle.lexicon.proofs.Whys.{spelt-due, spelt-long, name-twice, name-good, name-many}
 use borrow.Author.Tests.{not-true, not-false}
 use denote.Ref.{now}
 use borrow.Author.Needs.{needs}
@@ -13,7 +13,7 @@ returns : tie.Need-returns
 returns c =
     let at-is-identifier = c .before in
     let start = at-is-identifier .before .before .before in
-    name-due (now (start .args .text)) (start .args .at) (now (start .args .table)) (start .args .n) (start .pre) (start .args .due) (start .args .twice) (start .args .many) (start .args .most) (at-is-identifier .is-identifier .ensures) (not-true _ (c .if1 .taken))
+    spelt-due (now (start .args .text)) (start .args .at) _ (start .args .due) (at-is-identifier .is-identifier .ensures) (not-true _ (c .if1 .taken))
 
 end-requires : tie.Need-end-requires
 end-requires c κs = search needs
@@ -27,7 +27,7 @@ returns-2 c =
     let at-if1 = at-end .before in
     let at-is-identifier = at-if1 .before in
     let start = at-is-identifier .before .before .before in
-    name-long (now (start .args .text)) (start .args .at) (now (start .args .table)) (start .args .n) (start .pre) (start .args .due) (start .args .twice) (start .args .many) (start .args .most) (at-is-identifier .is-identifier .ensures) (not-false _ (at-if1 .if1 .left)) (at-end .end .ensures) (c .if2 .taken)
+    spelt-long (now (start .args .text)) (start .args .at) _ (start .args .due) (at-is-identifier .is-identifier .ensures) (not-false _ (at-if1 .if1 .left)) (at-end .end .ensures) (c .if2 .taken)
 
 find-requires : tie.Need-find-requires
 find-requires c κs = search needs
@@ -40,7 +40,7 @@ returns-3 c =
     let at-if1 = at-end .before in
     let at-is-identifier = at-if1 .before in
     let start = at-is-identifier .before .before .before in
-    name-twice (now (start .args .text)) (start .args .at) (now (start .args .table)) (start .args .n) (start .pre) (start .args .due) (start .args .twice) (start .args .many) (start .args .most) (at-is-identifier .is-identifier .ensures) (not-false _ (at-if1 .if1 .left)) (at-end .end .ensures) (at-if2 .if2 .left) (at-find .find .ensures) (c .if3 .taken)
+    name-twice (now (start .args .text)) (start .args .at) (now (start .args .table)) (start .args .n) (start .pre) (at-is-identifier .is-identifier .ensures) (not-false _ (at-if1 .if1 .left)) (at-end .end .ensures) (at-if2 .if2 .left) (start .args .due) (start .args .twice) (start .args .many) (start .args .most) (at-find .find .ensures) (c .if3 .taken)
 
 returns-4 : tie.Need-returns-4
 returns-4 c =
@@ -51,7 +51,7 @@ returns-4 c =
     let at-if1 = at-end .before in
     let at-is-identifier = at-if1 .before in
     let start = at-is-identifier .before .before .before in
-    name-good (now (start .args .text)) (start .args .at) (now (start .args .table)) (start .args .n) (start .pre) (start .args .due) (start .args .twice) (start .args .many) (start .args .most) (at-is-identifier .is-identifier .ensures) (not-false _ (at-if1 .if1 .left)) (at-end .end .ensures) (at-if2 .if2 .left) (at-find .find .ensures) (at-if3 .if3 .left) (c .if4 .taken)
+    name-good (now (start .args .text)) (start .args .at) (now (start .args .table)) (start .args .n) (start .pre) (at-is-identifier .is-identifier .ensures) (not-false _ (at-if1 .if1 .left)) (at-end .end .ensures) (at-if2 .if2 .left) (start .args .due) (start .args .twice) (start .args .many) (start .args .most) (at-find .find .ensures) (at-if3 .if3 .left) (c .if4 .taken)
 
 returns-5 : tie.Need-returns-5
 returns-5 c =
@@ -62,7 +62,7 @@ returns-5 c =
     let at-if1 = at-end .before in
     let at-is-identifier = at-if1 .before in
     let start = at-is-identifier .before .before .before in
-    name-many (now (start .args .text)) (start .args .at) (now (start .args .table)) (start .args .n) (start .pre) (start .args .due) (start .args .twice) (start .args .many) (start .args .most) (at-is-identifier .is-identifier .ensures) (not-false _ (at-if1 .if1 .left)) (at-end .end .ensures) (at-if2 .if2 .left) (at-find .find .ensures) (at-if3 .if3 .left) (c .if4 .left)
+    name-many (now (start .args .text)) (start .args .at) (now (start .args .table)) (start .args .n) (start .pre) (at-is-identifier .is-identifier .ensures) (not-false _ (at-if1 .if1 .left)) (at-end .end .ensures) (at-if2 .if2 .left) (start .args .due) (start .args .twice) (start .args .many) (start .args .most) (at-find .find .ensures) (at-if3 .if3 .left) (c .if4 .left)
 
 pub name-why-spec : {M : Type 1} → statement M
 name-why-spec =

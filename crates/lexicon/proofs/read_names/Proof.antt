@@ -1,20 +1,20 @@
--- `lexicon::read_names` meets its contract. The loop's invariant: the names before the offset are read. The measure is what is left of the text.
+-- `lexicon::read_names` meets its contract. The loop's invariant: the names before the offset are gathered. The measure is what is left of the text.
 use Prim.Native.Nat.{_-_}
-use borrow.Author.Needs.{needs}
 use mathlib.Core.Path.{refl}
 use denote.Ref.{now}
 use native.Mathlib.Omega.{arith}
 use lib.ListN.{length}
-use Rattle.lexicon.proofs.Names.{NamesTo, names-none, names-passed, names-room, names-more, names-wrong, names-all}
+use Rattle.lexicon.proofs.Names.{NamesTo, names-none, names-passed, names-room, names-more, names-other, names-all}
 use Rattle.texts.proofs.Fronts.{start-inside, end-inside, end-later}
+use borrow.Author.Needs.{needs}
 use Rattle.lexicon.proofs.read_names.Statement.{statement}
 use Rattle.lexicon.proofs.read_names.Tie as tie
 
 abbrev Inv-loop : tie.InvT-loop
-Inv-loop text kinds₀ k₀ at₀ t8 kinds k at = NamesTo text kinds k at
+Inv-loop text kinds₀ k₀ at₀ t7 kinds k at = NamesTo text kinds k at
 
 abbrev μ-loop : tie.MeasureT-loop
-μ-loop text kinds₀ k₀ at₀ t8 kinds k at = length text - at
+μ-loop text kinds₀ k₀ at₀ t7 kinds k at = length text - at
 
 loop-holds : tie.Need-loop-holds Inv-loop μ-loop
 loop-holds c = names-none _ _ refl
@@ -39,17 +39,6 @@ name-why-requires c κs =
     let at-loop = c .before .before .before .before .before .before .before .before .before in
     omega (arith, at-loop .loop .inv .few, at-loop .loop .inv .size)
 
-returns : tie.Need-returns Inv-loop μ-loop
-returns c =
-    let at-name-why = c .before in
-    let at-start2 = at-name-why .before .before .before in
-    let at-if1 = at-start2 .before in
-    let at-is-word = at-if1 .before in
-    let at-end = at-is-word .before .before in
-    let at-start = at-end .before in
-    let at-loop = at-start .before .before in
-    names-wrong (at-loop .loop .inv) (at-start .start .ensures) (at-end .end .ensures) (at-is-word .is-word .ensures) (at-if1 .if1 .taken) (at-start2 .start2 .ensures) (at-name-why .name-why .ensures) (c .if2 .taken)
-
 cast-kinds : tie.Need-cast-kinds Inv-loop μ-loop
 cast-kinds c =
     let at-start2 = c .before .before .before .before in
@@ -71,7 +60,7 @@ element-write-kinds c =
     let at-end = at-is-word .before .before in
     let at-start = at-end .before in
     let at-loop = at-start .before .before in
-    names-room (at-loop .loop .inv) (at-start .start .ensures) (at-end .end .ensures) (at-is-word .is-word .ensures) (at-if1 .if1 .taken) (at-start2 .start2 .ensures) (at-name-why .name-why .ensures) (c .if2 .left)
+    names-room (at-loop .loop .inv) (at-start .start .ensures) (at-end .end .ensures) (at-is-word .is-word .ensures) (at-if1 .if1 .taken) (at-start2 .start2 .ensures) (at-name-why .name-why .ensures) (c .if2 .taken)
 
 add-k : tie.Need-add-k Inv-loop μ-loop
 add-k c = search needs
@@ -94,11 +83,11 @@ loop-again c =
     let at-end = at-is-word .before .before in
     let at-start = at-end .before in
     let at-loop = at-start .before .before in
-    names-more (at-loop .loop .inv) (at-start .start .ensures) (at-end .end .ensures) (at-is-word .is-word .ensures) (at-if1 .if1 .taken) (at-start2 .start2 .ensures) (at-name-why .name-why .ensures) (c .if2 .left)
+    names-more (at-loop .loop .inv) (at-start .start .ensures) (at-end .end .ensures) (at-is-word .is-word .ensures) (at-if1 .if1 .taken) (at-start2 .start2 .ensures) (at-name-why .name-why .ensures) (c .if2 .taken)
 
 loop-less-2 : tie.Need-loop-less-2 Inv-loop μ-loop
 loop-less-2 c =
-    let at-end = c .before .before .before in
+    let at-end = c .before .before .before .before .before .before .before .before in
     let at-start = at-end .before in
     let at-loop-test = at-start .before in
     let at-loop = at-loop-test .before in
@@ -107,14 +96,34 @@ loop-less-2 c =
 
 loop-again-2 : tie.Need-loop-again-2 Inv-loop μ-loop
 loop-again-2 c =
+    let at-name-why = c .before in
+    let at-start2 = at-name-why .before .before .before in
+    let at-if1 = at-start2 .before in
+    let at-is-word = at-if1 .before in
+    let at-end = at-is-word .before .before in
+    let at-start = at-end .before in
+    let at-loop = at-start .before .before in
+    names-other (at-loop .loop .inv) (at-start .start .ensures) (at-end .end .ensures) (at-is-word .is-word .ensures) (at-if1 .if1 .taken) (at-start2 .start2 .ensures) (at-name-why .name-why .ensures) (c .if2 .left)
+
+loop-less-3 : tie.Need-loop-less-3 Inv-loop μ-loop
+loop-less-3 c =
+    let at-end = c .before .before .before in
+    let at-start = at-end .before in
+    let at-loop-test = at-start .before in
+    let at-loop = at-loop-test .before in
+    let start = at-loop .before .before .before in
+    omega (arith, end-later (now (start .args .text)) (at-loop .loop .at) (at-loop .loop .inv .within) (at-start .start .ensures) (at-end .end .ensures) (at-loop-test .loop-test .taken), at-loop-test .loop-test .taken)
+
+loop-again-3 : tie.Need-loop-again-3 Inv-loop μ-loop
+loop-again-3 c =
     let at-is-word = c .before in
     let at-end = at-is-word .before .before in
     let at-start = at-end .before in
     let at-loop = at-start .before .before in
     names-passed (at-loop .loop .inv) (at-start .start .ensures) (at-end .end .ensures) (at-is-word .is-word .ensures) (c .if1 .left)
 
-returns-2 : tie.Need-returns-2 Inv-loop μ-loop
-returns-2 c =
+returns : tie.Need-returns Inv-loop μ-loop
+returns c =
     let at-loop = c .before in
     names-all (at-loop .loop .inv) (c .loop-test .left)
 
@@ -131,7 +140,6 @@ read-names-spec =
     is-word-requires
     start-requires-2
     name-why-requires
-    returns
     cast-kinds
     mul-kinds
     element-write-kinds
@@ -140,4 +148,6 @@ read-names-spec =
     loop-again
     loop-less-2
     loop-again-2
-    returns-2)
+    loop-less-3
+    loop-again-3
+    returns)

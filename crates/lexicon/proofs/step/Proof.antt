@@ -1,6 +1,6 @@
 -- `lexicon::step` meets its contract.
 use denote.Ref.{now}
-use Rattle.lexicon.proofs.Steps.{kind-stored, mark-step, in-stage, any-names}
+use Rattle.lexicon.proofs.Steps.{kind-step, mark-step, in-stage, any-names}
 use borrow.Author.Needs.{needs}
 use Rattle.lexicon.proofs.step.Statement.{statement}
 use Rattle.lexicon.proofs.step.Tie as tie
@@ -8,8 +8,8 @@ use Rattle.lexicon.proofs.step.Tie as tie
 enum-told : tie.Need-enum-told
 enum-told c = c .match .keys1
 
-add-t12 : tie.Need-add-t12
-add-t12 c = search needs
+step-kind-requires : tie.Need-step-kind-requires
+step-kind-requires c κs = search needs
 
 enum-told-2 : tie.Need-enum-told-2
 enum-told-2 c = c .match .keys2
@@ -28,8 +28,9 @@ step-mark-requires c κs = search needs
 
 returns : tie.Need-returns
 returns c =
-    let start = c .before .before .before in
-    in-stage (c .enum-told .given .1) (kind-stored (now (start .args .text)) (start .args .c) (start .args .at) (start .pre .1) _)
+    let at-enum-told = c .before in
+    let start = at-enum-told .before .before .before in
+    in-stage (at-enum-told .enum-told .given .1) (kind-step (now (start .args .text)) (start .args .c) (start .args .at) (start .pre .1) (now (start .args .kinds)) (start .args .k) (start .pre .0 .2) (c .step-kind .ensures))
 
 returns-2 : tie.Need-returns-2
 returns-2 c =
@@ -52,7 +53,7 @@ step-spec =
     tie.close
     (tie.spec
     enum-told
-    add-t12
+    step-kind-requires
     enum-told-2
     step-word-requires
     enum-told-3

@@ -1,0 +1,2 @@
+-- What the contracts of notes cite.
+pub mod Notes
