@@ -1,6 +1,5 @@
 -- Names: the names of the kinds, one `kind` after the other.
 --
---   tokensOf l                 the tokens of lexemes
 --   NamesTo b kinds k at       the first k names are gathered off the text before the offset at
 --   names-suc                  one name more in a table
 --   names-none, -passed, -more, -other, -all     nothing is read; a token is passed, names one more kind, or none; the text ends
@@ -17,17 +16,15 @@ use lib.Seq.{take-suc-set}
 use borrow.Author.Tests.{ltb-true, ltb-false}
 use Rattle.wire.specs.Vocabulary.{mostKinds}
 use Rattle.wire.proofs.Cond.{cond-true, cond-false}
-use Rattle.texts.specs.Lexemes.{Token, Lexeme, tokenSize, tokens, lexemesFrom, tokenAt}
+use Rattle.texts.specs.Lexemes.{Token, tokenSize, tokens, lexemesFrom, tokenAt}
 use Rattle.texts.specs.Names.{same, kindWord, nameAt}
 use Rattle.texts.specs.LexiconReading.{withName, namesFrom, kindNameWhy}
 use Rattle.texts.specs.Tabled.{namesIn}
+use Rattle.texts.specs.Laws.{tokensOf}
 use Rattle.texts.proofs.Scanning.{lexemes-end, lexemes-whole}
 use Rattle.lexicon.specs.Answers.{KindsKnown}
 use Rattle.texts.proofs.Fronts.{start, behindFront, front, behind-inside, behind-end, some-inside, end-inside}
 use Rattle.lexicon.proofs.Whys.{names-length, name-sound}
-
-abbrev pub tokensOf : List Lexeme → List Token
-tokensOf l = map (λ (x : Lexeme). x .token) l
 
 pub record NamesTo (b kinds : List ℕ) (k at : ℕ) : Type 0 where
   pub within : at ≤ length b

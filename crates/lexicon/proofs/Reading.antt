@@ -22,6 +22,7 @@ use Rattle.texts.specs.Faults.{parsed}
 use Rattle.texts.specs.LexiconReading as reading
 use Rattle.texts.specs.LexiconReading.{Declaring, beginning, namesFrom, readRows, readLexicon, step}
 use Rattle.texts.specs.Tabled.{namesIn}
+use Rattle.texts.specs.Laws.{tokensOf}
 use Rattle.texts.proofs.Scanning.{token-none, lexemes-whole}
 use Rattle.texts.proofs.Gathering.{Coming, naming}
 use Rattle.texts.proofs.Begun.{coming-few, coming-step}
@@ -38,7 +39,6 @@ use Rattle.lexicon.specs.Answers.{KindsKnown, endedOf, LexiconPromise}
 use Rattle.lexicon.proofs.Whys.{names-length}
 use Rattle.texts.proofs.Fronts.{start, behindFront, frontOf, front, behind-inside, end-inside, end-behind}
 use Rattle.lexicon.proofs.Rows.{rows-of, words-rows}
-use Rattle.lexicon.proofs.Names.{tokensOf}
 
 module _ (b kinds : List ℕ) (k : ℕ) where
   abbrev pub kindNames : List Token

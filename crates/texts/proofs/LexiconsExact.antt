@@ -454,12 +454,12 @@ some-kind (x ∷ X) h = omega arith
 
 -- ---- kinds without words, behind the others
 
-bare-names : (X : Lexicon) (us : List Token) → kindNames (X ++ bareKinds us) ≡ kindNames X ++ us
+pub bare-names : (X : Lexicon) (us : List Token) → kindNames (X ++ bareKinds us) ≡ kindNames X ++ us
 bare-names [] [] = refl
 bare-names [] (u ∷ us) = ap (λ (vs : List Token). u ∷ vs) (bare-names [] us)
 bare-names (x ∷ X) us = ap (λ (vs : List Token). x .name ∷ vs) (bare-names X us)
 
-bare-words : (X : Lexicon) (us : List Token) → allWords (X ++ bareKinds us) ≡ allWords X
+pub bare-words : (X : Lexicon) (us : List Token) → allWords (X ++ bareKinds us) ≡ allWords X
 bare-words [] [] = refl
 bare-words [] (u ∷ us) = bare-words [] us
 bare-words (x ∷ X) us = ap (λ (ws : List WordText). x .words ++ ws) (bare-words X us)

@@ -17,7 +17,7 @@
 --   files-are-exact             .. and what is read is a file that it is a text of
 --   vocabularies-are-read       the vocabulary that is read is the one that the lexicon stands for
 --   kinds-are-gathered          the names of kinds that are gathered are those of the kinds that a text names
---   lexicon-faults-are-first    a fault of a vocabulary is at the first byte at fault, but for too many kinds, words and places
+--   lexicon-faults-are-first    a fault of a vocabulary is at the first byte at fault; a kind, word or place too many where it stands
 --   lexicons-are-spelled        a vocabulary in words spells its tokens
 --   lexicon-is-one              two good vocabularies with the same tokens are one
 --   text-is-one                 a text is a text of one file alone

@@ -33,8 +33,9 @@
 --   kindsNamed us           the kinds that a text names: the first 16 different ones behind each `kind`
 --   KindsAreGathered        these are the names of kinds that are gathered
 --   KindNameFault K l q     the lexeme at offset q is the first at fault, and no name that a kind may have there
+--   GoodBefore K us         something good begins with the tokens us, but for the last of them
 --   LexiconFault K l q      the lexeme at offset q is the first at fault in a vocabulary, where K are the kinds that the text names
---   LexiconFaultsAreFirst   a fault of a vocabulary is at the first byte at fault, but for too many kinds, words and places
+--   LexiconFaultsAreFirst   a fault of a vocabulary is at the first byte at fault; a kind, word or place too many where it stands
 --   LexiconsAreSpelled      a vocabulary in words spells its tokens
 --   LexiconIsOne            two good vocabularies with the same tokens are one
 --   TextIsOne               a text is a text of one file alone
@@ -321,7 +322,7 @@ kindsNamed us = take mostKinds (firstOnes [] (keep mayBeNamed (namesBehind us)))
 abbrev pub KindsAreGathered : Type 0
 KindsAreGathered = (us : List Token) → namesFrom [] us ≡ kindsNamed us
 
--- The last token before the lexeme at offset q is `kind`. Something sound whose kinds are K begins with the tokens before that, and
+-- The last token before the lexeme at offset q is `kind`. Something good whose kinds are K begins with the tokens before that, and
 -- something sound with `kind` behind them. The lexeme's own token may not follow the names of kinds among them: it is no name, too long,
 -- one of them, or one too many.
 pub record KindNameFault (K : List Token) (l : List Lexeme) (q : ℕ) : Type 0 where
@@ -332,19 +333,28 @@ pub record KindNameFault (K : List Token) (l : List Lexeme) (q : ℕ) : Type 0 w
   pub place : here .at ≡ q
   pub declared : List Token
   pub due : tokensOf before ≡ declared ++ (kindWord ∷ [])
-  pub soFar : (more : List Token) × LexiconFirst SoundLexicon K (declared ++ more)
+  pub soFar : (more : List Token) × LexiconFirst GoodLexicon K (declared ++ more)
   pub another : (more : List Token) × LexiconFirst SoundLexicon [] (declared ++ (kindWord ∷ more))
   pub wrong : (isIdentifier (here .token) ≡ false) ⊎
       ((mostName < length (here .token)) ⊎
       ((indexIn (here .token) (namesBehind declared) < length (namesBehind declared)) ⊎ (length (namesBehind declared) ≡ mostKinds)))
 
--- Something sound whose kinds are K begins with the tokens before the fault. A name that is none of K is at fault where a place's kind is
--- due, as nothing good with these kinds goes on so; elsewhere nothing good at all does.
+-- Something good whose kinds are K begins with the tokens us, but for the last of them: so no limit is passed among them.
+pub record GoodBefore (K us : List Token) : Type 0 where
+  pub init : List Token
+  pub last : List Token
+  pub tokens : us ≡ init ++ last
+  pub one : length last ≤ 1
+  pub good : (more : List Token) × LexiconFirst GoodLexicon K (init ++ more)
+
+-- Something sound whose kinds are K begins with the tokens before the fault, and something good but for the last of them. A name that is
+-- none of K is at fault where a place's kind is due, as nothing good with these kinds goes on so; elsewhere nothing good at all does.
 pub data LexiconFault (K : List Token) (l : List Lexeme) (q : ℕ) : Type 0 where
   inName : KindNameFault K l q → LexiconFault K l q
-  inPlace : (f : FirstFaultIn (LexiconFirst SoundLexicon K) (LexiconFirst GoodLexicon K) l q) → isIdentifier (f .here .token) ≡ true →
-      indexIn (f .here .token) K ≡ length K → LexiconFault K l q
-  inRest : FirstFaultIn (LexiconFirst SoundLexicon K) (LexiconFirst GoodLexicon []) l q → LexiconFault K l q
+  inPlace : (f : FirstFaultIn (LexiconFirst SoundLexicon K) (LexiconFirst GoodLexicon K) l q) → GoodBefore K (tokensOf (f .before)) →
+      isIdentifier (f .here .token) ≡ true → indexIn (f .here .token) K ≡ length K → LexiconFault K l q
+  inRest : (f : FirstFaultIn (LexiconFirst SoundLexicon K) (LexiconFirst GoodLexicon []) l q) → GoodBefore K (tokensOf (f .before)) →
+      LexiconFault K l q
 
 abbrev pub LexiconFaultsAreFirst : Type 0
 LexiconFaultsAreFirst =
