@@ -1,5 +1,7 @@
 // What the desk prints for a text: the leftovers of each of its patterns in words and the answers to what they are asked, which kinds
 // have no complete situation, and the leftovers of all patterns of a kind together; or the text's first fault.
+#![tactic(auto)]
+
 ghost use Rattle.std.specs.Prelude.{◌≡◌, ◌++◌, ◌-◌, ◌≤◌, ltb, length, take, replicate};
 ghost use Rattle.texts.specs.Desk.{DeskPromise};
 ghost use Rattle.answers.specs.Asked.{LexiconKnown, AnswersWhole};

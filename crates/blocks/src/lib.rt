@@ -1,4 +1,6 @@
 // What the desk prints for a pattern: the pattern as it was read, and its leftovers in words.
+#![tactic(auto)]
+
 ghost use Rattle.std.specs.Prelude.{◌≡◌, List, ◌++◌, length};
 ghost use Rattle.wire.specs.Row.{write_row};
 ghost use Rattle.wire.specs.EntryCut.{cut_entries};

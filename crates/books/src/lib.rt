@@ -1,4 +1,6 @@
 // Document 02's call list_book: the leftovers of a whole book.
+#![tactic(auto)]
+
 ghost use Rattle.std.specs.Prelude.{◌≡◌, ◌≤◌, length};
 ghost use Rattle.wire.specs.BookLeftovers.{most_listed, BookPromise};
 ghost use Rattle.books.specs.Turning.{turn_numbers, BookAt, ReadAt, ListsIn};

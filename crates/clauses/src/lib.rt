@@ -1,4 +1,6 @@
 // Terms in words, read off a text: their bytes and the offsets of their variables, or what is wrong and where.
+#![tactic(auto)]
+
 ghost use Rattle.std.specs.Prelude.{◌≡◌, ◌+◌, ◌≤◌, ◌<◌, ◌*◌, length, get_or, set, take, true, false};
 ghost use Rattle.wire.specs.TermBytes.{most_bytes};
 ghost use Rattle.wire.specs.Vocabulary.{most_words};

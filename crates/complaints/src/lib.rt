@@ -1,4 +1,6 @@
 // A fault of a text, told to people: line and column, what is wrong, the line, and a mark under the place.
+#![tactic(auto)]
+
 ghost use Rattle.std.specs.Prelude.{◌≡◌, ◌||◌, ◌&&◌, eqb};
 ghost use Rattle.wire.specs.Row.{write_row};
 ghost use Rattle.texts.specs.Lexemes.{lexemes_from, token_at};

@@ -1,4 +1,6 @@
 // Document 01's call list: the leftovers of a pattern.
+#![tactic(auto)]
+
 ghost use Rattle.std.specs.Prelude.{◌≡◌, ◌∷◌, ◌++◌, ◌+◌, ◌≤◌, ◌<◌, ◌%◌, ◌^◌, suc, length, get_or, take, drop};
 ghost use Rattle.wire.specs.Map.{map_bits, map_bytes, write_map};
 ghost use Rattle.wire.specs.Leftovers.{ListPromise};

@@ -1,11 +1,13 @@
 // Where the reading of a term stands: a cursor by value, whose methods take it and give it back.
+#![tactic(auto)]
+
 ghost use Rattle.std.specs.Prelude.{◌≡◌, ◌+◌, ◌-◌, ◌<◌, max, true};
 ghost use Rattle.cursors.specs.Cursors.{gaps_after, gaps_short, complete_in, gap_shown, short_in, started, past_leaf, past_word, went_down, went_up, at_frame};
 
 // The offset of the next byte, the words so far, the deepest level that was due so far, the first gap, below how many words the
 // next place is due, and what is due of the last of them. The gap is packed: twice its offset, one more if a map was short, and
 // all bits while the term is complete. So a cursor has six numbers, and reading full words leaves this one alone.
-#[derive(Drop)]
+#[derive(Clone, Copy)]
 pub struct Cursor {
     pub at: usize,
     pub words: usize,

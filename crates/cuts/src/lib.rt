@@ -1,5 +1,7 @@
 // An entry's leftovers against a pattern that it shares situations with: document 02 (ii), "replaced by its own leftovers
 // against the pattern".
+#![tactic(auto)]
+
 ghost use Rattle.std.specs.Prelude.{◌≡◌, cond, length};
 ghost use Rattle.cuts.specs.Walking.{OutOfReach};
 ghost use Rattle.cuts.specs.Calls.{CutsEntry};

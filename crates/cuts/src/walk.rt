@@ -9,7 +9,7 @@ use crate::own::{Step, Walk};
 
 // The places of a word that are still to be passed: the word's offset in the copy, the map of the places below at which the copy
 // has a term, the bit of the next place, and the bits of the entry's map and of the pattern's from there on.
-#[derive(Drop)]
+#[derive(Clone, Copy)]
 struct Bits {
     top: usize,
     low: usize,

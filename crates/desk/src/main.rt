@@ -1,5 +1,7 @@
 // The program `desk`: takes a text of a vocabulary and patterns in words from standard input, or from the file that its argument
 // names, and prints the leftovers of each pattern. What cannot be opened, read or written is told in a line on the error output.
+#![tactic(auto)]
+
 use intake::Taken;
 use libc::{STDERR_FILENO, STDIN_FILENO, STDOUT_FILENO};
 

@@ -1,4 +1,6 @@
 // What is due at a place of a text, told to people: the words of a kind, or the places of a word.
+#![tactic(auto)]
+
 ghost use Rattle.std.specs.Prelude.{◌≡◌, ◌||◌, [], map, eqb, length, get_or, take, ◌*◌, ◌<◌, ◌≤◌, min};
 ghost use Rattle.terms.specs.Lists.{range};
 ghost use Rattle.texts.specs.Lexemes.{lexemes_from, token_at};

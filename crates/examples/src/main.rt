@@ -1,5 +1,7 @@
 // Reads cases from standard input, makes the call that each asks for, and prints a line a case: its label, and the
 // reply in document 01's numbers. The file `stdin` beside src/ has the cases; tools/expected.py says what they give.
+#![tactic(auto)]
+
 mod book_line;
 mod cases;
 mod desk_line;

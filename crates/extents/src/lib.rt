@@ -1,4 +1,6 @@
 // What stands at an offset of some bytes, and where a term ends, by its bytes alone.
+#![tactic(auto)]
+
 ghost use Rattle.std.specs.Prelude.{◌≡◌, ◌+◌, ◌<◌, ◌≤◌, min, length, drop};
 ghost use Rattle.std.specs.Int.Count.{ones};
 ghost use Rattle.wire.specs.EntryCut.{due_size, entry_size};

@@ -6,7 +6,7 @@ ghost use Rattle.std.specs.Prelude.{◌≡◌, ◌<◌, length};
 
 // Where a term begins: its offset and its address, with 1 for the root and three bits for each place. Of
 // each word above it `left` has the written places that are still to come, eight bits a word.
-#[derive(Drop)]
+#[derive(Clone, Copy)]
 struct Spot {
     at: usize,
     address: u64,

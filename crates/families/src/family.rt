@@ -19,7 +19,7 @@ struct Tally {
 }
 
 // The first n bytes of an array.
-#[derive(Drop)]
+#[derive(Clone, Copy)]
 struct Term {
     bytes: [u8; 16],
     n: usize,

@@ -1,4 +1,6 @@
 // What the desk prints for a text that is in order: its paragraphs, what stands behind them, and the last line.
+#![tactic(auto)]
+
 ghost use Rattle.std.specs.Prelude.{◌≡◌};
 ghost use Rattle.paragraphs.specs.Paragraphs.{places_table};
 ghost use Rattle.files.specs.Puts.{PutsFile};

@@ -1,4 +1,6 @@
 // Document 02's call fill: the pattern with each name replaced.
+#![tactic(auto)]
+
 ghost use Rattle.wire.specs.Effect.{HasEffect};
 ghost use Rattle.wire.specs.Filled.{FillPromise};
 ghost use Rattle.wire.specs.FillComputed.{filled};

@@ -1,5 +1,7 @@
 // The places of a word that are due, packed into a number: those that follow each other in a run, a bit for each, the
 // offset in the vocabulary of the first one's kind, and the written map and the place map of those behind the run.
+#![tactic(auto)]
+
 ghost use Rattle.std.specs.Prelude.{◌≡◌, ◌-◌, ◌%◌, ◌<◌, ◌≤◌};
 ghost use Rattle.frames.specs.Frames.{run_in, kinds_in, written_in, places_in, Behind, Advanced, WordFrame};
 

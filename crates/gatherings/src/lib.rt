@@ -1,4 +1,6 @@
 // The patterns of a kind among the paragraphs of a text, gathered as the bytes of a book.
+#![tactic(auto)]
+
 ghost use Rattle.std.specs.Prelude.{◌≡◌, true, false, ◌+◌, ◌<◌, ◌≤◌, length};
 ghost use Rattle.gatherings.specs.Courses.{Readable};
 ghost use Rattle.gatherings.specs.Gathering.{most_book, ReadsOne, Sized, Appends, Keeps, GathersRow, Seals, Gathers};

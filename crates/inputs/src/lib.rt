@@ -1,4 +1,6 @@
 // Document 01's judging of the inputs of match.
+#![tactic(auto)]
+
 ghost use Rattle.std.specs.Prelude.{◌≡◌, get_or};
 ghost use Rattle.inputs.specs.Judged.{InputsJudged};
 

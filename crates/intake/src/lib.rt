@@ -1,4 +1,6 @@
 // Reading an input. A read that fails is told apart from the end, which `io::read_full` does not do.
+#![tactic(auto)]
+
 ghost use Rattle.intake.specs.Input.{Within};
 
 // How many bytes came, or that some could not be read.

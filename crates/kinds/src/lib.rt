@@ -1,5 +1,7 @@
 // The words of each result kind, by a table of the words' result kinds: counted, chained one to the next, and both
 // in one table.
+#![tactic(auto)]
+
 ghost use Rattle.std.specs.Prelude.{◌≡◌, [], ◌<◌, ◌%◌, min};
 ghost use Rattle.wire.specs.Vocabulary.{most_kinds, most_words};
 ghost use Rattle.kinds.specs.Kinds.{Tallied, Chained, SiblingTable};

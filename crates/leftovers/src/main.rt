@@ -1,5 +1,7 @@
 // Document 01's program `leftovers`: takes the first 65,536 bytes of standard input, and prints the text for them.
 // An input that cannot be read, or a text that cannot be written whole, is told in a line on the error output.
+#![tactic(auto)]
+
 use intake::Taken;
 use libc::{STDERR_FILENO, STDIN_FILENO, STDOUT_FILENO};
 

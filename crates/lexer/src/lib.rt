@@ -1,4 +1,6 @@
 // The tokens of a text, by the offsets at which they begin: where they end, which ones they are, and which are the same.
+#![tactic(auto)]
+
 ghost use Rattle.std.specs.Prelude.{◌≡◌, not, ◌∷◌, [], map, ◌+◌, take, drop};
 ghost use Rattle.wire.specs.Reply.{outside};
 ghost use Rattle.texts.specs.Lexemes.{is_blank, is_name_byte, is_run, blanks, run_size, token_size, token_at};

@@ -1,4 +1,6 @@
 // A vocabulary in words, read off a text into tables: the offsets of the names, and a record of ten bytes for each word.
+#![tactic(auto)]
+
 ghost use Rattle.std.specs.Prelude.{◌≡◌, ◌-◌, ◌<◌, ◌≤◌, length, take, set};
 ghost use Rattle.wire.specs.Vocabulary.{most_kinds, most_words};
 ghost use Rattle.texts.specs.Lexemes.{token_at};

@@ -1,4 +1,6 @@
 // The lines of a text, and the columns of a line: where a place stands, as people count.
+#![tactic(auto)]
+
 ghost use Rattle.std.specs.Prelude.{◌≡◌, suc, take, drop};
 ghost use Rattle.texts.specs.Complaints.{newlines, line_start, follows, columns, line_size};
 ghost use Rattle.lines.specs.Lines.{line_of};

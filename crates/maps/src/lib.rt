@@ -1,4 +1,6 @@
 // The width of place maps and written maps in bytes, which the code has here and nowhere else, and how many bits of a map stand.
+#![tactic(auto)]
+
 ghost use Rattle.std.specs.Prelude.{◌≡◌};
 ghost use Rattle.wire.specs.Map.{flags, ones};
 ghost use Rattle.maps.specs.Reading.{map_at};

@@ -1,4 +1,6 @@
 // For each subterm of a pattern its size and the number of its entries, noted once.
+#![tactic(auto)]
+
 ghost use Rattle.std.specs.Prelude.{◌≡◌, ◌+◌, ◌*◌, ◌≤◌, ◌<◌, min, length, set};
 ghost use Rattle.wire.specs.TermBytes.{most_bytes};
 ghost use Rattle.extents.specs.Bytes.{Small};

@@ -1,4 +1,6 @@
 // Document 01's calls match and part.
+#![tactic(auto)]
+
 ghost use Rattle.std.specs.Prelude.{◌≡◌, ◌<◌, ◌≤◌, length};
 ghost use Rattle.wire.specs.Matching.{MatchPromise, PartPromise};
 ghost use Rattle.wire.specs.Effect.{HasEffect};

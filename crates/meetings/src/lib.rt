@@ -1,4 +1,6 @@
 // Whether an entry and a pattern share a situation, and by how many entries the entry is then replaced.
+#![tactic(auto)]
+
 ghost use Rattle.std.specs.Prelude.{◌≡◌, ◌+◌, ◌≤◌, ◌<◌, min, eqb, length, get_or};
 ghost use Rattle.meetings.specs.Passing.{passed_if};
 ghost use Rattle.meetings.specs.Walking.{meet_term, meet_word, meeting};

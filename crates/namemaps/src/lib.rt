@@ -1,4 +1,6 @@
 // The bit map of names at the front of a filling file, compared with the names of a pattern.
+#![tactic(auto)]
+
 ghost use Rattle.std.specs.Prelude.{◌≡◌, map, ◌+◌, ◌≤◌, ◌<◌};
 ghost use Rattle.terms.specs.Lists.{range};
 ghost use Rattle.wire.specs.Map.{bit, number};

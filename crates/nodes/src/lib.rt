@@ -1,4 +1,6 @@
 // Nodes compared: a word's byte and its map.
+#![tactic(auto)]
+
 ghost use Rattle.std.specs.Prelude.{◌≡◌, ◌≤◌, min, length};
 ghost use Rattle.slices.specs.Equal.{Equal};
 ghost use Rattle.nodes.specs.Same.{SameNodes, SharedFront};

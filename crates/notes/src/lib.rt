@@ -1,4 +1,6 @@
 // What the desk says of a kind that no complete situation has.
+#![tactic(auto)]
+
 ghost use Rattle.std.specs.Prelude.{◌≡◌};
 ghost use Rattle.notes.specs.Notes.{EmptyTold, PutsNote};
 

@@ -1,5 +1,7 @@
 // The numbers of the papers' replies. Accepted: 0 and the values, 0 where there is none. Refused: number, input
 // and place, and 0 behind them.
+#![tactic(auto)]
+
 ghost use Rattle.std.specs.Prelude.{◌≡◌, [], ◌∷◌};
 ghost use Rattle.wire.specs.Reply.{accepted as Reply·accepted, refused as Reply·refused};
 ghost use Rattle.wire.specs.Map.{bit};

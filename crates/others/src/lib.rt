@@ -1,4 +1,6 @@
 // An entry for each other word of a kind.
+#![tactic(auto)]
+
 ghost use Rattle.std.specs.Prelude.{◌≡◌, ◌+◌, ◌%◌, ◌≤◌, ◌<◌, length, get_or, take};
 ghost use Rattle.wire.specs.Map.{map_bytes};
 ghost use Rattle.slices.specs.Written.{Written};

@@ -1,5 +1,7 @@
 // The text of an answer, put piece by piece on a page that the caller lends. What has no room makes the page full, and full it
 // stays.
+#![tactic(auto)]
+
 ghost use Rattle.std.specs.Prelude.{◌≡◌, length};
 ghost use Rattle.wire.specs.Text.{decimal};
 ghost use Rattle.pages.specs.Pages.{Adds};

@@ -1,5 +1,7 @@
 // The paragraphs of a text: how many there are, and what is printed for each: the leftovers of its pattern, and the answers to what it
 // is asked.
+#![tactic(auto)]
+
 ghost use Rattle.std.specs.Prelude.{◌≡◌, true, false, List, ◌≤◌, length, take};
 ghost use Rattle.gatherings.specs.Courses.{Readable};
 ghost use Rattle.paragraphs.specs.Paragraphs.{Checks, ReadsParagraph, PutsPhrase, BehindAsking, PutsQuestions, PutsParagraph, PutsBlocks};

@@ -1,4 +1,6 @@
 // The calls of the papers for other languages: each answers in the numbers of the crate `numbers`.
+#![tactic(auto)]
+
 ghost use Rattle.std.specs.Prelude.{◌≡◌};
 ghost use Rattle.wire.specs.Effect.{HasEffect};
 ghost use Rattle.wire.specs.CheckComputed.{vocabulary_reply, term_reply};

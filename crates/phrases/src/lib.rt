@@ -1,4 +1,6 @@
 // Patterns in words, read off a text: the bytes of the pattern and the offsets of its variables, or what is wrong and where.
+#![tactic(auto)]
+
 ghost use Rattle.std.specs.Prelude.{◌≡◌, ◌≤◌, length};
 ghost use Rattle.wire.specs.TermBytes.{most_bytes};
 ghost use Rattle.wire.specs.Vocabulary.{most_kinds, most_words};

@@ -1,5 +1,7 @@
 // The pieces of what the program `leftovers` reads and prints: the two parts of its standard input, and the digits of
 // a byte.
+#![tactic(auto)]
+
 ghost use Rattle.std.specs.Prelude.{◌≡◌, ◌+◌, ◌-◌, ◌/◌, ◌%◌, ◌<◌, min, length, take};
 ghost use Rattle.wire.specs.Text.{digit as Text·digit};
 ghost use Rattle.wire.specs.Printing.{most_input, vocabulary_length, vocabulary_part, pattern_part};

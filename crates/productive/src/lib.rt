@@ -1,5 +1,7 @@
 // Which words and kinds complete situations have, by the table of the words' settled result kinds: a word that no complete
 // situation has is settled to the lowest kind without any, `empty`.
+#![tactic(auto)]
+
 ghost use Rattle.std.specs.Prelude.{◌≡◌, min};
 ghost use Rattle.productive.specs.Tests.{fruitful_in, inhabited_in};
 

@@ -1,4 +1,6 @@
 // Questions in words, read off a text: how far they go, or what is wrong and where.
+#![tactic(auto)]
+
 ghost use Rattle.std.specs.Prelude.{◌≡◌};
 ghost use Rattle.texts.specs.Lexemes.{lexemes_from, token_at};
 ghost use Rattle.texts.specs.QuestionReading.{is_open, open_before, begins_question};

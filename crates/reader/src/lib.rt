@@ -1,4 +1,6 @@
 // Document 01's check of a term, and the reading of several inputs under one loading of a vocabulary.
+#![tactic(auto)]
+
 ghost use Rattle.std.specs.Prelude.{◌≡◌};
 ghost use Rattle.wire.specs.Checking.{TermPromise};
 ghost use Rattle.wire.specs.CheckComputed.{term_reply};

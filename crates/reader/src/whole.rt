@@ -10,7 +10,7 @@ use crate::term::Reading;
 
 // What reading a term tells of it: its words, its deepest level, whether it is complete and the offset of its first gap, its
 // length where it has none, and whether a map in it is short.
-#[derive(Drop)]
+#[derive(Clone, Copy)]
 pub struct Extent {
     pub words: usize,
     pub deepest: usize,

@@ -1,4 +1,6 @@
 // Names that stand twice in a pattern.
+#![tactic(auto)]
+
 ghost use Rattle.std.specs.Prelude.{◌≡◌};
 ghost use Rattle.repeats.specs.FirstRepeat.{first_repeat, repeat_of};
 

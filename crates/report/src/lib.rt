@@ -1,4 +1,6 @@
 // The text that document 01's program `leftovers` prints for its standard input.
+#![tactic(auto)]
+
 ghost use Rattle.std.specs.Prelude.{◌≡◌, [], ◌∷◌, ◌++◌, ◌+◌, ◌≤◌, length, take};
 ghost use Rattle.wire.specs.Text.{decimal, hexadecimal};
 ghost use Rattle.wire.specs.Printing.{entry_lines, refusal_text, entry_line};

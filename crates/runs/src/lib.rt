@@ -1,4 +1,6 @@
 // How far a pattern and a situation are the same, by their bytes alone, which may be any. A byte from 128 on is no word.
+#![tactic(auto)]
+
 ghost use Rattle.std.specs.Prelude.{◌≡◌, true, ◌+◌, ◌-◌, ◌%◌, ◌≤◌, min, length};
 ghost use Rattle.wire.specs.Map.{map_bytes};
 ghost use Rattle.runs.specs.Alike.{Alike};

@@ -1,5 +1,7 @@
 // Document 01's check of a vocabulary, its records in tables: offsets, result kinds, place maps and numbers of places, and which
 // kinds have complete situations.
+#![tactic(auto)]
+
 ghost use Rattle.std.specs.Prelude.{◌≡◌, ◌+◌, ◌<◌, ◌≤◌, length, get_or};
 ghost use Rattle.wire.specs.Checking.{VocabularyPromise};
 ghost use Rattle.wire.specs.CheckComputed.{vocabulary_reply};
@@ -34,7 +36,7 @@ enum WordRead {
 }
 
 // The lowest kind without complete situations, where there is one.
-#[derive(Drop)]
+#[derive(Clone, Copy)]
 pub enum Missing {
     Kind(usize),
     Nothing,

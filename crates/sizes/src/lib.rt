@@ -1,4 +1,6 @@
 // How large a listing is, by the bytes of its pattern.
+#![tactic(auto)]
+
 ghost use Rattle.std.specs.Prelude.{◌≡◌, ◌≤◌, ◌<◌, min, length};
 ghost use Rattle.kinds.specs.Kinds.{others_in, Tallied};
 ghost use Rattle.sizes.specs.Sizes.{Summed, Measured};

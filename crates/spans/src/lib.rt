@@ -1,4 +1,6 @@
 // The part of a situation that each name of a pattern covers.
+#![tactic(auto)]
+
 ghost use Rattle.std.specs.Prelude.{◌≡◌, ◌+◌, ◌*◌, ◌/◌, ◌<◌, ◌≤◌, length, get_or, replicate};
 ghost use Rattle.std.specs.Int.Count.{ones};
 ghost use Rattle.wire.specs.Effect.{HasEffect};

@@ -1,4 +1,6 @@
 // What the entries of an area leave against one pattern.
+#![tactic(auto)]
+
 ghost use Rattle.std.specs.Prelude.{◌≤◌, ◌<◌, length};
 ghost use Rattle.strikes.specs.Calls.{StrikesArea};
 ghost use Rattle.strikes.specs.Striking.{Keeps, StrikesEntry, EntryEnds, StrikesNoted};

@@ -1,4 +1,6 @@
 // What the desk says of each kind without complete situations, and prints for all patterns of a kind together, kind by kind.
+#![tactic(auto)]
+
 ghost use Rattle.std.specs.Prelude.{◌≡◌, ◌≤◌, length, take};
 ghost use Rattle.tails.specs.Tails.{PutsKind, PutsTails};
 

@@ -1,5 +1,7 @@
 // One pattern of a book against an area of entries, where kinds may have no complete situation: a pattern that no situation
 // fits leaves the entries as they are. The tables are those of the words' settled result kinds and of their siblings by these.
+#![tactic(auto)]
+
 ghost use Rattle.std.specs.Prelude.{◌≡◌, length};
 ghost use Rattle.takes.specs.Told.{fruitful_by, whole_count};
 ghost use Rattle.takes.specs.Taking.{LeavesArea, TakesPattern};

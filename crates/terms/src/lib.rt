@@ -1,1 +1,2 @@
 // The theory of terms: specs/ and proofs/ alone, no code.
+#![tactic(auto)]

@@ -128,7 +128,9 @@ tokens-text (u ∷ us) = ap (λ (t : List Token). u ∷ t) (tokens-text us)
 pub stuck-bad : (K : List Token) (y : Declaring) (u : Token) (us : List Token) (l : List Lexeme) → Stuck y (step K y u) → tokens_of l ≡ u ∷ us →
     (f : Fault) × (read_rows K y l ≡ bad f)
 stuck-bad K y u us [] s e = let z : ◌≡◌ {A = ℕ} 0 1 = cc in absurd (omega arith)
-stuck-bad K y u us (c ∷ l) s e = go (step K y c.token) (subst (λ v. Stuck y (step K y v)) (cc) s)
+stuck-bad K y u us (c ∷ l) s e =
+    let same : u ≡ c.token = cc in
+    go (step K y c.token) (subst (λ v. Stuck y (step K y v)) same s)
   where
     go : (s : Stepped) → Stuck y s → (f : Fault) × (stepped (λ z. read_rows K z l) K y (c ∷ l) s ≡ bad f)
     go (on z) s = absurd s

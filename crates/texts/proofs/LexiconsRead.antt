@@ -73,7 +73,8 @@ rows-walk K [] vs x y l e t =
     (ap (λ z. read_rows K z l) h, t)
 rows-walk K (u ∷ us) vs x y [] e t = let z : ◌≡◌ {A = ℕ} 0 1 = cc in absurd (omega arith)
 rows-walk K (u ∷ us) vs x y (b ∷ l) e t =
-    go (step K x b.token) (λ z e. rows-walk K us vs z y l e (cc)) (subst (λ v. and_on (step K x v) (λ z. walk K z us) ≡ on y) (cc) e)
+    let same : u ≡ b.token = cc in
+    go (step K x b.token) (λ z e. rows-walk K us vs z y l e (cc)) (subst (λ v. and_on (step K x v) (λ z. walk K z us) ≡ on y) same e)
   where
     Goal : Parsed LexiconRead → Type 0
     Goal g = (g ≡ read_rows K y (drop (length us) l)) × (tokens_of (drop (length us) l) ≡ vs)

@@ -1,1 +1,2 @@
 // Vocabularies, patterns and leftovers in the engineers' own words: specs/ and proofs/ alone, no code.
+#![tactic(auto)]

@@ -1,4 +1,6 @@
 // What the desk prints for all patterns of a kind together: the leftovers of their book in words.
+#![tactic(auto)]
+
 ghost use Rattle.std.specs.Prelude.{map, replicate};
 ghost use Rattle.texts.specs.Lexemes.{token_at};
 ghost use Rattle.pages.specs.Pages.{Adds};

@@ -1,5 +1,7 @@
 // What is printed for a question: the situation that is asked about, and yes, with what each variable covers, or no, below the
 // first word that differs. Pattern and situation stand in one text, and are walked over token by token, side by side.
+#![tactic(auto)]
+
 ghost use Rattle.std.specs.Prelude.{◌≡◌, ◌||◌, ◌<◌, suc, min, ltb, length, replicate};
 ghost use Rattle.texts.specs.Lexemes.{token_at};
 ghost use Rattle.texts.specs.Names.{same};

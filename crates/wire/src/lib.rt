@@ -1,1 +1,2 @@
 // How vocabularies and terms are written and read: specs/ and proofs/ alone, no code.
+#![tactic(auto)]

@@ -1,6 +1,8 @@
 // Patterns and entries in the engineers' own words.
 //
 // The tables hold the offsets of tokens in the text that was read: kinds, words and variables, and how many places each word has.
+#![tactic(auto)]
+
 ghost use Rattle.std.specs.Prelude.{◌≡◌, map, ◌%◌, get_or, drop};
 ghost use Rattle.wire.specs.Map.{read_map};
 ghost use Rattle.texts.specs.Lexemes.{token_at};
