@@ -1,0 +1,10 @@
+-- `reader::whole::read_front` meets its contract.
+use native.Mathlib.Omega.{arith}
+use Rattle.reader.proofs.Tables.{kind-count}
+use Rattle.reader.proofs.Told.{front_read}
+use Rattle.reader.proofs.whole.read_front.Goals as goal
+
+pub returns : goal.returns
+returns c = let a = c.args in
+    let kinds = kind-count c.requires.tables (λ i. (c.shared_slice_known-1.given i).fits) in
+    front_read a.v.now a.t.now c.read_term.new.names c.read_term.result c.if-t-lt2.false c.if-t-gt4096.false (omega (arith, kinds, c.if-v-kind.false)) c.requires.names_value c.read_term.ensures
