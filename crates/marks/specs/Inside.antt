@@ -3,7 +3,7 @@
 --   most_entries       a note has at most so many entries
 --   Notes             what is noted is right, and no more than there is room for
 --
-use Rattle.std.specs.Prelude.{◌≡◌, List, ℕ, ◌+◌, ◌-◌, ◌*◌, ◌<◌, ◌≤◌, length}
+use Rattle.std.specs.Prelude.{◌≡◌, List, ℕ, ◌+◌, ◌-◌, ◌*◌, ◌≤◌, length}
 use Rattle.marks.specs.Marking.{Marking, marking}
 
 abbrev pub most_entries : ℕ

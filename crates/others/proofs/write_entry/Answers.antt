@@ -1,0 +1,14 @@
+-- `others::write_entry` meets its contract.
+use native.Mathlib.Omega.{arith}
+use lib.ListN.{take}
+use lib.Seq.{length-take-le}
+use Rattle.others.proofs.Writing.{entry-written}
+use Rattle.others.proofs.write_entry.Goals as goal
+
+-- The entry is written.
+pub returns : goal.returns
+returns c =
+    let n = c.args.n in
+    let copy = c.args.copy.now in
+    entry-written (take n copy) c.args.out.now n c.args.word (length-take-le n copy (omega arith)) (omega arith)
+    c.copy.ensures c.args.tail.now (omega arith) c.copy-2.ensures
