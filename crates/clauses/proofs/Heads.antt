@@ -6,9 +6,9 @@
 --   head_open, head-variable, head-refused, head-word     a term, by what it begins with
 --
 use mathlib.Core.Path.{◌≡◌, refl, sym, ap, ap₂, subst, ◌∙◌}
-use mathlib.Core.Bool.{Bool, true, false, not, cond}
-use mathlib.Core.List.{List, [], ◌∷◌, ◌++◌, map, append-nil}
-use Prim.Native.Nat.{ℕ, zero, suc, ◌+◌, ◌-◌, ◌*◌, ◌<◌, ◌≤◌}
+use mathlib.Core.Bool.{Bool, true, false, cond}
+use mathlib.Core.List.{List, [], ◌∷◌, ◌++◌, append-nil}
+use Prim.Native.Nat.{ℕ, zero, suc, ◌+◌, ◌*◌, ◌<◌, ◌≤◌}
 use native.Mathlib.Numerals.{add-one}
 use native.Mathlib.Omega.{arith}
 use lib.Dec.{eqb, ltb, leb}
@@ -20,7 +20,7 @@ use Rattle.wire.specs.TermBytes.{name_byte, name_count, most_bytes}
 use Rattle.wire.proofs.Cond.{cond_true, cond_false}
 use Rattle.texts.specs.Lexemes.{Token, Lexeme, blanks, token_size, lexemes_from, token_at}
 use Rattle.texts.specs.Names.{same, opened, most_name, is_identifier, is_variable, index_in}
-use Rattle.texts.specs.Faults.{Parsed, parse_then, token, place}
+use Rattle.texts.specs.Faults.{Parsed, parse_then, token}
 use Rattle.texts.specs.PhraseReading.{TermRead, word_bytes, word_why, variable_why, read_behind, parse_word, read_variable, read_node}
 use Rattle.texts.specs.Tabled.{names_in, record_size, tabled_vocabulary}
 use Rattle.clauses.specs.Reading.{Within, Lent, Tables, seen_at, Reads, TermTo, word_reason, variable_reason, ReadsVariable, Below, word_read, HeadIs}

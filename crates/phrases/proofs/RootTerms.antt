@@ -9,7 +9,7 @@
 use mathlib.Core.Path.{◌≡◌, refl, sym, ap, ap₂, subst, ◌∙◌}
 use mathlib.Core.Bool.{Bool, true, false, not, ◌&&◌, cond}
 use mathlib.Core.List.{List, [], ◌∷◌, ◌++◌, map}
-use Prim.Native.Nat.{ℕ, zero, suc, ◌+◌, ◌-◌, ◌*◌, ◌<◌, ◌≤◌}
+use Prim.Native.Nat.{ℕ, zero, suc, ◌+◌, ◌*◌, ◌<◌, ◌≤◌}
 use native.Mathlib.Omega.{arith}
 use lib.Dec.{ltb}
 use lib.ListN.{length, get_or, take, drop, set, length-map, get_or-eq_default}
@@ -23,7 +23,7 @@ use Rattle.wire.specs.TermBytes.{encode_root, encode_at, name_count, most_bytes,
 use Rattle.wire.proofs.Cond.{choice, cond_true, cond_false}
 use Rattle.texts.specs.Lexemes.{Token, Lexeme, blanks, token_size, lexemes_from, token_at}
 use Rattle.texts.specs.Names.{same, opened, kind_word, begins_name, is_identifier, is_variable, index_in}
-use Rattle.texts.specs.Faults.{Parsed, parsed, bad, parse_then, token, place, rest, pattern_due}
+use Rattle.texts.specs.Faults.{Parsed, parsed, bad, parse_then, token, rest, pattern_due}
 use Rattle.texts.specs.PhraseReading.{Seen, TermRead, TermsRead, PhraseRead, phrase_read, fault_at, word_why, variable_why, read_behind, parse_word, read_variable, read_node, parse_term, read_root_kind, read_root}
 use Rattle.texts.specs.Tabled.{names_in, record_size, word_in, tabled_vocabulary}
 use Rattle.texts.proofs.Scanning.{token_none}
