@@ -5,11 +5,13 @@
 --   kind-fails, kind-begun       the answers of step_kind
 --   kind-step                    the name of a kind
 --   Unstored p                   the stages in which a token is not stored
+--   unstored                     those that are none of the three others
 --   mark-step                    a token that is not stored
 --   in_stage, any-names          a promise for a stage that is known, and for other names of kinds
 --   ended_none, ended_some       the answers of `ended`
 --
 use mathlib.Core.Path.{◌≡◌, refl, sym, ap, ap₂, subst, ◌∙◌}
+use mathlib.Core.Logic.{inl, inr}
 use mathlib.Core.Bool.{Bool, true, false, cond}
 use mathlib.Core.List.{List, [], ◌∷◌, map}
 use Prim.Native.Nat.{ℕ, zero, suc, ◌+◌, ◌<◌, ◌≤◌, ◌-◌}
@@ -45,6 +47,16 @@ use Rattle.lexicon.proofs.Rows.{rows-front, rows_of, begun_row, begun-front, pla
 -- By their numbers, as the code tells them.
 abbrev pub Unstored : Stage → Type 0
 Unstored p = OneOf (0 ∷ 2 ∷ 4 ∷ 6 ∷ 7 ∷ []) (tag_of the_type p)
+
+pub unstored : (p : Stage) → (p ≡ AtKind → ⊥) → (p ≡ AtWord → ⊥) → (p ≡ AtPlace → ⊥) → Unstored p
+unstored AtStart k w l = inl refl
+unstored AtKind k w l = absurd (k refl)
+unstored BehindKind k w l = inr (inl refl)
+unstored AtWord k w l = absurd (w refl)
+unstored BehindWord k w l = inr (inr (inl refl))
+unstored AtPlace k w l = absurd (l refl)
+unstored BehindPlace k w l = inr (inr (inr (inl refl)))
+unstored BehindPlaces k w l = inr (inr (inr (inr refl)))
 
 on_same : (p : Phase) (c : ℕ) {K K' : List Token} {d d' l l' : List WordRow} → K ≡ K' → d ≡ d' → l ≡ l' →
     on (record { phase = p; kinds = c; names = K; done = d; last = l }) ≡ on (record { phase = p; kinds = c; names = K'; done = d'; last = l' })

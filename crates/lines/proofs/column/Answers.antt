@@ -1,0 +1,7 @@
+-- `lines::column` meets its contract.
+use native.Mathlib.Omega.{arith}
+use Rattle.lines.proofs.Counting.{columns-few}
+use Rattle.lines.proofs.column.Goals as goal
+
+pub overflow_add-result : goal.overflow_add-result
+overflow_add-result c = omega (arith, columns-few c.args.last.now, c.count_columns.ensures)
