@@ -1,0 +1,23 @@
+-- `spans::end_of` meets its contract. The loop's invariant: so many terms are due at the end reached. The measure is
+-- more than the number of nodes that are left to pass.
+--   Inv-loop, μ-loop    the invariant and the measure
+--   one, four           a turn that passes one word, and one that passes four
+use Prim.Native.Nat.{◌-◌}
+use Rattle.spans.proofs.Ending.{ending_ends, seeking_begins, seeking_one, seeking_four}
+use Rattle.spans.proofs.end_of.Goals as goal
+
+pub loop-due-init : goal.loop-due-init
+loop-due-init c =
+    seeking_begins _ _ c.requires.0 c.requires.1 c.map_at.ensures c.count-due.ensures.0 c.count-due.ensures.1
+
+pub loop-due-preserved-then-due-lt4 : goal.loop-due-preserved-then-due-lt4
+loop-due-preserved-then-due-lt4 c =
+    (seeking_one c.loop-due.invariant c.loop-due-test.true c.map_at-then-due-lt4.ensures c.count.ensures.0 c.count.ensures.1).seeking
+
+pub loop-due-preserved : goal.loop-due-preserved
+loop-due-preserved c =
+    (seeking_four c.loop-due.invariant c.if-due-lt4.false c.map_at-else-due-lt4.ensures c.map_at-else-due-lt4-2.ensures c.map_at-else-due-lt4-3.ensures c.map_at-else-due-lt4-4.ensures c.count_four.ensures.0 c.count_four.ensures.1).seeking
+
+pub returns : goal.returns
+returns c =
+    (c.loop-due.invariant.later, λ a. ending_ends c.loop-due.invariant.ending c.loop-due-test.false a)

@@ -1,0 +1,12 @@
+-- `spans::front::pass_known` meets its contract: at each turn the state holds at i and j. The measure is the number of
+-- the pattern's bytes that are left.
+use Prim.Native.Nat.{◌-◌, ◌≤◌}
+use lib.ListN.{length}
+use Rattle.spans.specs.Front.{AtFront}
+use Rattle.spans.proofs.front.pass_known.Given as goal
+
+abbrev pub invariant-loop-i : goal.invariant-loop-i
+invariant-loop-i l = (l.from ≤ l.i) × AtFront l.p l.s l.spans l.i l.j
+
+abbrev pub decreases-loop-i : goal.decreases-loop-i
+decreases-loop-i l = length l.p - l.i
