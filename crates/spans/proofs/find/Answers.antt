@@ -4,6 +4,7 @@
 --
 use mathlib.Core.Path.{◌≡◌, refl, sym, ap, ◌∙◌}
 use mathlib.Core.Bool.{true, false}
+use mathlib.Core.List.{[]}
 use Rattle.wire.specs.Reply.{accepted}
 use Rattle.wire.specs.MatchComputed.{judged, clear_reply}
 use Rattle.wire.proofs.Bytes.{bytes_of}

@@ -106,7 +106,7 @@ loop-depth-preserved c =
 
 pub returns-else-i-p : goal.returns-else-i-p
 returns-else-i-p c =
-    framing_rest c.loop-depth.invariant (ltb-false _ _ c.if-i-p.false)
+    framing_rest c.loop-depth.invariant c.if-i-p.false
 
 pub returns-after-loop-depth : goal.returns-after-loop-depth
 returns-after-loop-depth c =
