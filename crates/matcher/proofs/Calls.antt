@@ -17,7 +17,6 @@ use mathlib.Core.Logic.{◌⊎◌, inl, inr}
 use mathlib.Core.Option.{Option, some, none}
 use Prim.Native.Nat.{ℕ, ◌+◌, ◌-◌, ◌*◌, ◌<◌, ◌≤◌}
 use native.Mathlib.Omega.{arith}
-use denote.Enum.Declared.{tag_of}
 use lib.Dec.{ltb}
 use lib.ListN.{length, get_or, take, drop, replicate, length-drop, length-append, get_or-replicate}
 use lib.Seq.{length-take-le}
@@ -42,7 +41,6 @@ use Rattle.inputs.specs.declared.InputsRefusal.{InputsRefusal}
 use Rattle.spans.specs.Answers.{spans_numbers}
 use Rattle.spans.specs.declared.SpansAnswer.{SpansAnswer}
 use Rattle.spans.specs.declared.SpansAnswer.TheVariants.{Fits, Differs, Refused}
-use Rattle.spans.specs.contracts.SpansAnswer.{the_type}
 use Rattle.spans.proofs.Answers.{not_accepted}
 pub use Rattle.spans.proofs.Finding.{Lent}
 use Rattle.matcher.specs.Places.{part_at}
@@ -56,21 +54,15 @@ Found v p s spans a = HasEffect (matched v p s blank) (spans_numbers a) spans
 
 -- ---- the answer, where some answers are ruled out
 
-abbrev tag : SpansAnswer → ℕ
-tag a = tag_of the_type a
-
-pub not_refused : (a : SpansAnswer) → (tag a ≡ 0) ⊎ (tag a ≡ 1) → (a ≡ Fits) ⊎ (a ≡ Differs)
+pub not_refused : (a : SpansAnswer) → ((why : InputsRefusal) → a ≡ Refused why → ⊥) → (a ≡ Fits) ⊎ (a ≡ Differs)
 not_refused Fits k = inl refl
 not_refused Differs k = inr refl
-not_refused (Refused why) (inl e) = absurd (omega arith)
-not_refused (Refused why) (inr e) = absurd (omega arith)
+not_refused (Refused why) k = absurd (k why refl)
 
-pub differs : (a : SpansAnswer) → (tag a ≡ 0) ⊎ (tag a ≡ 1) → (tag a ≡ 1) ⊎ (tag a ≡ 2) → a ≡ Differs
-differs Fits k (inl e) = absurd (omega arith)
-differs Fits k (inr e) = absurd (omega arith)
+pub differs : (a : SpansAnswer) → ((why : InputsRefusal) → a ≡ Refused why → ⊥) → (a ≡ Fits → ⊥) → a ≡ Differs
+differs Fits k l = absurd (l refl)
 differs Differs k l = refl
-differs (Refused why) (inl e) l = absurd (omega arith)
-differs (Refused why) (inr e) l = absurd (omega arith)
+differs (Refused why) k l = absurd (k why refl)
 
 module _ {v p s : List ℕ} (lent : Lent v p s) where
   pub found-long : {spans : List ℕ} → spans ≡ (matched v p s blank).after → length spans ≡ 128
