@@ -9,7 +9,7 @@ use others::Others;
 
 // How far a cut has come: the end of what both allow, in the copy; the bytes of the entry and of the pattern that are passed;
 // the bytes written, and the entries that are still to be written.
-#[derive(Drop)]
+#[derive(Clone, Copy)]
 pub(crate) struct Walk {
     pub(crate) at: usize,
     pub(crate) entry: usize,
