@@ -1,0 +1,15 @@
+-- `dues::put_takes` meets its contract.
+use mathlib.Core.Path.{sym, ap}
+use borrow.Author.Tests.{eq-eqb, ne_eqb}
+use Rattle.wire.specs.Text.{decimal}
+use Rattle.wire.proofs.Cond.{cond_true, cond_false}
+use Rattle.pages.proofs.Pages.{adds_is, adds_then}
+use Rattle.dues.proofs.put_takes.Goals as goal
+
+pub returns-then-n-eq1 : goal.returns-then-n-eq1
+returns-then-n-eq1 c = adds_then c.put-takes.ensures
+    (adds_then (adds_is (ap decimal c.wide.ensures) c.put_number-counted.ensures) (adds_is (sym (cond_true _ _ _ (eq-eqb _ _ c.if-n-eq1.true))) c.put.ensures))
+
+pub returns : goal.returns
+returns c = adds_then c.put-takes.ensures
+    (adds_then (adds_is (ap decimal c.wide.ensures) c.put_number-counted.ensures) (adds_is (sym (cond_false _ _ _ (ne_eqb _ _ c.if-n-eq1.false))) c.put-2.ensures))
