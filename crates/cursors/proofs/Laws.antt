@@ -3,9 +3,9 @@
 --   tells_at, tells_as     a cursor with a gap, and the same named otherwise
 --   leaf_tells, word_tells the two laws
 --
-use Rattle.std.proofs.Common.{◌≡◌, ℕ, ◌+◌, ◌*◌, ◌/◌, ◌%◌, ◌<◌, Bool, true, false, cond, not, ◌||◌, eqb, ◌⊎◌, sym, refl, ap, ◌∙◌, inl, inr, arith, eq-eqb, ne_eqb}
+use Rattle.std.proofs.Common.{◌≡◌, ℕ, ◌+◌, ◌*◌, ◌/◌, ◌%◌, ◌<◌, Bool, true, false, cond, eqb, sym, refl, ap, ◌∙◌, inl, inr, arith, eq-eqb, ne_eqb}
 use mathlib.Core.Bool.{or-false, or-true}
-use Rattle.cursors.specs.Cursors.{unbroken, complete_in, gap_in, short_in, gaps_after, gaps_short, past_leaf, past_word, Sound, Tells, LeafTells, WordTells}
+use Rattle.cursors.specs.Cursors.{unbroken, complete_in, gap_in, short_in, gaps_after, gaps_short, past_leaf, past_word, Tells, LeafTells, WordTells}
 use Rattle.cursors.specs.declared.Cursor.{Cursor}
 
 tells_at : (c : Cursor) (g k : ℕ) (b : Bool) → c.gaps ≡ 2 * g + k → k < 2 → eqb k 1 ≡ b → g < c.at → 2 * g + k < unbroken → Tells c false g b

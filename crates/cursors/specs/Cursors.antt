@@ -21,7 +21,7 @@
 -- Of the term a cursor tells the offset of its next byte, its words, the deepest level, whether it is complete and its first
 -- gap, each so far.
 --
-use Rattle.std.specs.Prelude.{◌≡◌, ℕ, ◌+◌, ◌-◌, ◌*◌, ◌/◌, ◌%◌, ◌<◌, min, max, Bool, true, false, cond, not, ◌||◌, ◌⊎◌, ◌==◌}
+use Rattle.std.specs.Prelude.{◌≡◌, ℕ, ◌+◌, ◌-◌, ◌*◌, ◌/◌, ◌%◌, ◌<◌, min, max, Bool, false, cond, not, ◌||◌, ◌⊎◌, ◌==◌}
 use Rattle.wire.specs.Map.{map_bytes}
 use Rattle.cursors.specs.declared.Cursor.{Cursor}
 

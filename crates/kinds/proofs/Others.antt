@@ -12,7 +12,7 @@ use Rattle.terms.specs.Lists.{All, range, keep}
 use Rattle.terms.specs.Signature.{result}
 use Rattle.terms.proofs.All.{all-range, all_implies}
 use Rattle.terms.proofs.Count.{bit, count, count_le, count-range, length-keep, length-range}
-use Rattle.wire.specs.Vocabulary.{Vocabulary, InOrder, signature, word, most_kinds}
+use Rattle.wire.specs.Vocabulary.{signature, word, most_kinds}
 use Rattle.wire.proofs.Words.{length_symbols, result-word, word-in_order}
 use Rattle.kinds.specs.Kinds.{kind_in, has_kind, is_other, others_in, OthersTabled, Tallied}
 

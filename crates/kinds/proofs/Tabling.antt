@@ -5,14 +5,14 @@
 --   SiblingsTo            the words below h have their siblings
 --   siblings_none, siblings_turn, siblings-all   how that begins, goes on and ends
 --
-use mathlib.Core.Path.{◌≡◌, refl, sym, ap, ◌∙◌, subst}
+use mathlib.Core.Path.{◌≡◌, sym, ap, ◌∙◌, subst}
 use mathlib.Core.List.{List, []}
 use Prim.Native.Nat.{ℕ, ◌+◌, ◌-◌, ◌<◌, ◌≤◌}
 use native.Mathlib.Decide.{ℕ_discrete}
 use native.Mathlib.Omega.{arith}
 use lib.ListN.{length, get_or, set, replicate, length-set, length-replicate, get_or-replicate}
 use lib.Seq.{get_or-set_same, get_or-set_other}
-use Rattle.wire.specs.Vocabulary.{most_kinds, most_words}
+use Rattle.wire.specs.Vocabulary.{most_words}
 use Rattle.kinds.specs.Kinds.{kind_in, lowest, others_in, Tallied, Chained, SiblingTable}
 use Rattle.kinds.proofs.Others.{siblings-here}
 

@@ -4,17 +4,16 @@
 --   Alike               the invariant: map and table are the same below 8 i
 --   alike_none, alike_turn, alike-found, alike_all    its beginning, its turn and its two ends
 --
-use mathlib.Core.Path.{◌≡◌, refl, sym, ap, ap₂, subst, ◌∙◌}
+use mathlib.Core.Path.{◌≡◌, sym, ap, ap₂, ◌∙◌}
 use mathlib.Core.Bool.{Bool, false}
-use mathlib.Core.List.{List, [], ◌∷◌, map}
+use mathlib.Core.List.{List, map}
 use Prim.Native.Nat.{ℕ, zero, suc, ◌+◌, ◌-◌, ◌*◌, ◌/◌, ◌%◌, ◌<◌, ◌≤◌}
 use native.Mathlib.Decide.{dec_le}
 use native.Mathlib.Omega.{arith}
-use lib.ListN.{length, get_or}
+use lib.ListN.{get_or}
 use Rattle.terms.specs.Lists.{range}
-use Rattle.wire.specs.Map.{flags_in, number}
+use Rattle.wire.specs.Map.{number}
 use Rattle.wire.specs.VocabularyLines.{byte_at}
-use Rattle.wire.specs.TermBytes.{name_count}
 use Rattle.wire.specs.FillingLines.{name_stands}
 use Rattle.wire.proofs.Map.{flags_in-number}
 use Rattle.namemaps.specs.Difference.{stands_in, bit_in, LowestApart, DifferenceAt}

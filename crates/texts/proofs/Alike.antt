@@ -22,12 +22,12 @@ use Rattle.wire.specs.Vocabulary.{most_kinds}
 use Rattle.texts.specs.Lexemes.{Token, Lexeme}
 use Rattle.texts.specs.Names.{same, kind_word, mark, opening, closing, comma, bar, equals, most_name, is_identifier, index_in}
 use Rattle.texts.specs.Lexicon.{kind_names, lexicon_tokens, most_places, GoodLexicon}
-use Rattle.texts.specs.Faults.{Fault, Parsed, parsed, bad, long_name, kind_beyond, place_due, not_declared, many_places, kind_due, place_end}
-use Rattle.texts.specs.LexiconReading.{kind_name_why, word_name_why, place_why, WordRow, Phase, at_start, at_kind, behind_kind, at_word, behind_word, at_place, behind_place, behind_places, Declaring, beginning, Stepped, on, over, fails, go_to, step_kind, step_word, places_last, grown, step_place, step_on, step_in, step, LexiconRead, stepped, read_rows}
+use Rattle.texts.specs.Faults.{parsed, bad, long_name, kind_beyond, place_due, not_declared, many_places, kind_due}
+use Rattle.texts.specs.LexiconReading.{kind_name_why, word_name_why, place_why, WordRow, Phase, at_start, at_kind, behind_kind, at_word, behind_word, at_place, behind_place, behind_places, Declaring, beginning, Stepped, on, over, fails, go_to, step_kind, step_word, places_last, grown, step_place, step_in, step, LexiconRead, stepped, read_rows}
 use Rattle.texts.specs.Laws.{tokens_of, lexicon_read, LexiconFirst}
 use Rattle.texts.proofs.Lookups.{index-le}
 use Rattle.texts.proofs.LexiconsRead.{and_on, walk, rows-read}
-use Rattle.texts.proofs.LexiconsExact.{PlaceFits, place-fits}
+use Rattle.texts.proofs.LexiconsExact.{place-fits}
 use Rattle.texts.proofs.LexiconFaults.{Stuck, text_of, tokens-text, stuck-bad}
 
 abbrev pub sizes : List WordRow → List ℕ

@@ -20,7 +20,7 @@ use Rattle.texts.specs.Lexemes.{Token, Lexeme}
 use Rattle.texts.specs.Names.{same, opened, mark, opening, closing, comma, is_variable, index_in}
 use Rattle.texts.specs.Spelling.{IsToken}
 use Rattle.texts.specs.Phrases.{term_tokens}
-use Rattle.texts.specs.Faults.{Parsed, parsed, bad, parse_then, places_wrong, places_over, too_deep}
+use Rattle.texts.specs.Faults.{Parsed, parsed, parse_then, places_wrong, places_over, too_deep}
 use Rattle.texts.specs.PhraseReading.{Seen, TermRead, TermsRead, word_bytes, word_why, variable_why, fault_at, put_first, parse_places, read_behind, parse_word, read_variable, read_node, parse_term}
 use Rattle.texts.specs.Laws.{tokens_of}
 use Rattle.texts.proofs.Finding.{same-exact}

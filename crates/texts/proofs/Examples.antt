@@ -9,11 +9,11 @@
 use mathlib.Core.Path.{◌≡◌, refl}
 use mathlib.Core.List.{List, [], ◌∷◌, ◌++◌}
 use Prim.Native.Nat.{ℕ}
-use Rattle.terms.specs.Term.{Term, any, var, app, nil, cons}
+use Rattle.terms.specs.Term.{any, var, app, nil, cons}
 use Rattle.wire.specs.Vocabulary.{encode_vocabulary}
 use Rattle.wire.specs.Text.{ascii}
-use Rattle.texts.specs.Lexemes.{Token, tokens, lexemes}
-use Rattle.texts.specs.Lexicon.{WordText, KindText, Lexicon, kind_names, word_names, lexicon_tokens, lexicon_text, vocabulary_of}
+use Rattle.texts.specs.Lexemes.{tokens, lexemes}
+use Rattle.texts.specs.Lexicon.{WordText, Lexicon, kind_names, word_names, lexicon_tokens, lexicon_text, vocabulary_of}
 use Rattle.texts.specs.Phrases.{phrase_tokens, phrase_text}
 use Rattle.texts.specs.Faults.{parsed, bad, other_kind, unknown_word, places_over, not_declared, kind_twice, kind_name_due}
 use Rattle.texts.specs.Complaints.{Known, complaint}

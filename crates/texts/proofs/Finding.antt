@@ -8,16 +8,16 @@
 --   new-name                     the next name is none of those before it
 --   distinct-last                a name that was not found may follow
 --
-use mathlib.Core.Path.{◌≡◌, refl, sym, ap, ap₂, subst, ◌∙◌}
-use mathlib.Core.Bool.{Bool, true, false, cond, true≢false, false≢true}
+use mathlib.Core.Path.{◌≡◌, refl, sym, ap, subst, ◌∙◌}
+use mathlib.Core.Bool.{Bool, true, false, cond, true≢false}
 use mathlib.Core.List.{List, [], ◌∷◌, ◌++◌}
 use Prim.Native.Nat.{ℕ, zero, suc, ◌+◌, ◌<◌, ◌≤◌}
 use native.Mathlib.Omega.{arith}
-use lib.Dec.{eqb, ltb}
+use lib.Dec.{ltb}
 use lib.ListN.{length, take, drop, length-append, take-append-drop}
 use lib.Seq.{length-take-le}
-use borrow.Author.Tests.{eqb-true, ltb-true}
-use Rattle.terms.proofs.Bools.{eqb_refl, and_parts, and_both, false_of_not}
+use borrow.Author.Tests.{ltb-true}
+use Rattle.terms.proofs.Bools.{false_of_not}
 use Rattle.wire.proofs.Cond.{cond_true, cond_false}
 use Rattle.texts.specs.Lexemes.{Token}
 use Rattle.texts.specs.Names.{same, index_in, name_at, Distinct}

@@ -21,7 +21,7 @@ use Rattle.wire.specs.TermBytes.{name_count, most_bytes}
 use Rattle.texts.specs.Lexemes.{Token, Lexeme, is_name_byte}
 use Rattle.texts.specs.Names.{most_name, is_identifier, is_variable, index_in, IsIdentifier, IsVariable}
 use Rattle.texts.specs.Spelling.{IsToken, run, single}
-use Rattle.texts.specs.Faults.{token, term_due, unknown_word, other_kind, too_deep, too_long, variable_twice, many_variables, long_name}
+use Rattle.texts.specs.Faults.{term_due, unknown_word, other_kind, too_deep, too_long, variable_twice, many_variables, long_name}
 use Rattle.texts.specs.PhraseReading.{Seen, word_bytes, word_why, variable_why}
 use Rattle.texts.proofs.Telling.{begins-name}
 

@@ -9,28 +9,27 @@
 --   names-kinds                      for the tokens of declarations, those are the names of the kinds
 --   names_quiet                      a list without `kind` has none
 --
-use mathlib.Core.Path.{◌≡◌, refl, sym, ◌∙◌, ap, subst}
+use mathlib.Core.Path.{◌≡◌, refl, sym, ◌∙◌, ap}
 use mathlib.Core.Bool.{Bool, true, false, ◌||◌, cond, and-false, true≢false, false≢true}
 use mathlib.Core.List.{List, [], ◌∷◌, ◌++◌, append-nil, append_assoc}
 use mathlib.Core.Logic.{◌⊎◌, inl, inr}
-use Prim.Native.Nat.{ℕ, zero, suc, ◌<◌, ◌≤◌}
+use Prim.Native.Nat.{ℕ, suc, ◌<◌, ◌≤◌}
 use native.Mathlib.Omega.{arith}
 use lib.Dec.{eqb, ltb, leb}
-use lib.ListN.{length, length-append}
+use lib.ListN.{length}
 use borrow.Author.Tests.{ltb-true, ltb-false, leb-true, lt-ltb, le-ltb, le-leb}
 use Rattle.terms.specs.Lists.{All}
 use Rattle.terms.proofs.All.{all-at, all_append, all_left, all_right}
 use Rattle.terms.proofs.Bools.{and_parts}
-use Rattle.wire.specs.Vocabulary.{most_kinds}
 use Rattle.wire.proofs.Cond.{cond_true, cond_false}
 use Rattle.texts.specs.Lexemes.{Token, Lexeme, is_name_byte, is_run, asking}
-use Rattle.texts.specs.Names.{same, kind_word, mark, comma, bar, equals, opening, closing, most_name, begins_name, is_identifier, IsIdentifier, index_in, name_at, Distinct}
+use Rattle.texts.specs.Names.{same, kind_word, mark, comma, bar, equals, opening, closing, most_name, begins_name, is_identifier, IsIdentifier, index_in, name_at}
 use Rattle.texts.specs.Spelling.{IsToken, run, single}
 use Rattle.texts.specs.Lexicon.{WordText, KindText, Lexicon, kind_names, all_words, place_kind_tokens, with_places, words_tokens, kinds_tokens, GoodWord}
 use Rattle.texts.specs.Faults.{token, long_name}
 use Rattle.texts.specs.LexiconReading.{name_why}
 use Rattle.texts.specs.Laws.{tokens_of, names_behind}
-use Rattle.texts.proofs.Lookups.{identifier-no_kind, index-le, distinct_more, distinct-front}
+use Rattle.texts.proofs.Lookups.{identifier-no_kind, index-le}
 
 pub record NameFits (most : ℕ) (seen : List Token) (u : Token) : Type 0 where
   pub identifier : is_identifier u ≡ true

@@ -8,19 +8,17 @@
 --   no-further               no good vocabulary begins with the tokens up to a fault
 --
 use mathlib.Core.Path.{◌≡◌, refl, sym, ◌∙◌, ap, subst}
-use mathlib.Core.Bool.{Bool, true, false, cond, true≢false, false≢true}
+use mathlib.Core.Bool.{Bool, true, false, cond}
 use mathlib.Core.List.{List, [], ◌∷◌, ◌++◌}
-use Prim.Native.Nat.{ℕ, zero, suc}
+use Prim.Native.Nat.{ℕ}
 use native.Mathlib.Omega.{arith}
 use lib.Dec.{eqb}
 use lib.ListN.{length, drop}
 use borrow.Author.Tests.{eqb-true}
-use Rattle.wire.proofs.Cond.{choice}
 use Rattle.texts.specs.Lexemes.{Token, Lexeme}
-use Rattle.texts.specs.Names.{same, kind_word, mark, opening, closing, comma, bar, equals, is_identifier, index_in}
-use Rattle.texts.specs.Lexicon.{kind_names, word_names, lexicon_tokens, GoodLexicon}
+use Rattle.texts.specs.Lexicon.{kind_names, lexicon_tokens, GoodLexicon}
 use Rattle.texts.specs.Faults.{Fault, Parsed, parsed, bad, kind_name_due, kind_due, word_due, place_due, place_end, no_words}
-use Rattle.texts.specs.LexiconReading.{word_name_why, place_why, Phase, at_start, at_kind, behind_kind, at_word, behind_word, at_place, behind_place, behind_places, Declaring, rows_of, beginning, Stepped, on, over, fails, go_to, step_word, places_last, step_place, step_in, step, LexiconRead, stepped, read_rows}
+use Rattle.texts.specs.LexiconReading.{Phase, at_start, at_kind, behind_kind, at_word, behind_word, at_place, behind_place, behind_places, Declaring, rows_of, beginning, Stepped, on, over, fails, step_in, step, LexiconRead, stepped, read_rows}
 use Rattle.texts.specs.Laws.{tokens_of, lexicon_read, LexiconFirst}
 use Rattle.texts.proofs.LexiconsRead.{and_on, walk, rows-walk, rows-read}
 

@@ -28,7 +28,7 @@ use Rattle.texts.specs.Spelling.{IsToken}
 use Rattle.texts.specs.Lexicon.{KindText, Lexicon, kind_names, all_words, kinds_tokens, lexicon_tokens, most_places, GoodWord, GoodLexicon}
 use Rattle.texts.specs.Faults.{Fault, kind_due}
 use Rattle.texts.specs.LexiconReading.{kind_name_why, word_name_why, place_why, names_from, WordRow, Phase, at_start, at_kind, behind_kind, at_word, behind_word, at_place, behind_place, behind_places, Declaring, beginning, Stepped, fails, on, over, go_to, step_kind, step_word, places_last, step_place, step_in, step}
-use Rattle.texts.specs.Laws.{tokens_of, FirstFaultIn, SoundWord, SoundLexicon, LexiconFirst, GoodBefore, LexiconFault, in_name, in_place, in_rest, LexiconFaultsAreFirst}
+use Rattle.texts.specs.Laws.{tokens_of, SoundWord, SoundLexicon, LexiconFirst, GoodBefore, LexiconFault, in_name, in_place, in_rest, LexiconFaultsAreFirst}
 use Rattle.texts.proofs.Lookups.{distinct_more}
 use Rattle.texts.proofs.KindNames.{Tokened, text_tokened}
 use Rattle.texts.proofs.Gathering.{KindsFine, names-fine, Left, Naming, naming, left-kind, left-named, kinds_are_gathered}

@@ -32,7 +32,7 @@ use Rattle.wire.proofs.Cond.{cond_true, cond_false}
 use Rattle.texts.specs.Lexemes.{Token, Lexeme}
 use Rattle.texts.specs.Names.{same, kind_word, mark, comma, bar, equals, opening, most_name, is_identifier, IsIdentifier, index_in, name_at, Distinct}
 use Rattle.texts.specs.Lexicon.{WordText, KindText, Lexicon, kind_names, all_words, word_names, place_kind_tokens, with_places, word_tokens, words_tokens, kinds_tokens, lexicon_tokens, most_places, GoodWord, GoodLexicon}
-use Rattle.texts.specs.Faults.{Parsed, parsed, token, kind_name_due, kind_twice, many_kinds, long_name, word_due, word_twice, many_words, place_due, many_places}
+use Rattle.texts.specs.Faults.{Parsed, parsed, kind_name_due, kind_twice, many_kinds, long_name, word_due, word_twice, many_words, place_due, many_places}
 use Rattle.texts.specs.LexiconReading.{kind_name_why, place_why, WordRow, Phase, at_start, at_kind, behind_kind, at_word, behind_word, at_place, behind_place, behind_places, Declaring, rows_of, beginning, Stepped, on, over, fails, step_kind, step_word, step_place, step_in, step, LexiconRead, ended, stepped, names_from, read_rows}
 use Rattle.texts.specs.Laws.{tokens_of, rows_from, lexicon_read, Stops, LexiconsRead, names_behind}
 use Rattle.texts.proofs.Lookups.{index_at, distinct-front}

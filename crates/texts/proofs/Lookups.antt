@@ -7,16 +7,15 @@
 --   absent_more, distinct_more          a list with one token more, which it had not
 --   distinct-front                      in a list in which none stands twice, a token is not among those before it
 --
-use mathlib.Core.Path.{◌≡◌, refl, sym, ◌∙◌, ap, ap₂}
+use mathlib.Core.Path.{◌≡◌, refl, sym, ◌∙◌, ap}
 use mathlib.Core.Bool.{Bool, true, false, not, ◌&&◌, cond, true≢false, false≢true}
 use mathlib.Core.List.{List, [], ◌∷◌, ◌++◌}
-use Prim.Native.Nat.{ℕ, zero, suc, ◌<◌, ◌≤◌}
+use Prim.Native.Nat.{ℕ, zero, suc, ◌<◌}
 use native.Mathlib.Omega.{arith}
-use lib.Dec.{eqb}
 use lib.ListN.{length}
-use borrow.Author.Tests.{eqb-true, not-true}
-use Rattle.terms.proofs.Bools.{eqb_refl, and_parts, and_both}
-use Rattle.wire.proofs.Cond.{cond_true, cond_false}
+use borrow.Author.Tests.{not-true}
+use Rattle.terms.proofs.Bools.{and_parts}
+use Rattle.wire.proofs.Cond.{cond_false}
 use Rattle.texts.specs.Lexemes.{Token}
 use Rattle.texts.specs.Names.{same, opened, kind_word, begins_name, is_identifier, index_in, name_at, Distinct}
 pub use Rattle.texts.proofs.Finding.{same_refl, same-exact as same-eq, index-most as index-le, at-index, index_at}

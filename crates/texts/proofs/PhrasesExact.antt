@@ -33,7 +33,7 @@ use Rattle.texts.specs.Lexemes.{Token, Lexeme}
 use Rattle.texts.specs.Names.{same, opened, mark, colon, most_name, is_identifier, is_variable, index_in, name_at, IsIdentifier, IsVariable}
 use Rattle.texts.specs.Lexicon.{Lexicon, kind_names, word_names, vocabulary_of, GoodLexicon}
 use Rattle.texts.specs.Phrases.{IsLabel, label_tokens, phrase_tokens, term_tokens, GoodPhrase}
-use Rattle.texts.specs.Faults.{Parsed, parsed, bad, parse_then, token, long_name, pattern_due, not_declared, place_due, colon_due}
+use Rattle.texts.specs.Faults.{Parsed, parsed, bad, parse_then, long_name, pattern_due, not_declared, place_due, colon_due}
 use Rattle.texts.specs.PhraseReading.{TermRead, PhraseRead, phrase_read, variable_why, fault_at, read_variable, parse_term, read_root_kind, read_root, labelled}
 use Rattle.texts.specs.Laws.{tokens_of, PhrasesExact}
 use Rattle.texts.proofs.Finding.{same-exact, at-index}

@@ -6,9 +6,9 @@
 use mathlib.Core.Path.{◌≡◌, refl}
 use mathlib.Core.List.{List, [], ◌∷◌, ◌++◌}
 use Prim.Native.Nat.{ℕ}
-use Rattle.terms.specs.Term.{Term, any, var, app, nil, cons, Ground, gapp, gnil, gcons}
+use Rattle.terms.specs.Term.{any, var, app, nil, cons, Ground, gapp, gnil, gcons}
 use Rattle.wire.specs.Text.{ascii}
-use Rattle.texts.specs.Lexemes.{Token, tokens, lexemes}
+use Rattle.texts.specs.Lexemes.{tokens, lexemes}
 use Rattle.texts.specs.Lexicon.{word_names, vocabulary_of}
 use Rattle.texts.specs.Phrases.{Phrase, term_tokens}
 use Rattle.texts.specs.Questions.{ground_tokens, question_tokens}

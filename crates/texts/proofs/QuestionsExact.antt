@@ -35,7 +35,7 @@ use Rattle.texts.specs.Names.{same, opened, mark, opening, comma, is_identifier,
 use Rattle.texts.specs.Lexicon.{Lexicon, kind_names, word_names, vocabulary_of, GoodLexicon}
 use Rattle.texts.specs.Phrases.{Phrase, IsLabel, term_tokens, places_tokens, bracketed, GoodWhole}
 use Rattle.texts.specs.Questions.{ground_tokens, question_tokens, GoodQuestion}
-use Rattle.texts.specs.Faults.{Parsed, parsed, bad, token, place, other_label}
+use Rattle.texts.specs.Faults.{Parsed, parsed, bad, other_label}
 use Rattle.texts.specs.PhraseReading.{TermRead, fault_at, parse_term}
 use Rattle.texts.specs.QuestionReading.{is_open, open_before, ground_of, grounds_of, begins_question, or_open, completed, read_situation, read_question}
 use Rattle.texts.specs.Laws.{Closes, Ascending, QuestionsExact}

@@ -34,7 +34,7 @@ use Rattle.texts.specs.Names.{same, opened, mark, opening, comma, is_identifier,
 use Rattle.texts.specs.Lexicon.{Lexicon, kind_names, word_names, vocabulary_of, GoodLexicon}
 use Rattle.texts.specs.Phrases.{term_tokens, places_tokens, bracketed}
 use Rattle.texts.specs.Questions.{ground_tokens}
-use Rattle.texts.specs.Faults.{parsed, token, place, other_label}
+use Rattle.texts.specs.Faults.{parsed, place, other_label}
 use Rattle.texts.specs.PhraseReading.{Seen, fault_at, parse_term}
 use Rattle.texts.specs.QuestionReading.{is_open, open_before, ground_of, grounds_of, or_open, completed, read_situation}
 use Rattle.texts.specs.Laws.{tokens_of, QuestionsRead}

@@ -26,7 +26,7 @@ use Rattle.texts.specs.Lexemes.{Token, Lexeme}
 use Rattle.texts.specs.Names.{same, opened, mark, opening, closing, comma, is_variable, index_in, name_at, IsVariable}
 use Rattle.texts.specs.Spelling.{IsToken}
 use Rattle.texts.specs.Phrases.{term_tokens, places_tokens, bracketed}
-use Rattle.texts.specs.Faults.{Parsed, parsed, bad, parse_then, token, places_wrong, places_over, too_deep}
+use Rattle.texts.specs.Faults.{Parsed, parsed, bad, parse_then, places_wrong, places_over, too_deep}
 use Rattle.texts.specs.PhraseReading.{Seen, TermRead, TermsRead, word_bytes, word_why, variable_why, fault_at, put_first, parse_places, read_behind, parse_word, read_variable, read_node, parse_term}
 use Rattle.texts.proofs.Finding.{same-exact, at-index, distinct-last}
 use Rattle.texts.proofs.Standing.{Stands, stands-append, stands-all, Counts, counts-append}

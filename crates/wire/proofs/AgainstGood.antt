@@ -1,9 +1,8 @@
 -- AgainstGood: an entry without names, of a kind of the vocabulary, is a good term.
-use mathlib.Core.Path.{◌≡◌, sym, subst}
-use mathlib.Core.List.{[]}
+use mathlib.Core.Path.{sym, subst}
 use Prim.Native.Nat.{ℕ, ◌<◌}
 use Rattle.terms.specs.Lists.{All}
-use Rattle.terms.specs.Term.{Term, names}
+use Rattle.terms.specs.Term.{Term}
 use Rattle.terms.proofs.Term.{linear_well_sorted}
 use Rattle.terms.proofs.Nameless.{Entry, entry-linear}
 use Rattle.wire.specs.Vocabulary.{Vocabulary, signature}

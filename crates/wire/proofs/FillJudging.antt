@@ -5,9 +5,8 @@
 --   held-fillable, fillable-held      they are in order exactly where they are held
 --   refused-vocabulary, refused-pattern, refused-filling    what the list decides on is the refusal
 --
-use mathlib.Core.Path.{◌≡◌, refl, sym, ap, ◌∙◌, subst}
+use mathlib.Core.Path.{◌≡◌, refl, ap, ◌∙◌, subst}
 use mathlib.Core.List.{List}
-use mathlib.Core.Logic.{◌↔◌}
 use Prim.Native.Nat.{ℕ}
 use Rattle.terms.specs.Term.{Term}
 use Rattle.terms.specs.Filling.{Binding}

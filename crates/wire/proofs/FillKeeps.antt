@@ -6,9 +6,9 @@
 --   fill_inputs_are_one, fill-keeps      the laws
 --
 use mathlib.Core.Path.{◌≡◌, refl, sym, ap, ◌∙◌, subst}
-use mathlib.Core.Bool.{Bool, true, false, cond, ◌||◌, true≢false}
+use mathlib.Core.Bool.{Bool, true, false, cond, ◌||◌}
 use mathlib.Core.List.{List, [], ◌∷◌, ◌++◌}
-use mathlib.Core.Logic.{◌↔◌, ◌⊎◌, inl, inr}
+use mathlib.Core.Logic.{◌⊎◌, inl, inr}
 use Prim.Native.Nat.{ℕ, ◌<◌, ◌≤◌}
 use native.Mathlib.Omega.{arith}
 use lib.Dec.{ltb}
@@ -22,9 +22,8 @@ use Rattle.terms.proofs.Replacing.{replacing_is_substitution}
 use Rattle.terms.proofs.Bools.{or_left, or_right, or_neither, or_parts}
 use Rattle.wire.specs.Reply.{Reply, accepted, refused, IsBytes}
 use Rattle.wire.specs.Vocabulary.{Vocabulary, signature, HoldsVocabulary}
-use Rattle.wire.specs.TermBytes.{encode_term, deepest, most_bytes, most_levels, Limits, HoldsTerm, complete}
-use Rattle.wire.specs.FillingFile.{HoldsFilling}
-use Rattle.wire.specs.Filled.{FillInputs, HoldsFillInputs, filled_term, filled_bytes, FillUnder, FillRefusal, of_pattern, of_filling, too_large, no_room, MatchesBack, Result, FillPromise}
+use Rattle.wire.specs.TermBytes.{encode_term, deepest, most_bytes, most_levels, Limits, HoldsTerm}
+use Rattle.wire.specs.Filled.{FillInputs, HoldsFillInputs, filled_term, filled_bytes, FillUnder, FillRefusal, of_pattern, of_filling, too_large, no_room, MatchesBack, Result}
 use Rattle.wire.specs.VocabularyLines.{of_vocabulary, under}
 use Rattle.wire.specs.Effect.{Effect}
 use Rattle.wire.specs.FillComputed.{FillJudged, fillable, refusal, fill_judged, large, filled_into, filled_with, filled}
@@ -34,7 +33,7 @@ use Rattle.wire.proofs.Levels.{deepest-bytes}
 use Rattle.wire.proofs.Matching.{not_accepted}
 use Rattle.wire.proofs.FilledTerms.{filled_is_good}
 use Rattle.wire.proofs.FilledMatches.{matches_back}
-use Rattle.wire.proofs.FillJudging.{Comes, comes, refused-vocabulary, refused-pattern, refused-filling, held-fillable, fillable-held}
+use Rattle.wire.proofs.FillJudging.{Comes, comes, refused-vocabulary, refused-pattern, refused-filling, held-fillable}
 
 -- ---- the limits
 

@@ -6,17 +6,17 @@
 --   put f gs r                the first of gs put below the word f, before the bytes r
 --   values-node, values-limit the first step of a reading
 --
-use mathlib.Core.Path.{◌≡◌, refl, sym, ap, ◌∙◌}
+use mathlib.Core.Path.{◌≡◌, refl, ap, ◌∙◌}
 use mathlib.Core.Bool.{Bool, true, false, ◌&&◌, cond}
 use mathlib.Core.List.{List, [], ◌∷◌, ◌++◌}
-use Prim.Native.Nat.{ℕ, zero, suc, ◌+◌, ◌<◌, ◌≤◌}
+use Prim.Native.Nat.{ℕ, zero, suc, ◌<◌, ◌≤◌}
 use native.Mathlib.Omega.{arith}
 use lib.Dec.{eqb, ltb}
 use lib.ListN.{length}
 use borrow.Author.Tests.{lt-ltb, le-ltb, ltb-true, eqb-true, eq-eqb}
-use Rattle.terms.specs.Term.{Grounds, gnil}
+use Rattle.terms.specs.Term.{Grounds}
 use Rattle.terms.proofs.Bools.{and_parts}
-use Rattle.wire.specs.Map.{map_bytes, write_map, MapRead, map_got, map_missing, read_map}
+use Rattle.wire.specs.Map.{write_map, MapRead, map_got, map_missing, read_map}
 use Rattle.wire.specs.Vocabulary.{Vocabulary, word, map_of}
 use Rattle.wire.specs.TermBytes.{most_levels}
 use Rattle.wire.specs.TermLines.{Due, due_at, Word?}

@@ -11,7 +11,7 @@
 --   scan-reads                a scan from a term's first byte tells what read_term reads
 --
 use mathlib.Core.Path.{◌≡◌, refl, sym, ap, ◌∙◌}
-use mathlib.Core.Bool.{Bool, true, false, not, ◌||◌, or-false, or_assoc, true≢false, false≢true}
+use mathlib.Core.Bool.{Bool, true, false, not, ◌||◌, or-false, or_assoc, false≢true}
 use mathlib.Core.List.{List, [], ◌∷◌, ◌++◌}
 use mathlib.Core.Option.{Option, some, none}
 use Prim.Native.Nat.{ℕ, zero, suc, pred, ◌+◌, ◌-◌, ◌<◌, ◌≤◌, max}
@@ -20,7 +20,7 @@ use lib.Dec.{ltb}
 use lib.ListN.{length, length-append}
 use borrow.Author.Tests.{lt-ltb, le-ltb}
 use Rattle.terms.specs.Lists.{or_else}
-use Rattle.terms.specs.Term.{Term, any, var, app, Terms, nil, cons, Occurrence}
+use Rattle.terms.specs.Term.{Term, any, app, Terms, cons, Occurrence}
 use Rattle.wire.specs.Map.{map_bytes, Slot, is_open}
 use Rattle.wire.specs.Vocabulary.{Vocabulary}
 use Rattle.wire.specs.TermBytes.{encode_at, encode_all, word_count, word_count_all, levels, levels_all, deepest, most_levels}

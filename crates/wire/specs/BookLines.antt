@@ -9,9 +9,9 @@
 --
 -- Places in b are offsets from its first byte.
 --
-use Rattle.std.specs.Prelude.{◌≡◌, List, [], ◌∷◌, ◌++◌, ◌⊎◌, ℕ, ◌+◌, ◌<◌, ◌≤◌, length}
+use Rattle.std.specs.Prelude.{◌≡◌, List, [], ◌∷◌, ◌++◌, ℕ, ◌+◌, ◌<◌, ◌≤◌, length}
 use Rattle.terms.specs.Lists.{All}
-use Rattle.terms.specs.Term.{Term, Linear}
+use Rattle.terms.specs.Term.{Term}
 use Rattle.wire.specs.Reply.{Outside}
 use Rattle.wire.specs.Map.{map_bytes}
 use Rattle.wire.specs.Vocabulary.{Vocabulary}

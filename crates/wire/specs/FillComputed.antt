@@ -26,7 +26,7 @@
 use Rattle.std.specs.Prelude.{◌≡◌, Bool, true, false, not, ◌&&◌, ◌||◌, cond, List, [], ◌∷◌, ◌++◌, ℕ, zero, suc, ◌+◌, ◌<◌, eqb, ltb, length, get_or, drop}
 use Rattle.std.proofs.Math.Option.{Option, some, none}
 use Rattle.terms.specs.Lists.{occurs, range, keep}
-use Rattle.terms.specs.Term.{Term, Ground, gapp, Grounds, gnil, gcons, as_term, names}
+use Rattle.terms.specs.Term.{Term, gapp, Grounds, gnil, gcons, as_term, names}
 use Rattle.terms.specs.Filling.{Binding, value_of}
 use Rattle.terms.specs.Emptiness.{first}
 use Rattle.wire.specs.Reply.{Reply, accepted, refused, Kinded}

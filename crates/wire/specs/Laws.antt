@@ -74,7 +74,7 @@ use Rattle.wire.specs.SituationComputed.{checked_situation}
 use Rattle.wire.specs.MatchComputed.{judged, clear_reply, matched, part_span, part_of}
 use Rattle.wire.specs.ListComputed.{checked_linear, listed, read_entries}
 use Rattle.wire.specs.FillComputed.{read_filling, filled}
-use Rattle.wire.specs.BookComputed.{Book, read_book, book_listed}
+use Rattle.wire.specs.BookComputed.{read_book, book_listed}
 use Rattle.wire.specs.PrintComputed.{printed_from, printed}
 
 -- ---- writing and reading

@@ -1,5 +1,4 @@
 -- `encoder::copy` meets its contract. The loop's invariant: the first j bytes are copied. The measure is the number of bytes left.
-use Prim.Native.Nat.{◌-◌}
 use native.Mathlib.Omega.{arith}
 use mathlib.Core.Path.{sym}
 use lib.Seq.{get_or-drop}

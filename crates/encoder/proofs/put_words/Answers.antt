@@ -1,5 +1,4 @@
 -- `encoder::put_words` meets its contract. The loop's invariant: the words before f are written. The measure is the number of words left.
-use Prim.Native.Nat.{◌-◌}
 use Rattle.encoder.proofs.Words.{put_none, put-more, put_all}
 use Rattle.encoder.proofs.put_words.Goals as goal
 

@@ -1,6 +1,5 @@
 -- `kinds::siblings` meets its contract. The loop's invariant: the words below f have their siblings. The measure is the number of words left.
 use native.Mathlib.Omega.{arith}
-use Prim.Native.Nat.{◌-◌}
 use Rattle.kinds.proofs.Tabling.{siblings_turn, some_sibling}
 use Rattle.kinds.proofs.siblings.Goals as goal
 

@@ -1,5 +1,4 @@
 -- `kinds::tally` meets its contract. The loop's invariant: the words below h are counted. The measure is the number of words left.
-use Prim.Native.Nat.{◌-◌}
 use native.Mathlib.Omega.{arith}
 use Rattle.kinds.proofs.Tallying.{tallied-few, tallied_turn}
 use Rattle.kinds.proofs.tally.Goals as goal

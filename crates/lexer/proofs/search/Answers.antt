@@ -1,5 +1,4 @@
 -- `lexer::search` meets its contract. The loop's invariant: the number of the word from here on makes up its number in the table.
-use Prim.Native.Nat.{◌-◌}
 use Rattle.lexer.proofs.Looking.{look_hit, look_miss}
 use Rattle.lexer.proofs.search.Goals as goal
 

@@ -1,6 +1,5 @@
 -- `namemaps::first_difference` meets its contract. The invariant: map and table are the same below byte i. The measure is
 -- the number of bytes left.
-use Prim.Native.Nat.{◌-◌}
 use Rattle.namemaps.proofs.Comparing.{alike_turn, alike-found}
 use Rattle.namemaps.proofs.first_difference.Goals as goal
 

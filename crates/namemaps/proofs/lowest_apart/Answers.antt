@@ -1,6 +1,5 @@
 -- `namemaps::lowest_apart` meets its contract. The invariant: the bits below n are the same. The measure is the number of bits left.
 use borrow.Author.Rules.{rules}
-use Prim.Native.Nat.{◌-◌}
 use Rattle.namemaps.proofs.Lowest.{looked_turn, looked_found, looked_last}
 use Rattle.namemaps.proofs.lowest_apart.Goals as goal
 

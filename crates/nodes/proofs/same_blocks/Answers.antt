@@ -1,5 +1,4 @@
 -- `nodes::same_blocks` meets its contract.
-use Prim.Native.Nat.{◌-◌}
 use native.Mathlib.Omega.{arith}
 use Rattle.nodes.proofs.Same.{same_block}
 use Rattle.nodes.proofs.same_blocks.Goals as goal

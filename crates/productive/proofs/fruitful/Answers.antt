@@ -1,5 +1,4 @@
 -- `productive::fruitful` meets its contract. The loop's invariant: the bytes from the offset on decide. The measure is the number of bytes left.
-use Prim.Native.Nat.{◌-◌}
 use native.Mathlib.Omega.{arith}
 use Rattle.productive.proofs.Passing.{left_word, left_other, left_barren, left-all}
 use Rattle.productive.proofs.fruitful.Goals as goal

@@ -1,5 +1,4 @@
 -- `repeats::first_repeat` meets its contract. The loop's invariant: the names before the offset are marked. The measure is the number of bytes left.
-use Prim.Native.Nat.{◌-◌}
 use Rattle.repeats.proofs.Repeating.{searched_none, searched_word, searched_name}
 use Rattle.repeats.proofs.first_repeat.Goals as goal
 

@@ -1,5 +1,4 @@
 -- `runs::run` meets its contract: at each turn the blocks passed are shared.
-use Prim.Native.Nat.{◌-◌}
 use native.Mathlib.Omega.{arith}
 use Rattle.runs.proofs.Shared.{words_block}
 use Rattle.runs.proofs.run.Goals as goal

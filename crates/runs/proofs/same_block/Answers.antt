@@ -1,5 +1,5 @@
 -- `runs::same_block` meets its contract: at each turn the differences of the bytes passed are gathered.
-use Prim.Native.Nat.{◌+◌, ◌-◌}
+use Prim.Native.Nat.{◌+◌}
 use native.Mathlib.Omega.{arith}
 use Rattle.runs.proofs.Shared.{block_more}
 use Rattle.runs.proofs.same_block.Goals as goal

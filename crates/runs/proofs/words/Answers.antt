@@ -1,5 +1,4 @@
 -- `runs::words` meets its contract: at each turn the words passed are shared.
-use Prim.Native.Nat.{◌-◌}
 use native.Mathlib.Omega.{arith}
 use Rattle.runs.proofs.Shared.{words-node}
 use Rattle.runs.proofs.words.Goals as goal

@@ -1,5 +1,4 @@
 -- `signature::covered` meets its contract. The loop's invariant: the kinds passed are marked. The measure is the number of kinds left.
-use Prim.Native.Nat.{◌-◌}
 use native.Mathlib.Omega.{arith}
 use Rattle.signature.proofs.Marking.{covers_true, covers_false}
 use Rattle.signature.proofs.covered.Goals as goal

@@ -1,6 +1,5 @@
 -- `signature::empty_kind` meets its contract. The loop's invariant: what the rounds so far reach is marked. The measure is the number of rounds left.
 use mathlib.Core.Path.{subst}
-use Prim.Native.Nat.{◌-◌}
 use Rattle.signature.specs.Loading.{Searched}
 use Rattle.signature.proofs.Rounds.{reached-more, reached-all, reached_early, reached_still}
 use Rattle.signature.proofs.empty_kind.Goals as goal

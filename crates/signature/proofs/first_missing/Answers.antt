@@ -1,5 +1,4 @@
 -- `signature::first_missing` meets its contract. The loop's invariant: the kinds passed are marked. The measure is the number of kinds left.
-use Prim.Native.Nat.{◌-◌}
 use native.Mathlib.Omega.{arith}
 use Rattle.signature.proofs.Marking.{missing_kind, missing_nothing}
 use Rattle.signature.proofs.first_missing.Goals as goal

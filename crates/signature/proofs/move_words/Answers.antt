@@ -1,5 +1,4 @@
 -- `signature::move_words` meets its contract. The loop's invariant: the words passed had their turn. The measure is the number of words left.
-use Prim.Native.Nat.{◌-◌}
 use Rattle.signature.proofs.Rounds.{turn_inside}
 use Rattle.signature.proofs.move_words.Goals as goal
 

@@ -1,5 +1,4 @@
 -- `signature::read_kinds` meets its contract. The loop's invariant: the bytes passed are kinds. The measure is the number of kinds left.
-use Prim.Native.Nat.{◌-◌}
 use native.Mathlib.Omega.{arith}
 use Rattle.signature.proofs.KindBytes.{kinds-read_whole, kinds_read_ends, kinds_read_unknown}
 use Rattle.signature.proofs.read_kinds.Goals as goal

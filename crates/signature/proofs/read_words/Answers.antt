@@ -4,7 +4,6 @@
 --   cast-offsets to loop-again    a record in order goes into the four tables, and the next one is due
 --   the returns                   a record that ends too soon or names no kind, bytes behind the last one, and no more records
 --
-use Prim.Native.Nat.{◌-◌}
 use Rattle.signature.proofs.RecordsRead.{record_as, tabled-next, tabled-ends, tabled-unknown, tabled_continues, tabled-filled}
 use Rattle.signature.proofs.read_words.Goals as goal
 
