@@ -3,41 +3,55 @@
 #![tactic(auto)]
 
 use intake::Taken;
-use libc::{STDERR_FILENO, STDIN_FILENO, STDOUT_FILENO};
+use std::env::{Env, FillError};
+use std::fs;
+use std::fs::Files;
+use std::io::Read;
+
+// Tells in a line what went wrong. Where that cannot be written either, nothing is left to be done.
+fn complain(rt: &impl Eprint, what: &str) {
+    let _ = eprintln!(rt; "desk: {what}");
+}
 
 // Prints the answer for the text that comes. A byte more than a text may have is taken, so that a longer one is told.
-fn answer_from(fd: i32) {
-    let mut bytes = io::large_buffer();
-    let Taken::Bytes(n) = intake::take(fd, &mut bytes) else {
-        io::write_all(STDERR_FILENO, b"desk: the text could not be read\n");
+fn answer_from(rt: &(impl Print + Eprint + Files), input: &mut impl Read) {
+    let mut bytes = [0u8; 65536];
+    let Taken::Bytes(n) = intake::take(input, &mut bytes) else {
+        complain(rt, "the text could not be read");
         return;
     };
     let mut page = [0u8; 1048576];
     let k = answers::answer(&bytes[0..n], &mut page);
-    // Some failures, as of a file that lies on another machine, come only when the output is closed.
-    if !io::write_all(STDOUT_FILENO, &page[0..k]) || libc::close(STDOUT_FILENO) < 0 {
-        io::write_all(
-            STDERR_FILENO,
-            b"desk: the answer could not be written whole\n",
-        );
+    if !outlet::deliver(rt, &page[0..k]) {
+        complain(rt, "the answer could not be written whole");
     }
 }
 
-fn main() {
-    if os::arg_count() < 2 {
-        answer_from(STDIN_FILENO);
-        return;
+// Prints the answer for the file at a path.
+fn answer_file(rt: &(impl Print + Eprint + Files), path: &[u8]) {
+    match open(rt, path) {
+        Some(mut file) => answer_from(rt, &mut file),
+        None => complain(rt, "the file could not be opened"),
     }
-    if 2 < os::arg_count() {
-        io::write_all(STDERR_FILENO, b"desk: one file at a time\n");
-        return;
-    }
+}
+
+// The file at a path, which must be text.
+fn open<R: Files>(files: &R, path: &[u8]) -> Option<R::File> {
+    fs::open(files, str::from_utf8(path).ok()?).ok()
+}
+
+fn main(rt: HostRuntime) {
     let mut path = [0u8; 4096];
-    let n = os::arg(1, &mut path);
-    let fd = os::open_read(&path[0..n]);
-    if fd < 0 {
-        io::write_all(STDERR_FILENO, b"desk: the file could not be opened\n");
-        return;
+    match rt.arg(2, &mut path) {
+        Err(FillError::NotPresent) => {}
+        Ok(_) | Err(FillError::TooLong) => {
+            complain(&rt, "one file at a time");
+            return;
+        }
     }
-    answer_from(fd);
+    match rt.arg(1, &mut path) {
+        Ok(n) => answer_file(&rt, &path[0..n]),
+        Err(FillError::TooLong) => complain(&rt, "the file could not be opened"),
+        Err(FillError::NotPresent) => answer_from(&rt, &mut rt.stdin()),
+    }
 }

@@ -19,6 +19,7 @@
 //
 // A line is printed up to its colon, and then the reply. Every other line is passed over.
 use crate::{desk_line, match_line, notation, report_line, say, slice_line};
+use std::io;
 
 // A line's first byte, and a number sign for an empty line.
 fn key(line: &[u8]) -> u8 {
@@ -41,7 +42,7 @@ fn line_at(text: &[u8], at: usize) -> &[u8] {
 }
 
 // Runs the cases of a text.
-pub(crate) fn lines(text: &[u8]) {
+pub(crate) fn lines(rt: &impl Print, text: &[u8]) -> io::Result<()> {
     let mut under = 0;
     let mut at = 0;
     while at < text.len() {
@@ -49,83 +50,85 @@ pub(crate) fn lines(text: &[u8]) {
         if text[at] == b'u' {
             under = at;
         }
-        line(line_at(text, at), line_at(text, under));
+        line(rt, line_at(text, at), line_at(text, under))?;
         at += size + 1;
     }
+    Ok(())
 }
 
 // Runs the case of a line, with the line that has its vocabulary.
-fn line(line: &[u8], under: &[u8]) {
+fn line(rt: &impl Print, line: &[u8], under: &[u8]) -> io::Result<()> {
     let asked = key(line);
     if asked == b'#' {
-        return;
+        return Ok(());
     }
-    say::text(notation::before(line, b':'));
+    say::text(rt, notation::before(line, b':'))?;
     if asked == b'u' {
-        say::fixed(say::END);
-        return;
+        return say::fixed(rt, say::END);
     }
-    say::fixed(say::COLON);
-    case(line, notation::onward(under, b':'));
+    say::fixed(rt, say::COLON)?;
+    case(rt, line, notation::onward(under, b':'))
 }
 
-fn case(line: &[u8], vocabulary: &[u8]) {
+fn case(rt: &impl Print, line: &[u8], vocabulary: &[u8]) -> io::Result<()> {
     let mut bytes = [0u8; 4097];
     let n = notation::decode(vocabulary, &mut bytes);
-    under(line, notation::between(&bytes, 0, n));
+    under(rt, line, notation::between(&bytes, 0, n))
 }
 
 // The case of a line under a vocabulary. The longest book has a count and 64 patterns of 4,096 bytes.
-fn under(line: &[u8], vocabulary: &[u8]) {
+fn under(rt: &impl Print, line: &[u8], vocabulary: &[u8]) -> io::Result<()> {
     let mut bytes = [0u8; 262400];
     let n = notation::decode(
         notation::before(notation::onward(line, b':'), b'/'),
         &mut bytes,
     );
-    beside(line, vocabulary, notation::between(&bytes, 0, n));
+    beside(rt, line, vocabulary, notation::between(&bytes, 0, n))
 }
 
 // The same with the bytes before the slash.
-fn beside(line: &[u8], vocabulary: &[u8], one: &[u8]) {
+fn beside(rt: &impl Print, line: &[u8], vocabulary: &[u8], one: &[u8]) -> io::Result<()> {
     let mut bytes = [0u8; 8192];
     let n = notation::decode(
         notation::onward(notation::onward(line, b':'), b'/'),
         &mut bytes,
     );
     call(
+        rt,
         key(line),
         notation::number(line, b' '),
         vocabulary,
         one,
         notation::between(&bytes, 0, n),
-    );
+    )
 }
 
 // Goes by the first byte of a line's first word.
-fn call(key: u8, number: usize, vocabulary: &[u8], one: &[u8], other: &[u8]) {
+fn call(
+    rt: &impl Print,
+    key: u8,
+    number: usize,
+    vocabulary: &[u8],
+    one: &[u8],
+    other: &[u8],
+) -> io::Result<()> {
     if key == b'v' {
-        say::vocabulary(one);
-        return;
+        return say::vocabulary(rt, one);
     }
     if key == b't' {
-        say::term(vocabulary, one);
-        return;
+        return say::term(rt, vocabulary, one);
     }
     if key == b'm' {
-        match_line::matched(vocabulary, one, other, number);
-        return;
+        return match_line::matched(rt, vocabulary, one, other, number);
     }
     if key == b'p' {
-        say::bytes(matcher::part(vocabulary, one, other, number));
-        return;
+        return say::bytes(rt, matcher::part(vocabulary, one, other, number));
     }
     if of_report(key) {
-        report_line::printed(key, one);
-        return;
+        return report_line::printed(rt, key, one);
     }
     if desk_line::asked(key) {
-        desk_line::answered(key, one);
-        return;
+        return desk_line::answered(rt, key, one);
     }
-    slice_line::called(key, vocabulary, one, other, number);
+    slice_line::called(rt, key, vocabulary, one, other, number)
 }

@@ -1,6 +1,7 @@
 // The lent table of match: filled before the call with numbers that no entry of an answer can be, and told after
 // it by what each entry is.
 use crate::say;
+use std::io;
 
 // What the lent table holds at an index before the call.
 fn mark(i: usize) -> u16 {
@@ -44,27 +45,29 @@ fn wide(value: u16) -> usize {
 }
 
 // Prints an index and its entry, if it is another number.
-fn entry(i: usize, value: u16) {
+fn entry(rt: &impl Print, i: usize, value: u16) -> io::Result<()> {
     if sort(i, value) == 2 {
-        say::fixed(say::BLANK);
-        say::count(i, say::EQUALS);
-        say::count(wide(value), say::NOTHING);
+        say::fixed(rt, say::BLANK)?;
+        say::count(rt, i, say::EQUALS)?;
+        say::count(rt, wide(value), say::NOTHING)?;
     }
+    Ok(())
 }
 
-fn entries(table: &[u16]) {
+fn entries(rt: &impl Print, table: &[u16]) -> io::Result<()> {
     let mut i = 0;
     while i < table.len() {
-        entry(i, table[i]);
+        entry(rt, i, table[i])?;
         i += 1;
     }
+    Ok(())
 }
 
 // Prints how many entries are as lent, how many are 0, and all the others.
-pub(crate) fn contents(table: &[u16]) {
-    say::fixed(say::COMMA);
-    say::count(count(table, 0), say::AS_LENT);
-    say::count(count(table, 1), say::ZERO);
-    entries(table);
-    say::fixed(say::END);
+pub(crate) fn contents(rt: &impl Print, table: &[u16]) -> io::Result<()> {
+    say::fixed(rt, say::COMMA)?;
+    say::count(rt, count(table, 0), say::AS_LENT)?;
+    say::count(rt, count(table, 1), say::ZERO)?;
+    entries(rt, table)?;
+    say::fixed(rt, say::END)
 }

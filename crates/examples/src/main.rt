@@ -12,10 +12,14 @@ mod report_line;
 mod say;
 mod slice_line;
 
-use libc::STDIN_FILENO;
+use intake::Taken;
+use std::io;
+use std::io::{Error, ErrorKind};
 
-fn main() {
+fn main(rt: HostRuntime) -> io::Result<()> {
     let mut input = [0u8; 393216];
-    let n = io::read_full(STDIN_FILENO, &mut input);
-    cases::lines(notation::between(&input, 0, n));
+    match intake::take(&mut rt.stdin(), &mut input) {
+        Taken::Bytes(n) => cases::lines(&rt, notation::between(&input, 0, n)),
+        Taken::Failed => Err(Error::new(ErrorKind::InvalidInput, "the cases could not be read")),
+    }
 }

@@ -1,7 +1,7 @@
 // A reply as text, in document 01's numbers.
 use crate::notation;
-use libc::STDOUT_FILENO;
 use numbers::Numbers;
+use std::io;
 
 // The fixed texts, by their numbers in the row of `fixed`.
 pub(crate) const NOTHING: usize = 0;
@@ -45,94 +45,94 @@ pub(crate) const BYTES: usize = 18;
 pub(crate) const STANDS: usize = 19;
 
 // Prints a fixed text. They stand in a row, as each literal in a function costs as much to prove as a call or two.
-pub(crate) fn fixed(number: usize) {
-    text(notation::field(
-        b"|\n|: |, | |=|empty|accepted|refused|yes|no| as lent, | zero|, sum | of | behind as lent\n|, it is no entry\n|, it is entry | bytes, sum |, stands |",
-        number,
-    ));
+pub(crate) fn fixed(rt: &impl Print, number: usize) -> io::Result<()> {
+    text(
+        rt,
+        notation::field(
+            b"|\n|: |, | |=|empty|accepted|refused|yes|no| as lent, | zero|, sum | of | behind as lent\n|, it is no entry\n|, it is entry | bytes, sum |, stands |",
+            number,
+        ),
+    )
 }
 
-pub(crate) fn text(bytes: &[u8]) {
-    io::write_all(STDOUT_FILENO, bytes);
-}
-
-fn wide(byte: u8) -> u64 {
-    byte as u64
+pub(crate) fn text(rt: &impl Print, bytes: &[u8]) -> io::Result<()> {
+    rt.write_all(bytes)
 }
 
 // Prints bytes in hexadecimal, or that there are none, and ends the line.
-pub(crate) fn bytes(found: &[u8]) {
+pub(crate) fn bytes(rt: &impl Print, found: &[u8]) -> io::Result<()> {
     if found.len() == 0 {
-        fixed(EMPTY);
+        fixed(rt, EMPTY)?;
     }
     let mut i = 0;
     while i < found.len() {
-        io::print_hex(STDOUT_FILENO, wide(found[i]), 2);
+        let byte = found[i];
+        print!(rt; "{byte:02x}")?;
         i += 1;
     }
-    fixed(END);
+    fixed(rt, END)
 }
 
 // Prints a number and a fixed text behind it.
-pub(crate) fn count(n: usize, behind: usize) {
-    io::print_decimal(STDOUT_FILENO, n as u64);
-    fixed(behind);
+pub(crate) fn count(rt: &impl Print, n: usize, behind: usize) -> io::Result<()> {
+    print!(rt; "{n}")?;
+    fixed(rt, behind)
 }
 
-fn number(n: u64) {
-    fixed(BLANK);
-    io::print_decimal(STDOUT_FILENO, n);
+fn number(rt: &impl Print, n: u64) -> io::Result<()> {
+    fixed(rt, BLANK)?;
+    print!(rt; "{n}")
 }
 
 // A refusal's number, input and place.
-pub(crate) fn refused(given: Numbers) {
-    fixed(REFUSED);
-    number(given[0]);
-    number(given[1]);
-    number(given[2]);
+pub(crate) fn refused(rt: &impl Print, given: Numbers) -> io::Result<()> {
+    fixed(rt, REFUSED)?;
+    number(rt, given[0])?;
+    number(rt, given[1])?;
+    number(rt, given[2])
 }
 
 // A reply with two values, or a refusal.
-pub(crate) fn reply(given: Numbers) {
+pub(crate) fn reply(rt: &impl Print, given: Numbers) -> io::Result<()> {
     if given[0] != 0 {
-        refused(given);
-        return;
+        return refused(rt, given);
     }
-    fixed(ACCEPTED);
-    number(given[1]);
-    number(given[2]);
+    fixed(rt, ACCEPTED)?;
+    number(rt, given[1])?;
+    number(rt, given[2])
 }
 
 // The third and fourth value of a reply, which a refusal does not have.
-fn further(given: Numbers) {
+fn further(rt: &impl Print, given: Numbers) -> io::Result<()> {
     if given[0] == 0 {
-        number(given[3]);
-        number(given[4]);
+        number(rt, given[3])?;
+        number(rt, given[4])?;
     }
+    Ok(())
 }
 
 // A reply that has a text where it accepts, or a refusal.
-pub(crate) fn answer(given: Numbers, accepted: usize) {
+pub(crate) fn answer(rt: &impl Print, given: Numbers, accepted: usize) -> io::Result<()> {
     if given[0] == 0 {
-        fixed(accepted);
-        return;
+        return fixed(rt, accepted);
     }
-    refused(given);
+    refused(rt, given)
 }
 
 // Checks a vocabulary and prints the reply.
-pub(crate) fn vocabulary(vocabulary: &[u8]) {
+pub(crate) fn vocabulary(rt: &impl Print, vocabulary: &[u8]) -> io::Result<()> {
     answer(
+        rt,
         numbers::vocabulary_numbers(signature::check_vocabulary(vocabulary)),
         ACCEPTED,
-    );
-    fixed(END);
+    )?;
+    fixed(rt, END)
 }
 
 // Checks a term under a vocabulary and prints the reply, with four values where it accepts.
-pub(crate) fn term(vocabulary: &[u8], term: &[u8]) {
+pub(crate) fn term(rt: &impl Print, vocabulary: &[u8], term: &[u8]) -> io::Result<()> {
     let given = numbers::term_numbers(reader::check_term(vocabulary, term));
-    reply(given);
-    further(given);
-    fixed(END);
+    reply(rt, given)?;
+    further(rt, given)?;
+    fixed(rt, END)
 }

@@ -4,6 +4,7 @@ ghost use Rattle.std.specs.Prelude.{◌<◌, length};
 
 use crate::{book_line, notation, say};
 use numbers::Numbers;
+use std::io;
 
 // How many bytes of the slice the entries have.
 fn written(given: Numbers) -> usize {
@@ -41,11 +42,11 @@ fn as_lent(bytes: &[u8]) -> usize {
 }
 
 // Tells a sum of the entries, and how many bytes behind them are as lent.
-fn told_sum(total: usize, behind: &[u8]) {
-    say::fixed(say::SUM);
-    say::count(total, say::COMMA);
-    say::count(as_lent(behind), say::OF);
-    say::count(behind.len(), say::BEHIND);
+fn told_sum(rt: &impl Print, total: usize, behind: &[u8]) -> io::Result<()> {
+    say::fixed(rt, say::SUM)?;
+    say::count(rt, total, say::COMMA)?;
+    say::count(rt, as_lent(behind), say::OF)?;
+    say::count(rt, behind.len(), say::BEHIND)
 }
 
 // The first 4,096 bytes, or all that there are: an entry at the front has no more.
@@ -90,46 +91,49 @@ fn place(vocabulary: &[u8], sought: &[u8], entries: &[u8]) -> usize {
 }
 
 // Tells where the sought entry stands.
-fn told_place(number: usize) {
+fn told_place(rt: &impl Print, number: usize) -> io::Result<()> {
     if number == 0 {
-        say::fixed(say::NO_ENTRY);
-        return;
+        return say::fixed(rt, say::NO_ENTRY);
     }
-    say::fixed(say::ENTRY);
-    say::count(number, say::END);
+    say::fixed(rt, say::ENTRY)?;
+    say::count(rt, number, say::END)
 }
 
 // Tells how often the sought entry stands there.
-fn told_standing(number: usize) {
-    say::fixed(say::STANDS);
-    say::count(number, say::END);
+fn told_standing(rt: &impl Print, number: usize) -> io::Result<()> {
+    say::fixed(rt, say::STANDS)?;
+    say::count(rt, number, say::END)
 }
 
 // Tells what the line asks of the slice, whose first n bytes are the entries: a sum of them, where or how often the sought
 // one stands, or the whole slice.
-fn told(key: u8, vocabulary: &[u8], sought: &[u8], out: &[u8], n: usize) {
+fn told(
+    rt: &impl Print,
+    key: u8,
+    vocabulary: &[u8],
+    sought: &[u8],
+    out: &[u8],
+    n: usize,
+) -> io::Result<()> {
     let entries = notation::between(out, 0, n);
     if key == b's' {
-        told_sum(sum(entries), notation::between(out, n, out.len()));
-        return;
+        return told_sum(rt, sum(entries), notation::between(out, n, out.len()));
     }
     if key == b'b' {
-        told_sum(
+        return told_sum(
+            rt,
             book_line::tally(key, vocabulary, sought, entries),
             notation::between(out, n, out.len()),
         );
-        return;
     }
     if key == b'f' {
-        told_place(place(vocabulary, sought, entries));
-        return;
+        return told_place(rt, place(vocabulary, sought, entries));
     }
     if key == b'h' {
-        told_standing(book_line::tally(key, vocabulary, sought, entries));
-        return;
+        return told_standing(rt, book_line::tally(key, vocabulary, sought, entries));
     }
-    say::fixed(say::COMMA);
-    say::bytes(out);
+    say::fixed(rt, say::COMMA)?;
+    say::bytes(rt, out)
 }
 
 // Fills or lists into the lent slice.
@@ -144,16 +148,31 @@ fn reply(key: u8, vocabulary: &[u8], one: &[u8], other: &[u8], out: &mut [u8]) -
 }
 
 // Makes the call with the lent slice, and tells the answer and what the line asks of the slice.
-fn asked(key: u8, vocabulary: &[u8], one: &[u8], other: &[u8], out: &mut [u8]) {
+fn asked(
+    rt: &impl Print,
+    key: u8,
+    vocabulary: &[u8],
+    one: &[u8],
+    other: &[u8],
+    out: &mut [u8],
+) -> io::Result<()> {
     let given = reply(key, vocabulary, one, other, out);
-    say::reply(given);
-    told(key, vocabulary, other, out, written(given));
+    say::reply(rt, given)?;
+    told(rt, key, vocabulary, other, out, written(given))
 }
 
 // Makes the call with so many bytes, at most 524,288.
-pub(crate) fn called(key: u8, vocabulary: &[u8], one: &[u8], other: &[u8], length: usize) {
+pub(crate) fn called(
+    rt: &impl Print,
+    key: u8,
+    vocabulary: &[u8],
+    one: &[u8],
+    other: &[u8],
+    length: usize,
+) -> io::Result<()> {
     let mut out = [238u8; 524288];
     if length <= 524288 {
-        asked(key, vocabulary, one, other, &mut out[0..length]);
+        asked(rt, key, vocabulary, one, other, &mut out[0..length])?;
     }
+    Ok(())
 }

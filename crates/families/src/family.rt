@@ -6,6 +6,7 @@ ghost use Rattle.std.specs.Prelude.{◌≤◌};
 use crate::{addresses, say};
 use matcher::MatchAnswer;
 use reader::TermAnswer;
+use std::io;
 
 // What a family came to: how many yes, no and differences, and of all the tables that a yes filled the sum of
 // the offsets and the sum of the lengths.
@@ -267,21 +268,23 @@ fn compare_all(
     tally
 }
 
-fn say_tally(tally: Tally) {
+fn say_tally(rt: &impl Print, tally: Tally) -> io::Result<()> {
     say::count(
+        rt,
         plus(plus(tally.yes, tally.no), tally.differences),
         say::CASES,
-    );
-    say::count(tally.yes, say::YES);
-    say::count(tally.no, say::NO);
-    say::count(tally.differences, say::DIFFERENCES);
-    say::count(tally.offsets, say::LENGTHS);
-    say::count(tally.lengths, say::END);
+    )?;
+    say::count(rt, tally.yes, say::YES)?;
+    say::count(rt, tally.no, say::NO)?;
+    say::count(rt, tally.differences, say::DIFFERENCES)?;
+    say::count(rt, tally.offsets, say::LENGTHS)?;
+    say::count(rt, tally.lengths, say::END)
 }
 
 // Runs a family and prints its line. Patterns are those of the first p numbers in the first alphabet, situations
 // those of the first s in the second, whose maps are the words' place maps.
 pub(crate) fn family(
+    rt: &impl Print,
     label: usize,
     vocabulary: &[u8],
     kind: u8,
@@ -289,9 +292,9 @@ pub(crate) fn family(
     p: usize,
     words: &[u8],
     s: usize,
-) {
-    say::text(label);
-    say::count(count(vocabulary, kind, tokens, p), say::PATTERNS);
-    say::count(count(vocabulary, kind, words, s), say::SITUATIONS);
-    say_tally(compare_all(vocabulary, kind, tokens, p, words, s));
+) -> io::Result<()> {
+    say::text(rt, label)?;
+    say::count(rt, count(vocabulary, kind, tokens, p), say::PATTERNS)?;
+    say::count(rt, count(vocabulary, kind, words, s), say::SITUATIONS)?;
+    say_tally(rt, compare_all(vocabulary, kind, tokens, p, words, s))
 }

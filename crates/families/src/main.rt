@@ -7,6 +7,8 @@ mod family;
 mod family_cases;
 mod say;
 
-fn main() {
-    family_cases::all();
+use std::io;
+
+fn main(rt: HostRuntime) -> io::Result<()> {
+    family_cases::all(&rt)
 }

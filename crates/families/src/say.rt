@@ -1,6 +1,6 @@
 // Texts and numbers on standard output.
 use crate::addresses;
-use libc::STDOUT_FILENO;
+use std::io;
 
 // The texts, by their numbers in the row of `text`.
 pub(crate) const C: usize = 0;
@@ -46,31 +46,32 @@ fn bar(row: &[u8], from: usize) -> usize {
 }
 
 // Prints the field of a row that stands behind so many bars.
-fn field(row: &[u8], number: usize) {
+fn field(rt: &impl Print, row: &[u8], number: usize) -> io::Result<()> {
     let mut left = number;
     let mut at = 0;
     while at < row.len() {
         if left == 0 {
-            io::write_all(STDOUT_FILENO, addresses::between(row, at, bar(row, at)));
-            return;
+            return rt.write_all(addresses::between(row, at, bar(row, at)));
         }
         if row[at] == b'|' {
             left -= 1;
         }
         at += 1;
     }
+    Ok(())
 }
 
 // Prints a text. They stand in a row, as each literal in a function costs as much to prove as a call or two.
-pub(crate) fn text(number: usize) {
+pub(crate) fn text(rt: &impl Print, number: usize) -> io::Result<()> {
     field(
+        rt,
         b"family, C: |family, gaps, kind 0: |family, gaps, kind 1: |family, three places: |family, A, kind 0: |family, A, kind 1: |family, A, kind 2: | patterns, | situations, | cases, | yes, | no, | differences, offsets |, lengths |\n|",
         number,
-    );
+    )
 }
 
 // Prints a number and a text behind it.
-pub(crate) fn count(n: usize, behind: usize) {
-    io::print_decimal(STDOUT_FILENO, n as u64);
-    text(behind);
+pub(crate) fn count(rt: &impl Print, n: usize, behind: usize) -> io::Result<()> {
+    print!(rt; "{n}")?;
+    text(rt, behind)
 }

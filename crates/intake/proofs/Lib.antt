@@ -1,1 +1,2 @@
--- Nothing is needed beside the proof of each function.
+-- What the proof of taking an input rests on.
+mod Filling

@@ -1,7 +1,9 @@
-// Reading an input. A read that fails is told apart from the end, which `io::read_full` does not do.
+// Reading an input. A read that fails is told apart from the end.
 #![tactic(auto)]
 
-ghost use Rattle.intake.specs.Input.{Within};
+ghost use Rattle.intake.specs.Input.{Comes, Within};
+
+use std::io::Read;
 
 // How many bytes came, or that some could not be read.
 #[derive(Drop)]
@@ -11,20 +13,17 @@ pub enum Taken {
 }
 
 // Reads until the buffer is full or the input ends. A read that fails is not the end, whatever came before it.
-pub fn take(fd: i32, buffer: &mut [u8]) -> Taken
-    ensures { Within buffer.new result }
+pub fn take<R: Read>(input: &mut R, buffer: &mut [u8]) -> Taken
+    ensures within { Within buffer.new result }
+    ensures comes { Comes (R.remaining input.old) (R.remaining input.new) buffer.new result }
 {
     let mut n = 0;
     while n < buffer.len() {
-        let parsed = libc::read(fd, &mut buffer[n..]);
-        if parsed < 0 {
-            return Taken::Failed;
+        match input.read(&mut buffer[n..]) {
+            Ok(0) => return Taken::Bytes(n),
+            Ok(more) => n += more,
+            Err(_) => return Taken::Failed,
         }
-        let more = io::count(parsed, &buffer[n..]);
-        if more == 0 {
-            return Taken::Bytes(n);
-        }
-        n += more;
     }
     Taken::Bytes(n)
 }

@@ -3,21 +3,21 @@
 #![tactic(auto)]
 
 use intake::Taken;
-use libc::{STDERR_FILENO, STDIN_FILENO, STDOUT_FILENO};
 
-fn main() {
-    let mut bytes = io::large_buffer();
-    let Taken::Bytes(n) = intake::take(STDIN_FILENO, &mut bytes) else {
-        io::write_all(STDERR_FILENO, b"leftovers: the input could not be read\n");
+// Tells in a line what went wrong. Where that cannot be written either, nothing is left to be done.
+fn complain(rt: &impl Eprint, what: &str) {
+    let _ = eprintln!(rt; "leftovers: {what}");
+}
+
+fn main(rt: HostRuntime) {
+    let mut bytes = [0u8; 65536];
+    let Taken::Bytes(n) = intake::take(&mut rt.stdin(), &mut bytes) else {
+        complain(&rt, "the input could not be read");
         return;
     };
     let mut text = [0u8; 524288];
     let k = report::print(&bytes[0..n], &mut text);
-    // Some failures, as of a file that lies on another machine, come only when the output is closed.
-    if !io::write_all(STDOUT_FILENO, &text[0..k]) || libc::close(STDOUT_FILENO) < 0 {
-        io::write_all(
-            STDERR_FILENO,
-            b"leftovers: the output could not be written whole\n",
-        );
+    if !outlet::deliver(&rt, &text[0..k]) {
+        complain(&rt, "the output could not be written whole");
     }
 }
