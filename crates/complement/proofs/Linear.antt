@@ -2,7 +2,7 @@
 use mathlib.Core.Path.{◌≡◌, refl, sym, ap, ap₂, ◌∙◌, subst}
 use mathlib.Core.Bool.{Bool, true, false}
 use mathlib.Core.List.{List, [], ◌∷◌, ◌++◌}
-use Prim.Native.Nat.{ℕ, ◌+◌, ◌<◌, ◌≤◌, min}
+use Prim.Native.Nat.{ℕ, ◌<◌, ◌≤◌, min}
 use native.Mathlib.Nat.{le-max_right, min-eq_left}
 use native.Mathlib.Omega.{arith}
 use lib.Dec.{leb}
@@ -71,13 +71,13 @@ module _ {p : List ℕ} {words : ℕ} {results : List ℕ} (h : Patterned p word
   few_words : words ≤ most_words
   few_words = omega (arith, h.tabled.words, h.in_order.few_words)
 
-  pub most_bytes : length p ≤ 4096
-  most_bytes = h.held.limits.most
+  pub within_most : length p ≤ 4096
+  within_most = h.held.limits.most
 
   module _ {entries bytes : ℕ} (m : Measured words results p entries bytes) where
     sizes_are : (entries ≡ entry_count) × (bytes ≡ length entry_bytes)
     sizes_are =
-        pattern-sizes W h.in_order s t h.held.good (omega (arith, most_bytes, ap length h.held.written)) words results h.tabled.words
+        pattern-sizes W h.in_order s t h.held.good (omega (arith, within_most, ap length h.held.written)) words results h.tabled.words
         h.tabled.result entries bytes (subst (λ l. Measured words results l entries bytes) h.held.written m)
 
   -- The tables of its vocabulary.
