@@ -13,7 +13,6 @@ use mathlib.Core.Logic.{◌⊎◌, inl, inr}
 use mathlib.Core.Option.{Option, some, none, some-ne-none}
 use Prim.Native.Nat.{ℕ, suc, ◌≤◌, min}
 use native.Mathlib.Omega.{arith}
-use denote.Enum.Declared.{tag_of}
 use lib.Dec.{ltb, leb, eqb}
 use lib.ListN.{length}
 use borrow.Author.Tests.{le-ltb, ltb-false}
@@ -34,7 +33,6 @@ use Rattle.books.specs.Turning.{turn_numbers, turned_by, BookAt, ReadAt, ListsIn
 use Rattle.books.specs.Calls.{ListsBook}
 use Rattle.books.specs.declared.turns.Turned.{Turned}
 use Rattle.books.specs.declared.turns.Turned.TheVariants.{Listed, NoRoom, Past}
-use Rattle.books.specs.contracts.turns.Turned.{the_type}
 
 -- ---- larger areas
 
@@ -65,11 +63,10 @@ is_past (accepted l) = false
 is_past (refused n i q) = eqb n 26
 
 -- A turn that ends by another variant.
-pub not_past : (t : Turned) → (tag_of the_type t ≡ 0) ⊎ (tag_of the_type t ≡ 1) → is_past (turn_numbers t) ≡ false
+pub not_past : (t : Turned) → ((i : ℕ) → t ≡ Past i → ⊥) → is_past (turn_numbers t) ≡ false
 not_past (Listed entries bytes) h = refl
 not_past (NoRoom bytes) h = refl
-not_past (Past i) (inl e) = absurd (omega arith)
-not_past (Past i) (inr e) = absurd (omega arith)
+not_past (Past i) h = absurd (h i refl)
 
 listed_no_past : (out : List ℕ) (n : ℕ) (b : List ℕ) → is_past (listed_into out n b).reply ≡ false
 listed_no_past out n b = choice (λ (e : Effect). is_past e.reply ≡ false) (leb (length b) (length out)) _ _ (λ h. refl) (λ h. refl)
