@@ -1,8 +1,6 @@
 -- `extents::front_size` meets its contract. The loop's invariant: the terms that are due from `at` on end where the term does. The measure
 -- is the number of bytes left.
 use mathlib.Core.Path.{subst, ◌∙◌}
-use Prim.Native.Nat.{◌-◌}
-use lib.Count
 use Rattle.wire.proofs.Ones.{no_ones}
 use Rattle.extents.proofs.Nodes.{DueFrom, from-begins, from_none, from-node, from-below, beside_ones, joined-ones, bare-ones}
 use Rattle.extents.proofs.front_size.Goals as goal
