@@ -1,7 +1,7 @@
 # Builds and installs the archive for C and other languages, with its header and a file for pkg-config.
 #
-#   make                                     proves the crates and writes the archive, where there is none or
-#                                            where a crate is newer
+#   make                                     proves the crates that the archive is made of and writes it, where
+#                                            there is none or where a crate is newer
 #   make install PREFIX=/some/dir            installs; PREFIX is /usr/local unless said
 #   make install DESTDIR=/stage PREFIX=/usr  the same into a staging folder
 #   make uninstall PREFIX=/some/dir          removes the three files again
@@ -27,7 +27,7 @@ RT = rt
 
 archive = target/staticlib/libpheasantry.a
 header = include/pheasantry.h
-sources := $(shell find crates -name '*.rt' -o -name '*.antt')
+sources := crates.txt $(shell find crates -name out -prune -o \( -name '*.rt' -o -name '*.antt' \) -print)
 
 version := $(shell sed -n 's/^.define PHEASANTRY_VERSION "\(.*\)"/\1/p' $(header))
 numbers := $(shell sed -n 's/^.define PHEASANTRY_VERSION_[A-Z]* //p' $(header) | paste -s -d . -)
@@ -39,8 +39,11 @@ all: archive
 
 archive: $(archive)
 
+# It is to run on every x86-64 processor, where the kit by itself builds for x86-64-v2.
 $(archive): $(sources)
-	$(RT) staticlib pheasantry
+	cd crates/pheasantry && $(RT) lib --cpu=x86-64
+	$(INSTALL) -d $(@D)
+	$(INSTALL) -m 644 crates/pheasantry/out/libpheasantry.a $@
 
 check-version:
 	@test '$(numbers)' = '$(version)' || { echo '$(header) says $(version) and $(numbers)'; exit 1; }

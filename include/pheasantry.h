@@ -8,8 +8,8 @@
  *
  * Link
  *   `make install` installs this header, libpheasantry.a and a file for pkg-config: compile with
- *   `pkg-config --cflags --libs pheasantry`. Without installing, `rt staticlib pheasantry` writes
- *   libpheasantry.a into target/staticlib. The archive is for x86-64 Linux and can be linked into
+ *   `pkg-config --cflags --libs pheasantry`. Without installing, `make` writes libpheasantry.a
+ *   into target/staticlib. The archive is for x86-64 Linux and can be linked into
  *   programs and shared libraries. It needs memcpy, memmove and memset of the C library, and nothing
  *   else.
  *

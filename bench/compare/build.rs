@@ -5,12 +5,12 @@ use std::env;
 use std::path::{Path, PathBuf};
 use std::process::{exit, Command};
 
-/// A folder's archive, which `rt staticlib pheasantry` writes.
+/// A folder's archive, which `make` writes.
 fn archive(folder: &Path) -> PathBuf {
     let archive = folder.join("libpheasantry.a");
     if !archive.is_file() {
         eprintln!(
-            "there is no {}: `rt staticlib pheasantry` writes it into target/staticlib of a repository",
+            "there is no {}: `make` writes it into target/staticlib of a repository",
             archive.display()
         );
         exit(1);

@@ -6,7 +6,7 @@
  *   cc -std=c99 bindings/c/example.c $(pkg-config --cflags --libs pheasantry) -o example
  *   ./example
  *
- * From the repository alone, after `rt staticlib pheasantry`:
+ * From the repository alone, after `make`:
  *
  *   cc -std=c99 -Iinclude bindings/c/example.c target/staticlib/libpheasantry.a -o target/example
  *   target/example

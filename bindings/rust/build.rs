@@ -22,7 +22,7 @@ fn main() {
     println!("cargo:rerun-if-changed={}", archive.display());
     if !archive.is_file() {
         eprintln!("pheasantry: there is no {}", archive.display());
-        eprintln!("pheasantry: run `rt staticlib pheasantry` at the repository's root, which proves and writes it,");
+        eprintln!("pheasantry: run `make` at the repository's root, which proves and writes it,");
         eprintln!(
             "pheasantry: or set PHEASANTRY_ARCHIVE_DIR to the folder that holds libpheasantry.a"
         );

@@ -1,6 +1,6 @@
 //! The leftovers of wait(up, free), and of a book, in words, and what is said of inputs that are refused.
 //!
-//!     rt staticlib pheasantry
+//!     make
 //!     cd bindings/rust
 //!     cargo run --offline --example leftovers
 //!

@@ -28,8 +28,8 @@
 //!
 //! # The archive
 //!
-//! `rt staticlib pheasantry`, run at the repository's root, proves the library and writes the archive
-//! into `target/staticlib`, where this crate looks for it. Another folder, such as the one that `make
+//! `make`, run at the repository's root, proves the library and writes the archive into
+//! `target/staticlib`, where this crate looks for it. Another folder, such as the one that `make
 //! install` put it into, is named in the environment variable `PHEASANTRY_ARCHIVE_DIR` when the crate is
 //! built. The archive is for x86-64 Linux. A call takes at most 16 KiB of stack, and one over a book 160
 //! KiB.

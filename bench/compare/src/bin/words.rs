@@ -3,7 +3,7 @@
 //! left open. The leftovers in an answer, read back, are compared with those that the archive and the
 //! reference list, and the answers to questions with the archive's match.
 //!
-//! Arguments: the number of texts (20,000), the seed (1) and the program (`../../target/bin/desk`).
+//! Arguments: the number of texts (20,000), the seed (1) and the program (`../../crates/desk/out/desk`).
 
 use compare::archive;
 use reference::generate::{Gen, TextCase};
@@ -245,10 +245,10 @@ fn argument(at: usize, otherwise: u64) -> u64 {
 fn main() {
     let (texts, seed) = (argument(1, 20_000), argument(2, 1));
     let program = std::env::args_os().nth(3).map(PathBuf::from);
-    let program = program.unwrap_or_else(|| "../../target/bin/desk".into());
+    let program = program.unwrap_or_else(|| "../../crates/desk/out/desk".into());
     if !program.is_file() {
         eprintln!(
-            "there is no {}: `rt check desk` writes it",
+            "there is no {}: `rt run` in crates/desk writes it",
             program.display()
         );
         exit(2);
