@@ -4,7 +4,7 @@ use Prim.Native.Nat.{◌+◌}
 use native.Mathlib.Omega.{arith}
 use Rattle.maps.proofs.Reading.{map_at_lem}
 use Rattle.complement.proofs.Places.{reached_none, done-inside, reached-all, is_bit, reached-clear, place-term, reached-term, both-inside}
-use Rattle.complement.proofs.Terms.{term-word, own-others_at, own-inside, word-places, word-listed}
+use Rattle.complement.proofs.Terms.{term-word, name-listed, own-others_at, own-inside, word-places, word-listed}
 use Rattle.complement.proofs.+list_places_list_term.Goals as goal
 
 -- ---- list_places, at the loop
@@ -58,6 +58,11 @@ list_places-loop-bits-preserved t c =
 -- No bit is left: the map is the pattern's again.
 pub list_places-returns : goal.list_places-returns
 list_places-returns t c = λ h. reached-all _ h (c.loop-bits.invariant h) c.loop-bits-test.false
+
+-- ---- list_term, at a name
+
+pub list_term-returns-then-first-gt127 : goal.list_term-returns-then-first-gt127
+list_term-returns-then-first-gt127 t c = λ h. name-listed h c.if-first-gt127.true _
 
 -- ---- list_term, at a word
 
