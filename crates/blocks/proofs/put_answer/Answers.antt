@@ -8,6 +8,5 @@ use Rattle.blocks.proofs.put_too_many.Reads as put-too-many-reads
 use Rattle.numbers.proofs.list_numbers.Reads as list-numbers-reads
 use Rattle.blocks.proofs.put_answer.Goals as goal
 
--- src/lib.rt:111:1
 pub returns : goal.returns
 returns c = adds_is (refused_is _ c.args.answer c.args.listing.now c.list_numbers-said.ensures c.if-said-eq0.false) c.put_too_many.ensures

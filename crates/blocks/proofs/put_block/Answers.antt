@@ -10,6 +10,5 @@ use Rattle.pages.proofs.put.Reads as put_reads
 use Rattle.wording.proofs.write_phrase.Reads as write-phrase-reads
 use Rattle.blocks.proofs.put_block.Goals as goal
 
--- src/lib.rt:142:1
 pub returns : goal.returns
 returns c = adds_then c.put-a.ensures (adds_then c.put_label-b.ensures (adds_then c.write_phrase-c.ensures (adds_then c.put-d.ensures (adds_then (adds_is (effect_is _ c.list-answer.ensures.has_effect) c.put_answer-e.ensures) c.put.ensures))))

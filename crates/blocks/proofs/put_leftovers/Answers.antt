@@ -7,6 +7,5 @@ use Rattle.pages.proofs.put.Reads as put_reads
 use Rattle.pages.proofs.put_number.Reads as put-number-reads
 use Rattle.blocks.proofs.put_leftovers.Goals as goal
 
--- src/lib.rt:79:1
 pub returns : goal.returns
 returns c = adds_then c.put-a.ensures (adds_then c.put_number-b.ensures (adds_then c.put-c.ensures (adds_then c.put_lines-d.ensures (adds_then c.put-e.ensures (adds_then c.put_number-f.ensures c.put.ensures)))))

@@ -3,10 +3,6 @@ use Prim.Native.Nat.{◌-◌}
 use Rattle.wording.specs.Tables.{tables_in}
 use Rattle.texts.specs.Answering.{leftover_line_by}
 use Rattle.blocks.proofs.Blocks.{Going}
-use Rattle.blocks.proofs.put_lines.Reads as reads
-use Rattle.blocks.proofs.put_lines.Lts as lts
-use Rattle.blocks.proofs.put_line.Reads as put-line-reads
-use Rattle.extents.proofs.entry_size.Reads as entry-size-reads
 use Rattle.blocks.proofs.put_lines.Given as goal
 
 abbrev pub invariant-loop-i : goal.invariant-loop-i

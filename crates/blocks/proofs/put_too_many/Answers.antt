@@ -6,6 +6,5 @@ use Rattle.pages.proofs.put.Reads as put_reads
 use Rattle.pages.proofs.put_number.Reads as put-number-reads
 use Rattle.blocks.proofs.put_too_many.Goals as goal
 
--- src/lib.rt:102:1
 pub returns : goal.returns
 returns c = adds_then c.put-a.ensures (adds_then c.put_number-b.ensures c.put.ensures)

@@ -23,11 +23,11 @@ returns-in-Refused c =
 pub walk-requires-clause-inputs_read : goal.walk-requires-clause-inputs_read
 walk-requires-clause-inputs_read c =
     let lent : let a = c.args in Lent a.vocabulary.now a.pattern.now a.situation.now = let a = c.args in
-        record {
-          vocabulary = bytes_of a.vocabulary.now (λ i. (c.shared_slice_known-1.given i).fits);
-          pattern = bytes_of a.pattern.now (λ i. (c.shared_slice_known-2-1.given i).fits);
-          situation = bytes_of a.situation.now (λ i. (c.shared_slice_known-3-1.given i).fits);
-        } in
+    record {
+      vocabulary = bytes_of a.vocabulary.now (λ i. (c.shared_slice_known-1.given i).fits);
+      pattern = bytes_of a.pattern.now (λ i. (c.shared_slice_known-2-1.given i).fits);
+      situation = bytes_of a.situation.now (λ i. (c.shared_slice_known-3-1.given i).fits);
+    } in
     let reply : let a = c.args in inputs_numbers c.judge.result ≡ clear_reply (judged a.vocabulary.now a.pattern.now a.situation.now) = c.judge.ensures c.walk_front-front.ensures.agrees in
     let clears : c.judge.result ≡ Clear → let a = c.args in accepted [] ≡ clear_reply (judged a.vocabulary.now a.pattern.now a.situation.now) = λ e. sym (ap inputs_numbers e) ∙ reply in
     inputs_read (lent) (clears c.in-Clear.is)
@@ -35,11 +35,11 @@ walk-requires-clause-inputs_read c =
 pub returns-then-walk : goal.returns-then-walk
 returns-then-walk c =
     let lent : let a = c.args in Lent a.vocabulary.now a.pattern.now a.situation.now = let a = c.args in
-        record {
-          vocabulary = bytes_of a.vocabulary.now (λ i. (c.shared_slice_known-1.given i).fits);
-          pattern = bytes_of a.pattern.now (λ i. (c.shared_slice_known-2-1.given i).fits);
-          situation = bytes_of a.situation.now (λ i. (c.shared_slice_known-3-1.given i).fits);
-        } in
+    record {
+      vocabulary = bytes_of a.vocabulary.now (λ i. (c.shared_slice_known-1.given i).fits);
+      pattern = bytes_of a.pattern.now (λ i. (c.shared_slice_known-2-1.given i).fits);
+      situation = bytes_of a.situation.now (λ i. (c.shared_slice_known-3-1.given i).fits);
+    } in
     let reply : let a = c.args in inputs_numbers c.judge.result ≡ clear_reply (judged a.vocabulary.now a.pattern.now a.situation.now) = c.judge.ensures c.walk_front-front.ensures.agrees in
     let clears : c.judge.result ≡ Clear → let a = c.args in accepted [] ≡ clear_reply (judged a.vocabulary.now a.pattern.now a.situation.now) = λ e. sym (ap inputs_numbers e) ∙ reply in
     let clear = clears c.in-Clear.is in
@@ -48,11 +48,11 @@ returns-then-walk c =
 pub returns : goal.returns
 returns c =
     let lent : let a = c.args in Lent a.vocabulary.now a.pattern.now a.situation.now = let a = c.args in
-        record {
-          vocabulary = bytes_of a.vocabulary.now (λ i. (c.shared_slice_known-1.given i).fits);
-          pattern = bytes_of a.pattern.now (λ i. (c.shared_slice_known-2-1.given i).fits);
-          situation = bytes_of a.situation.now (λ i. (c.shared_slice_known-3-1.given i).fits);
-        } in
+    record {
+      vocabulary = bytes_of a.vocabulary.now (λ i. (c.shared_slice_known-1.given i).fits);
+      pattern = bytes_of a.pattern.now (λ i. (c.shared_slice_known-2-1.given i).fits);
+      situation = bytes_of a.situation.now (λ i. (c.shared_slice_known-3-1.given i).fits);
+    } in
     let reply : let a = c.args in inputs_numbers c.judge.result ≡ clear_reply (judged a.vocabulary.now a.pattern.now a.situation.now) = c.judge.ensures c.walk_front-front.ensures.agrees in
     let clears : c.judge.result ≡ Clear → let a = c.args in accepted [] ≡ clear_reply (judged a.vocabulary.now a.pattern.now a.situation.now) = λ e. sym (ap inputs_numbers e) ∙ reply in
     let clear = clears c.in-Clear.is in
