@@ -7,7 +7,7 @@ use native.Mathlib.Omega.{arith}
 use lib.ListN.{get_or, replicate}
 use Rattle.wire.specs.Reply.{accepted}
 use Rattle.wire.specs.TermBytes.{name_count}
-use Rattle.wire.specs.Matching.{table_length, Span, no_span, span_in, yes, cut_out, PartPromise}
+use Rattle.wire.specs.Matching.{table_length, Span, no_span, span_in, cut_out, PartPromise}
 use Rattle.wire.specs.MatchComputed.{matched, part_span}
 use Rattle.wire.proofs.Matching.{part-keeps}
 use Rattle.wire.proofs.PartTable.{part_is_table, blank_part}
