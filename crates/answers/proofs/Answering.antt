@@ -69,8 +69,7 @@ use Rattle.paragraphs.specs.Paragraphs.{places_table, paragraphs_from, Says, Che
 use Rattle.paragraphs.proofs.Courses.{courses}
 use Rattle.tails.specs.Tails.{Tailed}
 use Rattle.tails.proofs.Tailing.{course-moved, good_phrases}
-use Rattle.files.specs.Puts.{PutsFile}
-use Rattle.answers.specs.Asked.{LexiconKnown, AnswersWhole}
+use Rattle.answers.specs.Asked.{PutsFile, LexiconKnown, AnswersWhole}
 
 -- ---- lists
 
@@ -156,7 +155,7 @@ module _ {b : List ℕ} {at : ℕ} {ks : List ℕ} {k : ℕ} {ws : List ℕ} {n 
   abbrev lexicon_in : LexiconRead
   lexicon_in = record { kind_names = names_in b (take k ks); word_names = names_in b (take n ws); rows = rows_in n r }
 
-  readable : Readable b at k n
+  pub readable : Readable b at k n
   readable = record { short = h.short; inside = h.fits.within; kinds = h.fits.few_kinds; words = h.fits.tables.few }
 
   names-many : (m : ℕ) (q : List ℕ) → m ≤ length q → length (names_in b (take m q)) ≡ m
@@ -244,7 +243,7 @@ module _ {b : List ℕ} {at : ℕ} {ks : List ℕ} {k : ℕ} {ws : List ℕ} {n 
             answers-well lexicon_in qs (file_well b h.short lexicon_in (lexemes_from b at) h.same qs l (sym read_same ∙ e))
             (λ F ls t same these listings.
             let st = stands F.lexicon t.lexicon same in
-            put.puts F.lexicon F.paragraphs ls readable st (due F.lexicon qs F.paragraphs l ls m st s e these t.paragraphs listings))
+            put.puts F.lexicon F.paragraphs ls st (due F.lexicon qs F.paragraphs l ls m st s e these t.paragraphs listings))
 
 -- ---- where it was not
 

@@ -1,12 +1,14 @@
 -- Asked: what the functions that answer a text promise each other; no public contract cites it.
 --
+--   PutsFile                   what is put for a text
 --   LexiconKnown               the vocabulary was read
 --   AnswersWhole               the answer for a text, or what is said of its fault
 --
 use Rattle.std.specs.Prelude.{◌≡◌, List, ℕ, ◌≤◌, length}
 use Rattle.terms.specs.Term.{Term}
 use Rattle.texts.specs.Lexemes.{lexemes}
-use Rattle.texts.specs.Files.{most_text, File, phrases_of, IsText}
+use Rattle.texts.specs.Lexicon.{Lexicon}
+use Rattle.texts.specs.Files.{most_text, Paragraph, File, phrases_of, IsText}
 use Rattle.texts.specs.Faults.{Fault}
 use Rattle.texts.specs.Complaints.{Known, complaint}
 use Rattle.texts.specs.Answers.{desk_text, AreListings}
@@ -15,7 +17,12 @@ use Rattle.texts.specs.Answering.{read_ill, read_file}
 use Rattle.pages.specs.Pages.{Adds}
 use Rattle.lexicon.specs.Answers.{lexicon_answered, Fits}
 use Rattle.lexicon.specs.declared.LexiconAnswer.TheVariants.{Read}
+use Rattle.paragraphs.specs.Paragraphs.{Stands, Due}
 use Rattle.tails.specs.Tails.{Tailed}
+
+pub record PutsFile (b : List ℕ) (at : ℕ) (ks : List ℕ) (k : ℕ) (ws : List ℕ) (n : ℕ) (r : List ℕ) (m : ℕ) (before after : List ℕ) (to : ℕ) : Type 0 where
+  pub puts : (X : Lexicon) (qs : List Paragraph) (ls : List (List Term)) → Stands b ks k ws n r X → Due b at X m qs ls →
+      Tailed X (phrases_of qs) (λ tail. Adds before 0 after to (desk_text (record { lexicon = X; paragraphs = qs }) ls tail))
 
 pub record LexiconKnown (b : List ℕ) (at : ℕ) (ks : List ℕ) (k : ℕ) (ws : List ℕ) (n : ℕ) (r : List ℕ) : Type 0 where
   pub short : length b ≤ most_text

@@ -4,11 +4,30 @@
 
 ghost use Rattle.std.specs.Prelude.{◌≡◌, ◌++◌, ◌-◌, ◌≤◌, ltb, length, take, replicate};
 ghost use Rattle.texts.specs.Desk.{DeskPromise};
-ghost use Rattle.answers.specs.Asked.{LexiconKnown, AnswersWhole};
+ghost use Rattle.gatherings.specs.Courses.{Readable};
+ghost use Rattle.answers.specs.Asked.{PutsFile, LexiconKnown, AnswersWhole};
 ghost use Rattle.answers.specs.Answered.{Answered};
 
 use lexicon::LexiconAnswer;
 use paragraphs::Checked;
+
+// Puts the answer for a text of m paragraphs.
+fn put_file(
+    text: &[u8],
+    from: usize,
+    kinds: &[u16; 16],
+    k: usize,
+    words: &[u16; 96],
+    n: usize,
+    records: &[u8; 960],
+    m: usize,
+    page: &mut [u8; 1048576],
+) -> usize
+    requires { Readable text.now from k n }
+    ensures { PutsFile text.now from kinds.now k words.now n records.now m page.old page.new result }
+{
+    files::put_file(text, from, kinds, k, words, n, records, m, page)
+}
 
 // Puts the answer where the vocabulary was read.
 fn answer_file(
@@ -28,7 +47,7 @@ fn answer_file(
         Checked::Bad(why, at, of) => complaints::complain(
             text, why, at, of, kinds, k, words, n, records, page, 0,
         ),
-        Checked::Fine(m) => files::put_file(text, from, kinds, k, words, n, records, m, page),
+        Checked::Fine(m) => put_file(text, from, kinds, k, words, n, records, m, page),
     }
 }
 

@@ -1,0 +1,8 @@
+-- `files::put_file` meets its contract.
+use Rattle.files.proofs.Putting.{file_puts}
+use Rattle.files.proofs.put_file.Goals as goal
+
+pub returns : goal.returns
+returns c =
+    file_puts c.encode-size.ensures.encoded c.places_of-places.ensures c.put-a.ensures c.put_tails-b.ensures
+    c.put-c.ensures c.put_number-d.ensures c.put.ensures
