@@ -60,7 +60,7 @@ front-begins p s spans alike blank = record {
   };
   inside_pattern = let long = alike.pattern.least in omega arith;
   inside_situation = let long = alike.situation.least in omega arith;
-  so_far_lem = λ F given e. e;
+  so_far = λ F given e. e;
   going = going-begins p s spans blank alike.word;
 }
   where
@@ -77,7 +77,7 @@ module _ {p s spans : List ℕ} where
     parts = c.parts;
     inside_pattern = inside;
     inside_situation = inside2;
-    so_far_lem = λ F given e. c.so_far_lem F given (
+    so_far = λ F given e. c.so_far F given (
         node_off s j inside2
         ∙ ap₂ (λ b m. b ∷ m ∷ drop (j + (1 + map_bytes)) s) (sym same) (sym map)
         ∙ ap (λ r. get_or p i 0 ∷ map_at p i ∷ r) e
@@ -201,9 +201,9 @@ module _ {p s spans after : List ℕ} {i j r : ℕ} (c : AtFront p s spans i j) 
     parts = kept.parts;
     inside_pattern = omega arith;
     inside_situation = covered.inside goes;
-    so_far_lem = λ F given e.
+    so_far = λ F given e.
         let told = kept.given F given in
-        c.so_far_lem F told.0 (
+        c.so_far F told.0 (
         sym (take-append-drop (r - j) (drop j s))
         ∙ ap₂ {C = List ℕ} (λ x y. x ++ y) (sym told.1) (drop-drop (r - j) j s ∙ ap (λ n. drop n s) (let n : j + (r - j) ≡ r = omega (arith, kept.later) in n) ∙ e)
         ∙ sym (ap (spliced F) (one_off p i some) ∙ spliced-name F (get_or p i 0) (drop (i + 1) p) high)
@@ -222,7 +222,7 @@ module _ {p s spans : List ℕ} where
   pub front_ends : {i j : ℕ} → AtFront p s spans i j → length p ≤ i → length s ≤ j → Agrees p s spans
   front_ends c over over2 = record {
     kind = c.alike.kind;
-    nodes = c.so_far_lem (part_in s spans) (λ n d. refl) (drop_of_length-le s over2 ∙ sym (ap (spliced (part_in s spans)) (drop_of_length-le p over)));
+    nodes = c.so_far (part_in s spans) (λ n d. refl) (drop_of_length-le s over2 ∙ sym (ap (spliced (part_in s spans)) (drop_of_length-le p over)));
   }
 
   pub front_pauses : {i j : ℕ} → AtFront p s spans i j → 1 ≤ i → Paused p s spans i j

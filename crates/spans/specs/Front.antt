@@ -24,7 +24,7 @@ pub record AtFront (p s spans : List ℕ) (i j : ℕ) : Type 0 where
   pub inside_pattern : i ≤ length p
   pub inside_situation : j ≤ length s
   -- What is left of s is what is left of p only where all of s is all of p.
-  pub so_far_lem : (F : ℕ → List ℕ) → PartsGiven s spans F → drop j s ≡ spliced F (drop i p) → drop 1 s ≡ spliced F (drop 1 p)
+  pub so_far : (F : ℕ → List ℕ) → PartsGiven s spans F → drop j s ≡ spliced F (drop i p) → drop 1 s ≡ spliced F (drop 1 p)
   pub going : Going p s spans i j
 
 pub record Paused (p s spans : List ℕ) (i j : ℕ) : Type 0 where
