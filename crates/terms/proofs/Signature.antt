@@ -1,4 +1,4 @@
--- Signature: what a well_formed signature says of a symbol of its own.
+-- Signature: what a well-formed signature says of a symbol of its own.
 use Prim.Native.Nat.{ℕ, ◌<◌}
 use lib.ListN.{length}
 use Rattle.terms.specs.Lists.{All}
