@@ -11,6 +11,7 @@
 --   stands                     the tables are those of a good vocabulary
 --   due                        the paragraphs that were read are due
 --   answers-bad, answers-fine  what is put where the vocabulary was read
+--   told-number                what is said of a fault goes by its reason's number
 --   answers-long, answers-lexicon    .. where it was not
 --   lexicon-known              the vocabulary was read
 --   OneOf b, one_of            the text is one of a file, or has a fault
@@ -37,7 +38,7 @@ use Rattle.wire.specs.Vocabulary.{Vocabulary, most_words, signature}
 use Rattle.wire.proofs.Words.{in_order_well_formed}
 use Rattle.wire.proofs.Cond.{cond_true, cond_false}
 use Rattle.texts.specs.Lexemes.{Lexeme, lexemes_from, token_at}
-use Rattle.texts.specs.Lexicon.{WordText, Lexicon, kind_names, word_names, all_words, vocabulary_of, GoodLexicon}
+use Rattle.texts.specs.Lexicon.{WordText, Lexicon, word_names, all_words, vocabulary_of, GoodLexicon}
 use Rattle.texts.specs.Phrases.{Phrase, GoodWhole}
 use Rattle.texts.specs.Files.{most_text, Paragraph, File, phrases_of, GoodParagraph, IsText}
 use Rattle.texts.specs.Faults.{Fault, Parsed, parsed, bad}
@@ -58,18 +59,20 @@ use Rattle.dues.proofs.Tables.{counted-here}
 use Rattle.pages.specs.Pages.{Holds, Adds}
 use Rattle.pages.proofs.Pages.{holds_none}
 use Rattle.lexicon.specs.Rows.{row_in, rows_in}
-use Rattle.lexicon.specs.Answers.{LexiconPromise}
+use Rattle.lexicon.specs.Answers.{LexiconAnswer, LexiconPromise}
 use Rattle.lexicon.proofs.Rows.{row_places}
-use Rattle.lexicon.specs.declared.LexiconAnswer.{LexiconAnswer}
-use Rattle.lexicon.specs.declared.LexiconAnswer.TheVariants.{Read as IsRead, Bad as NotRead}
-use Rattle.paragraphs.specs.declared.Checked.{Checked}
-use Rattle.paragraphs.specs.declared.Checked.TheVariants.{Fine, Bad}
+use Rattle.lexicon.specs.declared.Counts.{Counts}
+use Rattle.lexicon.specs.declared.Refusal.{Refusal}
+use Rattle.std.specs.Prelude.{Result, Ok, Err}
+use Rattle.faults.specs.declared.Fault as faults-fault
+use Rattle.faults.specs.Reasons.{number_of, fault_of}
+use Rattle.files.specs.Puts.{PutsFile}
 use Rattle.gatherings.specs.Courses.{Readable}
 use Rattle.paragraphs.specs.Paragraphs.{places_table, paragraphs_from, Says, Checks, Stands, Due}
 use Rattle.paragraphs.proofs.Courses.{courses}
 use Rattle.tails.specs.Tails.{Tailed}
 use Rattle.tails.proofs.Tailing.{course-moved, good_phrases}
-use Rattle.answers.specs.Asked.{PutsFile, LexiconKnown, AnswersWhole}
+use Rattle.answers.specs.Asked.{LexiconKnown, AnswersWhole}
 
 -- ---- lists
 
@@ -110,40 +113,40 @@ listings_are X good (p ∷ ps) h =
 
 -- ---- by what is read
 
-abbrev Well : List ℕ → List ℕ → ℕ → File → List (List Term) → Type 0
-Well before after to F ls = Tailed F.lexicon (phrases_of F.paragraphs) (λ tail. Adds before 0 after to (desk_text F ls tail))
+abbrev Well : List ℕ → ℕ → List ℕ → ℕ → File → List (List Term) → Type 0
+Well before start after to F ls = Tailed F.lexicon (phrases_of F.paragraphs) (λ tail. Adds before start after to (desk_text F ls tail))
 
-module _ {b before after : List ℕ} {to : ℕ} where
-  answers-ill : (x : Fault) (T : Known) → read_file b ≡ read_ill x T → Adds before 0 after to (complaint b T x) → AnswersWhole b before after to
+module _ {b before : List ℕ} {start : ℕ} {after : List ℕ} {to : ℕ} where
+  answers-ill : (x : Fault) (T : Known) → read_file b ≡ read_ill x T → Adds before start after to (complaint b T x) → AnswersWhole b before start after to
   answers-ill x T e h = record { well = well; ill = ill }
     where
-      well : (F : File) (ls : List (List Term)) → IsText b F → AreListings F.lexicon (phrases_of F.paragraphs) ls → Well before after to F ls
+      well : (F : File) (ls : List (List Term)) → IsText b F → AreListings F.lexicon (phrases_of F.paragraphs) ls → Well before start after to F ls
       well F ls t l =
           let k : read_ill x T ≡ read_well (lexicon_read F.lexicon) F.paragraphs = sym e ∙ files_are_read b F t in
           let z : ◌≡◌ {A = ℕ} 0 1 = cc in
           absurd (omega arith)
 
-      ill : (y : Fault) (U : Known) → read_file b ≡ read_ill y U → Adds before 0 after to (complaint b U y)
+      ill : (y : Fault) (U : Known) → read_file b ≡ read_ill y U → Adds before start after to (complaint b U y)
       ill y U q =
           let k : read_ill x T ≡ read_ill y U = sym e ∙ q in
           let same : x ≡ y = cc in
           let these : T ≡ U = cc in
-          subst (λ (U : Known). Adds before 0 after to (complaint b U y)) these
-          (subst (λ (y : Fault). Adds before 0 after to (complaint b T y)) same h)
+          subst (λ (U : Known). Adds before start after to (complaint b U y)) these
+          (subst (λ (y : Fault). Adds before start after to (complaint b T y)) same h)
 
   answers-well : (a : LexiconRead) (qs : List Paragraph) → read_file b ≡ read_well a qs →
-      ((F : File) (ls : List (List Term)) → IsText b F → a ≡ lexicon_read F.lexicon → qs ≡ F.paragraphs → AreListings F.lexicon (phrases_of F.paragraphs) ls → Well before after to F ls) →
-      AnswersWhole b before after to
+      ((F : File) (ls : List (List Term)) → IsText b F → a ≡ lexicon_read F.lexicon → qs ≡ F.paragraphs → AreListings F.lexicon (phrases_of F.paragraphs) ls → Well before start after to F ls) →
+      AnswersWhole b before start after to
   answers-well a qs e h = record { well = well; ill = ill }
     where
-      well : (F : File) (ls : List (List Term)) → IsText b F → AreListings F.lexicon (phrases_of F.paragraphs) ls → Well before after to F ls
+      well : (F : File) (ls : List (List Term)) → IsText b F → AreListings F.lexicon (phrases_of F.paragraphs) ls → Well before start after to F ls
       well F ls t l =
           let k : read_well a qs ≡ read_well (lexicon_read F.lexicon) F.paragraphs = sym e ∙ files_are_read b F t in
           let same : a ≡ lexicon_read F.lexicon = cc in
           let these : qs ≡ F.paragraphs = cc in
           h F ls t same these l
 
-      ill : (y : Fault) (U : Known) → read_file b ≡ read_ill y U → Adds before 0 after to (complaint b U y)
+      ill : (y : Fault) (U : Known) → read_file b ≡ read_ill y U → Adds before start after to (complaint b U y)
       ill y U q =
           let k : read_well a qs ≡ read_ill y U = sym e ∙ q in
           let z : ◌≡◌ {A = ℕ} 0 1 = cc in
@@ -221,46 +224,52 @@ module _ {b : List ℕ} {at : ℕ} {ks : List ℕ} {k : ℕ} {ws : List ℕ} {n 
     listings = listings;
   }
 
-  module _ {before after : List ℕ} {to : ℕ} {c : Checked} (checks : Checks b at ks k ws n r c) where
-    pub answers-bad : {why p of : ℕ} → c ≡ Bad why p of → Adds before 0 after to (complaint b (known_in b ks k ws n r) (fault why p of)) →
-        AnswersWhole b before after to
-    answers-bad {why} {p} {of} is put = go read_in refl (subst (Says read_in) is (checks readable))
+  module _ {before : List ℕ} {start : ℕ} {after : List ℕ} {to : ℕ} {c : Result ℕ faults-fault.Fault} (checks : Checks b at ks k ws n r c) where
+    pub answers-bad : {x : faults-fault.Fault} → c ≡ Err x → {why : ℕ} → why ≡ number_of x.why →
+        Adds before start after to (complaint b (known_in b ks k ws n r) (fault why x.at x.of)) → AnswersWhole b before start after to
+    answers-bad {x} is number put = go read_in refl (subst (Says read_in) is (checks readable))
       where
-        go : (y : Parsed (List Paragraph)) → read_in ≡ y → Says y (Bad why p of) → AnswersWhole b before after to
+        go : (y : Parsed (List Paragraph)) → read_in ≡ y → Says y (Err x) → AnswersWhole b before start after to
         go (parsed qs m) e s = absurd s
-        go (bad x) e s =
-            answers-ill (fault why p of) (known_in b ks k ws n r)
-            (file_paragraphs b h.short lexicon_in (lexemes_from b at) h.same (fault why p of) (sym read_same ∙ e ∙ ap bad s)
-            ∙ ap (read_ill (fault why p of)) known_same)
-            put
+        go (bad f) e s =
+            answers-ill (fault_of x) (known_in b ks k ws n r)
+            (file_paragraphs b h.short lexicon_in (lexemes_from b at) h.same (fault_of x) (sym read_same ∙ e ∙ ap bad s)
+            ∙ ap (read_ill (fault_of x)) known_same)
+            (subst (λ (i : ℕ). Adds before start after to (complaint b (known_in b ks k ws n r) (fault i x.at x.of))) number put)
 
-    pub answers-fine : {m : ℕ} → c ≡ Fine m → PutsFile b at ks k ws n r m before after to → AnswersWhole b before after to
+    pub answers-fine : {m : ℕ} → c ≡ Ok m → PutsFile b at ks k ws n r m before start after to → AnswersWhole b before start after to
     answers-fine {m} is put = go read_in refl (subst (Says read_in) is (checks readable))
       where
-        go : (y : Parsed (List Paragraph)) → read_in ≡ y → Says y (Fine m) → AnswersWhole b before after to
+        go : (y : Parsed (List Paragraph)) → read_in ≡ y → Says y (Ok m) → AnswersWhole b before start after to
         go (bad x) e s = absurd s
         go (parsed qs l) e s =
             answers-well lexicon_in qs (file_well b h.short lexicon_in (lexemes_from b at) h.same qs l (sym read_same ∙ e))
             (λ F ls t same these listings.
             let st = stands F.lexicon t.lexicon same in
-            put.puts F.lexicon F.paragraphs ls st (due F.lexicon qs F.paragraphs l ls m st s e these t.paragraphs listings))
+            put.puts F.lexicon F.paragraphs ls readable st (due F.lexicon qs F.paragraphs l ls m st s e these t.paragraphs listings))
 
 -- ---- where it was not
 
-module _ {b before after : List ℕ} {to : ℕ} where
-  pub answers-long : most_text < length b → Adds before 0 after to (complaint b known_nothing (fault 24 65535 0)) →
-      AnswersWhole b before after to
+-- What is said of a fault goes by its reason's number.
+pub told-number : (b : List ℕ) (at : ℕ) {before : List ℕ} {start : ℕ} {after : List ℕ} {to why i : ℕ} → i ≡ why →
+    Adds before start after to (complaint b known_nothing (fault i at 0)) → Adds before start after to (complaint b known_nothing (fault why at 0))
+told-number b at {before} {start} {after} {to} e put =
+    subst (λ (j : ℕ). Adds before start after to (complaint b known_nothing (fault j at 0))) e put
+
+module _ {b before : List ℕ} {start : ℕ} {after : List ℕ} {to : ℕ} where
+  pub answers-long : most_text < length b → Adds before start after to (complaint b known_nothing (fault 24 65535 0)) →
+      AnswersWhole b before start after to
   answers-long long put = answers-ill (fault 24 65535 0) known_nothing (file_long b long) put
 
   module _ {ks ws r : List ℕ} {a : LexiconAnswer} (short : length b ≤ most_text) (p : length b ≤ most_text → LexiconPromise b ks ws r a) where
-    pub answers-lexicon : {why at : ℕ} → a ≡ NotRead why at → Adds before 0 after to (complaint b known_nothing (fault why at 0)) →
-        AnswersWhole b before after to
-    answers-lexicon {why} {at} is put =
+    pub answers-lexicon : {x : Refusal} → a ≡ Err x → Adds before start after to (complaint b known_nothing (fault (number_of x.why) x.at 0)) →
+        AnswersWhole b before start after to
+    answers-lexicon {x} is put =
         let q = subst (LexiconPromise b ks ws r) is (p short) in
-        answers-ill (fault why at 0) known_nothing (file_lexicon b short (fault why at 0) q.same) put
+        answers-ill (fault (number_of x.why) x.at 0) known_nothing (file_lexicon b short (fault (number_of x.why) x.at 0) q.same) put
 
 module _ {b ks ws r : List ℕ} {a : LexiconAnswer} (short : length b ≤ most_text) (p : length b ≤ most_text → LexiconPromise b ks ws r a) where
-  pub lexicon-known : {k n at : ℕ} → a ≡ IsRead k n at → LexiconKnown b at ks k ws n r
+  pub lexicon-known : {x : Counts} → a ≡ Ok x → LexiconKnown b x.at ks x.kinds ws x.words r
   lexicon-known is =
       let q = subst (LexiconPromise b ks ws r) is (p short) in
       record { short = short; same = q.same; fits = q.fits }
@@ -304,7 +313,7 @@ unheld {before} {after} {to} piece size few h = go (h.adds [] (holds_none before
     go (inl (f, e)) = absurd (omega (arith, f))
     go (inr (f, e)) = sym (cond_false (leb (length piece) page_size) piece too_long_text (lt-leb (length piece) page_size (omega (arith, e))))
 
-module _ {b before after : List ℕ} {to : ℕ} (size : length after ≡ page_size) (h : AnswersWhole b before after to) where
+module _ {b before after : List ℕ} {to : ℕ} (size : length after ≡ page_size) (h : AnswersWhole b before 0 after to) where
   pub whole-fits : to ≤ page_size → DeskPromise b (take to after)
   whole-fits few = record {
     one = one_of b;

@@ -7,7 +7,6 @@
 use mathlib.Core.Path.{◌≡◌, refl, sym, ap, ◌∙◌, subst}
 use mathlib.Core.Bool.{Bool, true, false, cond}
 use mathlib.Core.List.{List, [], ◌∷◌}
-use mathlib.Core.Option.{some}
 use Prim.Native.Nat.{ℕ, ◌+◌, ◌*◌, ◌<◌, ◌≤◌, min}
 use native.Mathlib.Omega.{arith}
 use lib.ListN.{length, get_or, take, drop, set, length-append, length-set}
@@ -21,13 +20,12 @@ use Rattle.wire.specs.Vocabulary.{Vocabulary, signature}
 use Rattle.wire.specs.TermBytes.{encode_term, most_bytes}
 use Rattle.wire.specs.BookBytes.{patterns_bytes, Listable}
 use Rattle.wire.specs.BookLeftovers.{most_listed}
-use Rattle.signature.specs.declared.Missing.{Missing}
+use Rattle.std.specs.Prelude.{Option}
 use Rattle.slices.proofs.Writing.{part, part_is}
 use Rattle.takes.specs.Told.{whole_count}
 use Rattle.takes.specs.Taking.{BookEntryOf}
 use Rattle.takes.proofs.Tests.{whole-told}
-use Rattle.books.specs.Turning.{turn_numbers, turned, TurnAt, Turns, ReadAt, AreasFor}
-use Rattle.books.specs.declared.turns.Turned.{Turned}
+use Rattle.books.specs.Turning.{Turned, turn_numbers, turned, TurnAt, Turns, ReadAt, AreasFor}
 
 pub small_areas : (book : List ℕ) → length book ≤ 256 → AreasFor book 1024 1024 1280 256
 small_areas book h = record { span = 256; same = refl; some = omega arith; spans = omega arith; copy = omega arith; small = omega arith; marks = omega arith }
@@ -40,7 +38,7 @@ stored_two [] a b h = absurd (omega arith)
 stored_two (x ∷ []) a b h = absurd (omega arith)
 stored_two (x ∷ y ∷ l) a b h = refl
 
-module _ {book siblings settled : List ℕ} {words : ℕ} {missing : Missing} (h : ReadAt book siblings settled words missing) where
+module _ {book siblings settled : List ℕ} {words : ℕ} {missing : Option ℕ} (h : ReadAt book siblings settled words missing) where
   abbrev W : Vocabulary
   W = h.vocabulary
 

@@ -1,6 +1,8 @@
 -- Calls: the whole call from its parts.
 --
---   book_refused_lem          where reading the inputs refuses, so does list_book, in the same way
+--   input_passed_on, turn_passed_on    the refusal that is passed on
+--   turn_refused_is           that of a turn has the same numbers
+--   book_refused_lem, inputs_refused    where reading the inputs refuses, so does list_book, in the same way
 --   some_bytes            an accepted vocabulary has a word count
 --   book_at, book_listed_lem  the call where both are accepted
 --
@@ -21,11 +23,35 @@ use Rattle.wire.proofs.VocabulariesInverse.{vocabularies_inverse}
 use Rattle.wire.proofs.Theorems.{books_inverse, book_keeps}
 use Rattle.signature.specs.Tables.{accepted_in}
 use Rattle.signature.specs.Settled.{SettledOf}
-use Rattle.signature.specs.declared.Missing.{Missing}
+use Rattle.std.specs.Prelude.{Option}
 use Rattle.reader.specs.Loaded.{SettledTable}
-use Rattle.reader.proofs.Refused.{Refuses}
-use Rattle.books.specs.Turning.{BookAt}
+use Rattle.std.specs.Prelude.{Result, Ok, Err, IsErrAnd}
+use Rattle.signature.specs.Answers.{vocabulary_refused}
+use Rattle.reader.specs.Answers.{book_refused, book_numbers}
+use Rattle.reader.specs.declared.book.BookInputRefusal.{BookInputRefusal}
+use Rattle.reader.specs.declared.book.BookInputRefusal.TheVariants as I
+use Rattle.reader.proofs.Refused.{Refuses, vocabulary-refuses, book_refuses}
+use Rattle.sizes.specs.declared.Size.{Size}
+use Rattle.books.specs.Answers.{input_refusal_of, turn_refusal_of, book_list_numbers}
+use Rattle.books.specs.Turning.{turn_numbers, BookAt}
+use Rattle.books.specs.declared.BookListRefusal.{BookListRefusal}
+use Rattle.books.specs.declared.turns.TurnRefusal.{TurnRefusal}
+use Rattle.books.specs.declared.turns.TurnRefusal.TheVariants as T
 use Rattle.books.specs.Calls.{ListsBook}
+
+-- A refusal that is passed on.
+pub input_passed_on : (r : Result Size BookListRefusal) (why : BookInputRefusal) → IsErrAnd r (λ e. e ≡ input_refusal_of why) → r ≡ Err (input_refusal_of why)
+input_passed_on (Ok size) why h = absurd h
+input_passed_on (Err e) why h = ap Err h
+
+pub turn_passed_on : (r : Result Size BookListRefusal) (why : TurnRefusal) → IsErrAnd r (λ e. e ≡ turn_refusal_of why) → r ≡ Err (turn_refusal_of why)
+turn_passed_on (Ok size) why h = absurd h
+turn_passed_on (Err e) why h = ap Err h
+
+-- It has the same numbers.
+pub turn_refused_is : (why : TurnRefusal) → book_list_numbers (Err (turn_refusal_of why)) ≡ turn_numbers (Err why)
+turn_refused_is (T.NoRoom bytes) = refl
+turn_refused_is (T.Past i) = refl
 
 -- The inputs that are judged to be in order are read so.
 record Found (v b : List ℕ) : Type 0 where
@@ -47,12 +73,17 @@ module _ (v b before : List ℕ) (vocabularyBytes : (i : ℕ) → get_or v i 0 <
       subst (λ r. BookPromise v b before after r) (sym s.reply)
       (subst (λ a. BookPromise v b before a (book_listed v b before).reply) (sym s.after) (book_keeps v b before bv bb))
 
-  pub book_refused_lem : (r : Reply) → Refuses r → r ≡ book_clear (book_judged v b) → BookPromise v b before before r
+  book_refused_lem : (r : Reply) → Refuses r → r ≡ book_clear (book_judged v b) → BookPromise v b before before r
   book_refused_lem r k e = promised (go (book_judged v b) e)
     where
       go : (j : BookJudged) → r ≡ book_clear j → HasEffect (book_with before j) r before
       go (unlistable n i q) e = record { reply = e; after = refl }
       go (listable W x) e = absurd (subst Refuses e k)
+
+  pub inputs_refused : (why : BookInputRefusal) → book_numbers (Err why) ≡ book_clear (book_judged v b) →
+      BookPromise v b before before (book_list_numbers (Err (input_refusal_of why)))
+  inputs_refused (I.Vocabulary why) e = book_refused_lem (vocabulary_refused why) (vocabulary-refuses why) e
+  inputs_refused (I.Book why) e = book_refused_lem (book_refused why) (book_refuses why) e
 
   module _ (e : accepted [] ≡ book_clear (book_judged v b)) where
     found : Found v b
@@ -82,7 +113,7 @@ module _ (v b before : List ℕ) (vocabularyBytes : (i : ℕ) → get_or v i 0 <
     pub some_bytes : 2 ≤ length v
     some_bytes = let e = ap length held.written in omega arith
 
-    module _ {words : ℕ} {settled : List ℕ} {missing : Missing} (counted : words ≡ byte_at v 1) (table : SettledTable v settled missing) where
+    module _ {words : ℕ} {settled : List ℕ} {missing : Option ℕ} (counted : words ≡ byte_at v 1) (table : SettledTable v settled missing) where
       pub book_at : BookAt b words settled missing
       book_at = record {
         vocabulary = W;

@@ -2,14 +2,12 @@
 --
 --   read_at            a book that is accepted, and the table of siblings
 --   large-listed       areas as large as the entries may be
---   not_past           an answer that is none of line 26
 --   small-listed       smaller ones, where the entries have room in them
 --   past-listed        and where they have none there, large ones behind them: the lent slice is as before
 --
 use mathlib.Core.Path.{◌≡◌, refl, sym, ap, ap₂, ◌∙◌, subst}
 use mathlib.Core.Bool.{Bool, true, false, ◌||◌, cond, true≢false, false≢true}
 use mathlib.Core.List.{List, [], ◌∷◌}
-use mathlib.Core.Logic.{◌⊎◌, inl, inr}
 use mathlib.Core.Option.{Option, some, none, some-ne-none}
 use Prim.Native.Nat.{ℕ, suc, ◌≤◌, min}
 use native.Mathlib.Omega.{arith}
@@ -23,16 +21,15 @@ use Rattle.wire.specs.Reply.{Reply, accepted, refused}
 use Rattle.wire.specs.Effect.{Effect, HasEffect}
 use Rattle.wire.specs.Vocabulary.{Vocabulary, signature, most_words}
 use Rattle.kinds.specs.Kinds.{SiblingTable}
-use Rattle.signature.specs.declared.Missing.{Missing}
+use Rattle.std.specs.Prelude as std
 use Rattle.wire.specs.BookBytes.{patterns_bytes}
 use Rattle.wire.specs.BookLeftovers.{most_listed}
 use Rattle.wire.specs.ListComputed.{listed_into}
 use Rattle.wire.specs.BookComputed.{some_long, passes, first_past, book_into}
 use Rattle.wire.proofs.Cond.{cond_false, choice}
-use Rattle.books.specs.Turning.{turn_numbers, turned_by, BookAt, ReadAt, ListsIn}
+use Rattle.books.specs.Turning.{Turned, turn_numbers, turned_by, BookAt, ReadAt, ListsIn}
 use Rattle.books.specs.Calls.{ListsBook}
-use Rattle.books.specs.declared.turns.Turned.{Turned}
-use Rattle.books.specs.declared.turns.Turned.TheVariants.{Listed, NoRoom, Past}
+use Rattle.books.specs.declared.turns.TurnRefusal.TheVariants.{Past}
 
 -- ---- larger areas
 
@@ -62,12 +59,6 @@ abbrev is_past : Reply → Bool
 is_past (accepted l) = false
 is_past (refused n i q) = eqb n 26
 
--- A turn that ends by another variant.
-pub not_past : (t : Turned) → ((i : ℕ) → t ≡ Past i → ⊥) → is_past (turn_numbers t) ≡ false
-not_past (Listed entries bytes) h = refl
-not_past (NoRoom bytes) h = refl
-not_past (Past i) h = absurd (h i refl)
-
 listed_no_past : (out : List ℕ) (n : ℕ) (b : List ℕ) → is_past (listed_into out n b).reply ≡ false
 listed_no_past out n b = choice (λ (e : Effect). is_past e.reply ≡ false) (leb (length b) (length out)) _ _ (λ h. refl) (λ h. refl)
 
@@ -90,7 +81,7 @@ same_effect W s ts out none = refl
 -- ---- the calls
 
 -- The table of siblings is made.
-pub read_at : {book settled : List ℕ} {words : ℕ} {missing : Missing} → BookAt book words settled missing → (siblings : List ℕ) →
+pub read_at : {book settled : List ℕ} {words : ℕ} {missing : std.Option ℕ} → BookAt book words settled missing → (siblings : List ℕ) →
     SiblingTable (min words most_words) settled siblings → ReadAt book siblings settled words missing
 read_at h siblings table = record {
   vocabulary = h.vocabulary;
@@ -100,7 +91,7 @@ read_at h siblings table = record {
   held = h.held;
 }
 
-module _ {book settled : List ℕ} {words : ℕ} {missing : Missing} (siblings : List ℕ) (made : SiblingTable (min words most_words) settled siblings)
+module _ {book settled : List ℕ} {words : ℕ} {missing : std.Option ℕ} (siblings : List ℕ) (made : SiblingTable (min words most_words) settled siblings)
     (out after : List ℕ) (t : Turned) where
   pub large-listed : ListsIn book siblings settled words missing most_listed out after t → ListsBook book words settled missing out after (turn_numbers t)
   unfolding read_at
@@ -123,7 +114,7 @@ module _ {book settled : List ℕ} {words : ℕ} {missing : Missing} (siblings :
           no-past W s left out (turn_numbers t) after (first_past W s room 0 (whole_of (signature W) s) ts) (lists h) p in
           subst (λ o. HasEffect (turned_by W s left out o) (turn_numbers t) after) (e ∙ sym (past_less W s room most_listed less 0 (whole_of (signature W) s) ts e)) (lists h)
 
-  pub past-listed : (mid : List ℕ) (t₀ : Turned) (room : ℕ) {i : ℕ} → ListsIn book siblings settled words missing room out mid t₀ → t₀ ≡ Past i →
+  pub past-listed : (mid : List ℕ) (t₀ : Turned) (room : ℕ) {i : ℕ} → ListsIn book siblings settled words missing room out mid t₀ → t₀ ≡ std.Err (Past i) →
       ListsIn book siblings settled words missing most_listed mid after t → ListsBook book words settled missing out after (turn_numbers t)
   unfolding read_at
   past-listed mid t₀ room small e lists h =

@@ -35,13 +35,12 @@ use Rattle.wire.proofs.BookLevels.{left-levels}
 use Rattle.extents.specs.Extents.{term_size}
 use Rattle.slices.proofs.Writing.{part, part_is}
 use Rattle.others.specs.Listed.{together, FitBehind}
-use Rattle.signature.specs.declared.Missing.{Missing}
-use Rattle.strikes.specs.Calls.{Put, LeftOf}
+use Rattle.std.specs.Prelude.{Option}
+use Rattle.strikes.specs.Calls.{Struck, leaving, Put, LeftOf}
 use Rattle.takes.specs.Taking.{BookEntryOf, behind_bytes, TakeAt, TakesPattern}
-use Rattle.books.specs.Turning.{turn_numbers, turned_by, turned, TurnAt, Turns}
-use Rattle.strikes.specs.declared.Left.{Left}
-use Rattle.strikes.specs.declared.Left.TheVariants.{Bytes, Full}
-use Rattle.books.specs.declared.turns.Turned.{Turned}
+use Rattle.books.specs.Turning.{Turned, turn_numbers, turned_by, turned, TurnAt, Turns}
+use Rattle.others.specs.declared.Full.{Full}
+use Rattle.std.specs.Prelude.{Err}
 use Rattle.strikes.proofs.Putting.{put_count, put-length}
 use Rattle.strikes.proofs.Area.{no-patterns, entry_whole}
 use Rattle.takes.proofs.Taking.{together-patterns}
@@ -90,7 +89,7 @@ fewer all size h = omega arith
 first-inside : (all size one more : ℕ) → all ≡ one + more → 1 + size ≡ one → 1 + size ≤ all
 first-inside all size one more e f = omega arith
 
-module _ {book from siblings settled : List ℕ} {i n entries room copied marked words : ℕ} {missing : Missing}
+module _ {book from siblings settled : List ℕ} {i n entries room copied marked words : ℕ} {missing : Option ℕ}
     (h : TurnAt book i from n entries room copied marked siblings settled words missing) where
   abbrev W : Vocabulary
   W = h.vocabulary
@@ -276,13 +275,13 @@ module _ {book from siblings settled : List ℕ} {i n entries room copied marked
       turn_marks : length (take (1 + size) book) ≤ marked
       turn_marks = subst (λ l. length l ≤ marked) (sym pattern_is) (le_trans x.span h.marks)
 
-      module _ (to to' : List ℕ) (same : length to ≡ room) (r : Left)
+      module _ (to to' : List ℕ) (same : length to ≡ room) (r : Struck)
           (takes : TakesPattern (take n from) entries (take (1 + size) book) marked copied siblings settled words missing to to' r) where
         taken : LeftOf (behind_bytes W s x.first h.es) 0 to to' r
         unfolding turn_takes taking_of
         taken = takes turn_takes turn_marks
 
-        pub turn_past : r ≡ Full → (out : List ℕ) → HasEffect (turned W s room i h.es h.ts out) (refused 26 5 i) out
+        pub turn_past : {x : Full} → r ≡ Err x → (out : List ℕ) → HasEffect (turned W s room i h.es h.ts out) (refused 26 5 i) out
         turn_past e out =
             subst (λ l. HasEffect l (refused 26 5 i) out)
             (sym
@@ -290,7 +289,7 @@ module _ {book from siblings settled : List ℕ} {i n entries room copied marked
             (λ f. subst (LeftOf (behind_bytes W s x.first h.es) 0 to to') e taken (subst (FitBehind (behind_bytes W s x.first h.es) 0) (sym same) f))))
             (record { reply = refl; after = refl })
 
-        module _ {n' k' : ℕ} (e : r ≡ Bytes n' k') where
+        module _ {n' k' : ℕ} (e : r ≡ leaving n' k') where
           put : Put (behind_bytes W s x.first h.es) 0 to to' n' k'
           put = subst (LeftOf (behind_bytes W s x.first h.es) 0 to to') e taken
 

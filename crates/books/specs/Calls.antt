@@ -9,10 +9,10 @@ use Rattle.wire.specs.Effect.{HasEffect}
 use Rattle.wire.specs.Vocabulary.{signature}
 use Rattle.wire.specs.BookLeftovers.{most_listed}
 use Rattle.wire.specs.BookComputed.{first_past, book_into}
-use Rattle.signature.specs.declared.Missing.{Missing}
+use Rattle.std.specs.Prelude.{Option}
 use Rattle.books.specs.Turning.{BookAt}
 
-abbrev pub ListsBook : List ℕ → ℕ → List ℕ → Missing → List ℕ → List ℕ → Reply → Type 0
+abbrev pub ListsBook : List ℕ → ℕ → List ℕ → Option ℕ → List ℕ → List ℕ → Reply → Type 0
 ListsBook book words settled missing before after r =
     (h : BookAt book words settled missing) →
     HasEffect

@@ -1,6 +1,7 @@
 -- Turning: what the functions that take the patterns of a book in turn promise each other; no public contract cites it.
 --
---   turn_numbers r            the reply of a turn's answer
+--   Turned                    a turn's answer
+--   turn_numbers r            its reply
 --   turned W s room i es ts out    the reply where the entries es are taken against the patterns ts, of which the first has the
 --                            number i, by areas of `room` bytes, and the lent slice after it
 --   TurnAt, Turns            where turn begins, and what it does
@@ -24,15 +25,20 @@ use Rattle.wire.specs.ListComputed.{listed_into}
 use Rattle.wire.specs.BookComputed.{first_past}
 use Rattle.extents.specs.Extents.{most_extent}
 use Rattle.signature.specs.Settled.{SettledOf}
-use Rattle.signature.specs.declared.Missing.{Missing}
+use Rattle.std.specs.Prelude as std
 use Rattle.takes.specs.Taking.{ListingTables, BookEntryOf}
-use Rattle.books.specs.declared.turns.Turned.{Turned}
-use Rattle.books.specs.declared.turns.Turned.TheVariants.{Listed, NoRoom, Past}
+use Rattle.std.specs.Prelude.{Result, Ok, Err}
+use Rattle.sizes.specs.declared.Size.{Size}
+use Rattle.books.specs.declared.turns.TurnRefusal.{TurnRefusal}
+use Rattle.books.specs.declared.turns.TurnRefusal.TheVariants.{NoRoom, Past}
+
+abbrev pub Turned : Type 0
+Turned = Result Size TurnRefusal
 
 abbrev pub turn_numbers : Turned → Reply
-turn_numbers (Listed entries bytes) = accepted (entries ∷ bytes ∷ [])
-turn_numbers (NoRoom bytes) = refused 20 3 bytes
-turn_numbers (Past i) = refused 26 5 i
+turn_numbers (Ok size) = accepted (size.entries ∷ size.bytes ∷ [])
+turn_numbers (Err (NoRoom bytes)) = refused 20 3 bytes
+turn_numbers (Err (Past i)) = refused 26 5 i
 
 abbrev pub turned_by : Vocabulary → ℕ → List Term → List ℕ → Option ℕ → Effect
 turned_by W s left out (some i) = record { reply = refused 26 5 i; after = out }
@@ -42,7 +48,7 @@ abbrev pub turned : Vocabulary → ℕ → ℕ → ℕ → List Term → List Te
 turned W s room i es ts out = turned_by W s (left_in_turn (signature W) s ts es) out (first_past W s room i es ts)
 
 -- Every pattern has at most `span` bytes, and an entry no more than an area or a pattern may have.
-pub record TurnAt (book : List ℕ) (i : ℕ) (from : List ℕ) (n entries room copied marked : ℕ) (siblings settled : List ℕ) (words : ℕ) (missing : Missing) :
+pub record TurnAt (book : List ℕ) (i : ℕ) (from : List ℕ) (n entries room copied marked : ℕ) (siblings settled : List ℕ) (words : ℕ) (missing : std.Option ℕ) :
     Type 0 where
   pub vocabulary : Vocabulary
   pub kind : ℕ
@@ -63,12 +69,12 @@ pub record TurnAt (book : List ℕ) (i : ℕ) (from : List ℕ) (n entries room 
   pub small : copied ≤ most_extent
   pub marks : span ≤ marked
 
-abbrev pub Turns : List ℕ → ℕ → List ℕ → ℕ → ℕ → ℕ → ℕ → ℕ → List ℕ → List ℕ → ℕ → Missing → List ℕ → List ℕ → Turned → Type 0
+abbrev pub Turns : List ℕ → ℕ → List ℕ → ℕ → ℕ → ℕ → ℕ → ℕ → List ℕ → List ℕ → ℕ → std.Option ℕ → List ℕ → List ℕ → Turned → Type 0
 Turns book i from n entries room copied marked siblings settled words missing before after r =
     (h : TurnAt book i from n entries room copied marked siblings settled words missing) →
     HasEffect (turned h.vocabulary h.kind room i h.es h.ts before) (turn_numbers r) after
 
-pub record BookAt (book : List ℕ) (words : ℕ) (settled : List ℕ) (missing : Missing) : Type 0 where
+pub record BookAt (book : List ℕ) (words : ℕ) (settled : List ℕ) (missing : std.Option ℕ) : Type 0 where
   pub vocabulary : Vocabulary
   pub kind : ℕ
   pub patterns : List Term
@@ -76,7 +82,7 @@ pub record BookAt (book : List ℕ) (words : ℕ) (settled : List ℕ) (missing 
   pub settled_of : SettledOf vocabulary words settled missing
   pub held : HoldsBook vocabulary book kind patterns
 
-pub record ReadAt (book siblings settled : List ℕ) (words : ℕ) (missing : Missing) : Type 0 where
+pub record ReadAt (book siblings settled : List ℕ) (words : ℕ) (missing : std.Option ℕ) : Type 0 where
   pub vocabulary : Vocabulary
   pub kind : ℕ
   pub patterns : List Term
@@ -92,7 +98,7 @@ pub record AreasFor (book : List ℕ) (near far copied marked : ℕ) : Type 0 wh
   pub small : copied ≤ most_extent
   pub marks : span ≤ marked
 
-abbrev pub ListsIn : List ℕ → List ℕ → List ℕ → ℕ → Missing → ℕ → List ℕ → List ℕ → Turned → Type 0
+abbrev pub ListsIn : List ℕ → List ℕ → List ℕ → ℕ → std.Option ℕ → ℕ → List ℕ → List ℕ → Turned → Type 0
 ListsIn book siblings settled words missing room before after r =
     (h : ReadAt book siblings settled words missing) →
     HasEffect (turned h.vocabulary h.kind room 0 (whole_of (signature h.vocabulary) h.kind) h.patterns before) (turn_numbers r) after

@@ -4,80 +4,86 @@ ghost use Rattle.wire.specs.Effect.{HasEffect};
 ghost use Rattle.wire.specs.ListComputed.{listed_into};
 ghost use Rattle.books.specs.Turning.{turn_numbers, TurnAt, Turns, ReadAt, AreasFor, ListsIn};
 
-use signature::Missing;
+use others::Full;
+use sizes::Size;
 use strikes::Left;
 
-// The number of entries and of bytes that are written; how many bytes have no room in the lent slice; or the number of the
-// pattern behind which the entries have none in an area, or one of them is too long.
-#[derive(Drop)]
-pub(crate) enum Turned {
-    Listed(usize, usize),
+// How many bytes have no room in the lent slice; or the number of the pattern behind which the entries have none in an area, or
+// one of them is too long.
+#[derive(Clone, Copy)]
+pub(crate) enum TurnRefusal {
     NoRoom(usize),
     Past(usize),
 }
 
-// Writes the first n bytes of an area, which hold so many entries.
-fn finish(area: &[u8], n: usize, entries: usize, out: &mut [u8]) -> Turned
-    requires { n ≤ length area.now }
-    ensures { HasEffect (listed_into out.old entries (take n area.now)) (turn_numbers result) out.new }
-{
-    if out.len() < n {
-        return Turned::NoRoom(n);
-    }
-    slices::copy(&area[..n], out);
-    Turned::Listed(entries, n)
+// What a listing reads of the vocabulary: the siblings and the settled result kinds of its words, how many words it has, and its
+// lowest kind without complete situations.
+#[derive(Clone, Copy)]
+pub(crate) struct Tables<'a> {
+    pub(crate) siblings: &'a [u8; 384],
+    pub(crate) settled: &'a [u8; 96],
+    pub(crate) words: usize,
+    pub(crate) missing: Option<usize>,
 }
 
-// Takes the patterns of the rest of a book, of which the first has the number i, against the entries in the first n bytes of an
-// area. The areas change places for the next pattern.
+// Writes the entries that are left in an area.
+fn finish(area: &[u8], left: Left, out: &mut [u8]) -> Result<Size, TurnRefusal>
+    requires { left.bytes ≤ length area.now }
+    ensures { HasEffect (listed_into out.old left.entries (take left.bytes area.now)) (turn_numbers result) out.new }
+{
+    if out.len() < left.bytes {
+        return Err(TurnRefusal::NoRoom(left.bytes));
+    }
+    slices::copy(&area[..left.bytes], out);
+    Ok(Size {
+        entries: left.entries,
+        bytes: left.bytes,
+    })
+}
+
+// Takes the patterns of the rest of a book, of which the first has the number i, against the entries that are left in an area.
+// The areas change places for the next pattern.
+// Kept: since they change places, a struct of the two would be taken apart and built again at each pattern, no plainer than two slices.
 fn turn(
     book: &[u8],
     i: usize,
     from: &mut [u8],
-    n: usize,
-    entries: usize,
+    left: Left,
     to: &mut [u8],
     copy: &mut [u8],
     marks: &mut [u32],
-    siblings: &[u8; 384],
-    settled: &[u8; 96],
-    words: usize,
-    missing: Missing,
+    tables: Tables<'_>,
     out: &mut [u8],
-) -> Turned
-    requires { TurnAt book.now i from.old n entries (length to.old) (length copy.old) (length marks.old) siblings.now settled.now words missing }
-    ensures { Turns book.now i from.old n entries (length to.old) (length copy.old) (length marks.old) siblings.now settled.now words missing out.old out.new result }
+) -> Result<Size, TurnRefusal>
+    requires { TurnAt book.now i from.old left.bytes left.entries (length to.old) (length copy.old) (length marks.old) tables.siblings.now tables.settled.now tables.words tables.missing }
+    ensures { Turns book.now i from.old left.bytes left.entries (length to.old) (length copy.old) (length marks.old) tables.entry.siblings.now tables.entry.settled.now tables.entry.words tables.entry.missing out.old out.new result }
 {
     if book.len() == 0 {
-        return finish(from, n, entries, out);
+        return finish(from, left, out);
     }
     let size = 1 + extents::term_size(&book[1..]);
     match takes::take_pattern(
-        &from[..n],
-        entries,
+        &from[..left.bytes],
+        left.entries,
         &book[..size],
         marks,
         copy,
-        siblings,
-        settled,
-        words,
-        missing,
+        tables.siblings,
+        tables.settled,
+        tables.words,
+        tables.missing,
         to,
     ) {
-        Left::Full => Turned::Past(i),
-        Left::Bytes(bytes, more) => turn(
+        Err(Full) => Err(TurnRefusal::Past(i)),
+        Ok(behind) => turn(
             &book[size..],
             i + 1,
             to,
-            bytes,
-            more,
+            behind,
             from,
             copy,
             marks,
-            siblings,
-            settled,
-            words,
-            missing,
+            tables,
             out,
         ),
     }
@@ -86,37 +92,24 @@ fn turn(
 // Lists a book by two areas, a copy and a table of marks. The entry 255 is there at first, if the kind has a situation.
 pub(crate) fn list_in(
     book: &[u8],
-    siblings: &[u8; 384],
-    settled: &[u8; 96],
-    words: usize,
-    missing: Missing,
+    tables: Tables<'_>,
     near: &mut [u8],
     far: &mut [u8],
     copy: &mut [u8],
     marks: &mut [u32],
     out: &mut [u8],
-) -> Turned
-    requires read_at { ReadAt book.now siblings.now settled.now words missing }
+) -> Result<Size, TurnRefusal>
+    requires read_at { ReadAt book.now tables.siblings.now tables.settled.now tables.words tables.missing }
     requires areas_for { AreasFor book.now (length near.old) (length far.old) (length copy.old) (length marks.old) }
-    ensures { ListsIn book.now siblings.now settled.now words missing (length near.old) out.old out.new result }
+    ensures { ListsIn book.now tables.entry.siblings.now tables.entry.settled.now tables.entry.words tables.entry.missing (length near.old) out.old out.new result }
 {
     let kind = book[1];
-    let entries = takes::whole(kind, words, settled, missing);
+    let entries = takes::whole(kind, tables.words, tables.settled, tables.missing);
     near[0] = kind;
     near[1] = 255;
-    turn(
-        &book[1..],
-        0,
-        near,
-        2 * entries,
+    let whole = Left {
+        bytes: 2 * entries,
         entries,
-        far,
-        copy,
-        marks,
-        siblings,
-        settled,
-        words,
-        missing,
-        out,
-    )
+    };
+    turn(&book[1..], 0, near, whole, far, copy, marks, tables, out)
 }

@@ -1,7 +1,6 @@
 -- AtPlaces: what stands at the places of a word.
 --
 --   mark-later                    before each place but the first stands a comma
---   small-read, small-none        the bits of an answer
 --   follow, refuse                what is read behind something, and what is not
 --   closes_none, closes_mark, closes_bad      behind the last place
 --   places-closed                 where no place is left
@@ -17,7 +16,7 @@ use native.Mathlib.Numerals.{add-one}
 use native.Mathlib.Omega.{arith}
 use lib.ListN.{length, get_or, take, drop, length-drop}
 use Rattle.terms.specs.Term.{nil, cons}
-use Rattle.wire.specs.Map.{number, bit}
+use Rattle.wire.specs.Map.{number}
 use Rattle.wire.specs.Vocabulary.{Vocabulary, word}
 use Rattle.wire.specs.TermBytes.{encode_at, encode_all}
 use Rattle.wire.proofs.Cond.{cond_true, cond_false}
@@ -26,11 +25,11 @@ use Rattle.texts.specs.Names.{same, mark, closing, comma}
 use Rattle.texts.specs.Faults.{Parsed, parsed, bad, parse_then, token, rest, places_wrong, places_over}
 use Rattle.texts.specs.PhraseReading.{Seen, TermRead, TermsRead, parse_places, parse_term, put_first}
 use Rattle.texts.specs.Tabled.{names_in, record_size, tabled_places, tabled_vocabulary}
-use Rattle.clauses.specs.Reading.{Within, Lent, Tables, seen_at, Reads, place_flags, TermTo, TermsTo, Front, Below, read_from, mark_before, Closes, ReadsTerm, ReadsPlaces, Small, joined}
-use Rattle.clauses.specs.declared.Fault.{Fault}
+use Rattle.clauses.specs.Reading.{Answer, Within, Lent, Tables, seen_at, Reads, place_flags, TermTo, TermsTo, Front, Below, read_from, mark_before, Closes, ReadsTerm, ReadsPlaces, Small, joined}
+use Rattle.faults.specs.declared.Fault.{Fault}
+use Rattle.faults.specs.declared.Reason.TheVariants.{PlacesWrong, PlacesOver}
 use Rattle.clauses.specs.declared.Reached.{Reached}
-use Rattle.clauses.specs.declared.Answer.{Answer}
-use Rattle.clauses.specs.declared.Answer.TheVariants.{Read, Bad}
+use Rattle.std.specs.Prelude.{Ok, Err}
 use Rattle.clauses.proofs.Fronts.{front-token, front-place, front, mark_some}
 use Rattle.clauses.proofs.Flags.{flags-below}
 use Rattle.clauses.proofs.Tables.{kinds-count, kinds-next, kinds_none, places-few}
@@ -38,19 +37,6 @@ use Rattle.clauses.proofs.Tables.{kinds-count, kinds-next, kinds_none, places-fe
 pub mark-later : (i : ℕ) → (i ≡ 0 → ⊥) → 44 ≡ mark_before i
 mark-later zero h = absurd (h refl)
 mark-later (suc i) h = refl
-
--- ---- the bits of an answer
-
-pub small-read : (bit : ℕ) (a : Answer) (p : Reached) → a ≡ Read p → Small bit a → (bit ≤ 1) × (p.map ≤ 127)
-small-read bit a p e h = subst (Small bit) e h
-
-pub joined-read : (bit map : ℕ) (a : Answer) (p : Reached) → a ≡ Read p → map ≡ bit + 2 * p.map →
-    Read (record { at = p.at; to = p.to; seen = p.seen; map = map }) ≡ joined bit a
-joined-read bit map a p e h =
-    ap (λ (m : ℕ). Read (record { at = p.at; to = p.to; seen = p.seen; map = m })) h ∙ ap (joined bit) (sym e)
-
-pub joined-bad : (bit : ℕ) (a : Answer) (x : Fault) → a ≡ Bad x → Bad x ≡ joined bit a
-joined-bad bit a x e = ap (joined bit) (sym e)
 
 -- ---- behind the last place
 
@@ -69,9 +55,9 @@ module _ (b : List ℕ) (at i f to seen : ℕ) (w : Within b at 0 to seen) where
     lent = lent;
   }
 
-  pub closes_none : i ≡ 0 → Closes b at i f to seen (Read (record { at = at; to = to; seen = seen; map = 0 }))
+  pub closes_none : i ≡ 0 → Closes b at i f to seen (Ok (record { at = at; to = to; seen = seen; map = 0 }))
   closes_none e W below o v lent =
-      subst (λ (j : ℕ). Reads (TermsTo W b o to o v 0) (read_from below f j [] (seen_at b v seen to) (lexemes_from b at)) (Read (record { at = at; to = to; seen = seen; map = 0 }))) (sym e)
+      subst (λ (j : ℕ). Reads (TermsTo W b o to o v 0) (read_from below f j [] (seen_at b v seen to) (lexemes_from b at)) (Ok (record { at = at; to = to; seen = seen; map = 0 }))) (sym e)
       (stays W o v lent at (lexemes_from b at) refl w.inside)
 
   later : (j : ℕ) → (j ≡ 0 → ⊥) → (below : Below) (ks : List ℕ) (s : Seen) (l : List Lexeme) → read_from below f j ks s l ≡ parse_places below f comma ks s l
@@ -80,28 +66,28 @@ module _ (b : List ℕ) (at i f to seen : ℕ) (w : Within b at 0 to seen) where
 
   module _ (s : ℕ) (start : s ≡ at + blanks (drop at b)) (some : i ≡ 0 → ⊥) where
     pub closes_mark : (e : ℕ) → same (token_at b s) (41 ∷ []) ≡ true → e ≡ s + token_size (drop s b) →
-        Closes b at i f to seen (Read (record { at = e; to = to; seen = seen; map = 0 }))
+        Closes b at i f to seen (Ok (record { at = e; to = to; seen = seen; map = 0 }))
     closes_mark e h end W below o v lent =
         let first = front b at s w.inside start (mark_some (token_at b s) 41 h) in
-        subst (λ (g : Parsed TermsRead). Reads (TermsTo W b o to o v 0) g (Read (record { at = e; to = to; seen = seen; map = 0 })))
+        subst (λ (g : Parsed TermsRead). Reads (TermsTo W b o to o v 0) g (Ok (record { at = e; to = to; seen = seen; map = 0 })))
         (sym (later i some below [] (seen_at b v seen to) (lexemes_from b at) ∙ cond_true (same (token (lexemes_from b at)) (mark closing)) _ _ (ap (λ (u : Token). same u (mark closing)) first.token ∙ h)))
         (stays W o v lent e (rest (lexemes_from b at)) (first.behind ∙ ap (lexemes_from b) (sym end)) (omega (arith, first.inside)))
 
-    pub closes_bad : same (token_at b s) (41 ∷ []) ≡ false → Closes b at i f to seen (Bad (record { why = places_over; at = s; of = f }))
+    pub closes_bad : same (token_at b s) (41 ∷ []) ≡ false → Closes b at i f to seen (Err (record { why = PlacesOver; at = s; of = f }))
     closes_bad h W below o v lent =
-        subst (λ (g : Parsed TermsRead). Reads (TermsTo W b o to o v 0) g (Bad (record { why = places_over; at = s; of = f })))
+        subst (λ (g : Parsed TermsRead). Reads (TermsTo W b o to o v 0) g (Err (record { why = PlacesOver; at = s; of = f })))
         (sym (later i some below [] (seen_at b v seen to) (lexemes_from b at) ∙ cond_false (same (token (lexemes_from b at)) (mark closing)) _ _ (ap (λ (u : Token). same u (mark closing)) (front-token b at s start) ∙ h)))
         (ap (λ (j : ℕ). record { why = places_over; at = j; of = f }) (front-place b at s start))
 
 -- ---- what is read behind something
 
 pub follow : {A B : Type 0} (P : A → List Lexeme → Reached → Type 0) (Q : B → List Lexeme → Reached → Type 0) (g : Parsed A) (h : A → List Lexeme → Parsed B) (p : Reached) (x : Answer) →
-    Reads P g (Read p) → ((a : A) (r : List Lexeme) → P a r p → Reads Q (h a r) x) → Reads Q (parse_then g h) x
+    Reads P g (Ok p) → ((a : A) (r : List Lexeme) → P a r p → Reads Q (h a r) x) → Reads Q (parse_then g h) x
 follow P Q (parsed a r) h p x e k = k a r e
 follow P Q (bad f) h p x e k = absurd e
 
 pub refuse : {A B : Type 0} (P : A → List Lexeme → Reached → Type 0) (Q : B → List Lexeme → Reached → Type 0) (g : Parsed A) (h : A → List Lexeme → Parsed B) (y : Fault) →
-    Reads P g (Bad y) → Reads Q (parse_then g h) (Bad y)
+    Reads P g (Err y) → Reads Q (parse_then g h) (Err y)
 refuse P Q (parsed a r) h y e = absurd e
 refuse P Q (bad f) h y e = e
 
@@ -153,10 +139,10 @@ module _ (b q r o v : List ℕ) (at k n left f i to seen : ℕ) (w : Within b at
         (subst (λ (g : Parsed TermsRead). Reads (TermsTo vocabulary b o to o₂ v₂ (suc (length (drop (suc i) kinds)))) g a)
         (ap (λ (c : ℕ). parse_places below f c (due ∷ drop (suc i) kinds) (seen_at b v seen to) (lexemes_from b at)) before ∙ sym (from-mark below f i due (drop (suc i) kinds) (seen_at b v seen to) (lexemes_from b at))) h)
 
-    pub places-wrong : (o₂ v₂ : List ℕ) → same (token_at b s) (m ∷ []) ≡ false → From at i o to v seen o₂ v₂ (Bad (record { why = places_wrong; at = s; of = f }))
+    pub places-wrong : (o₂ v₂ : List ℕ) → same (token_at b s) (m ∷ []) ≡ false → From at i o to v seen o₂ v₂ (Err (record { why = PlacesWrong; at = s; of = f }))
     places-wrong o₂ v₂ h =
         at_mark o₂ v₂ _
-        (subst (λ (g : Parsed TermsRead). Reads (TermsTo vocabulary b o to o₂ v₂ (suc (length (drop (suc i) kinds)))) g (Bad (record { why = places_wrong; at = s; of = f })))
+        (subst (λ (g : Parsed TermsRead). Reads (TermsTo vocabulary b o to o₂ v₂ (suc (length (drop (suc i) kinds)))) g (Err (record { why = PlacesWrong; at = s; of = f })))
         (sym (cond_false (same (token (lexemes_from b at)) (mark m)) _ _ (ap (λ (u : Token). same u (mark m)) (front-token b at s start) ∙ h)))
         (ap (λ (j : ℕ). record { why = places_wrong; at = j; of = f }) (front-place b at s start)))
 
@@ -186,14 +172,14 @@ module _ (b q r o v : List ℕ) (at k n left f i to seen : ℕ) (w : Within b at
         abbrev Term-read : Answer → Type 0
         Term-read a = Reads (TermTo vocabulary b o to o₁ v₁) (below due (seen_at b v seen to) (lexemes_from b e)) a
 
-        pub places-bad : (o₂ v₂ : List ℕ) (x : Fault) → Term-read (Bad x) → From at i o to v seen o₂ v₂ (Bad x)
-        places-bad o₂ v₂ x h = behind-mark o₂ v₂ (Bad x) (refuse _ _ (below due (seen_at b v seen to) (lexemes_from b e)) more x h)
+        pub places-bad : (o₂ v₂ : List ℕ) (x : Fault) → Term-read (Err x) → From at i o to v seen o₂ v₂ (Err x)
+        places-bad o₂ v₂ x h = behind-mark o₂ v₂ (Err x) (refuse _ _ (below due (seen_at b v seen to) (lexemes_from b e)) more x h)
 
         -- The term's end.
-        pub term-ends : (p : Reached) → Term-read (Read p) → Within b p.at n p.to p.seen × Lent o₁ v₁ × (p.map ≤ 1)
+        pub term-ends : (p : Reached) → Term-read (Ok p) → Within b p.at n p.to p.seen × Lent o₁ v₁ × (p.map ≤ 1)
         term-ends p h = go (below due (seen_at b v seen to) (lexemes_from b e)) h
           where
-            go : (g : Parsed TermRead) → Reads (TermTo vocabulary b o to o₁ v₁) g (Read p) → Within b p.at n p.to p.seen × Lent o₁ v₁ × (p.map ≤ 1)
+            go : (g : Parsed TermRead) → Reads (TermTo vocabulary b o to o₁ v₁) g (Ok p) → Within b p.at n p.to p.seen × Lent o₁ v₁ × (p.map ≤ 1)
             go (parsed a t) h = (
               record { short = w.short; inside = h.inside; words = w.words; room = h.room; few = h.few },
               h.lent,
@@ -201,7 +187,7 @@ module _ (b q r o v : List ℕ) (at k n left f i to seen : ℕ) (w : Within b at
             )
             go (bad x) h = absurd h
 
-        module _ (o₂ v₂ : List ℕ) (p : Reached) (a : Answer) (read : Term-read (Read p)) (behind : From p.at (i + 1) o₁ p.to v₁ p.seen o₂ v₂ a) where
+        module _ (o₂ v₂ : List ℕ) (p : Reached) (a : Answer) (read : Term-read (Ok p)) (behind : From p.at (i + 1) o₁ p.to v₁ p.seen o₂ v₂ a) where
           later-read : From p.at (suc i) o₁ p.to v₁ p.seen o₂ v₂ a
           later-read = subst (λ (j : ℕ). From p.at j o₁ p.to v₁ p.seen o₂ v₂ a) (add-one i) behind
 
@@ -212,9 +198,9 @@ module _ (b q r o v : List ℕ) (at k n left f i to seen : ℕ) (w : Within b at
           places-small = go a (read_from below f (suc i) (drop (suc i) kinds) (seen_at b v₁ p.seen p.to) (lexemes_from b p.at)) later-read
             where
               go : (x : Answer) (g : Parsed TermsRead) → Reads (TermsTo vocabulary b o₁ p.to o₂ v₂ (length (drop (suc i) kinds))) g x → Small p.map x
-              go (Read p') (parsed ts t) h = ((term-ends p read).2, rest-small (place_flags ts.terms) p'.map (length (drop (suc i) kinds)) h.map h.count few-behind)
-              go (Read p') (bad x) h = absurd h
-              go (Bad y) g h = tt
+              go (Ok p') (parsed ts t) h = ((term-ends p read).2, rest-small (place_flags ts.terms) p'.map (length (drop (suc i) kinds)) h.map h.count few-behind)
+              go (Ok p') (bad x) h = absurd h
+              go (Err y) g h = tt
 
           pub places-read : From at i o to v seen o₂ v₂ (joined p.map a)
           places-read =
@@ -228,10 +214,10 @@ module _ (b q r o v : List ℕ) (at k n left f i to seen : ℕ) (w : Within b at
                   Reads (TermsTo vocabulary b o to o₂ v₂ (suc (length (drop (suc i) kinds))))
                   (parse_then (parse_places below f comma (drop (suc i) kinds) (seen_at b v₁ p.seen p.to) (lexemes_from b p.at)) (λ ts t'. parsed (put_first t.term ts) t'))
                   (joined p.map x)
-              go t l h (Bad y) z = refuse _ _ (parse_places below f comma (drop (suc i) kinds) (seen_at b v₁ p.seen p.to) (lexemes_from b p.at)) (λ ts t'. parsed (put_first t.term ts) t') y z
-              go t l h (Read p') z =
+              go t l h (Err y) z = refuse _ _ (parse_places below f comma (drop (suc i) kinds) (seen_at b v₁ p.seen p.to) (lexemes_from b p.at)) (λ ts t'. parsed (put_first t.term ts) t') y z
+              go t l h (Ok p') z =
                   follow (TermsTo vocabulary b o₁ p.to o₂ v₂ (length (drop (suc i) kinds))) (TermsTo vocabulary b o to o₂ v₂ (suc (length (drop (suc i) kinds))))
-                  (parse_places below f comma (drop (suc i) kinds) (seen_at b v₁ p.seen p.to) (lexemes_from b p.at)) (λ ts t'. parsed (put_first t.term ts) t') p' (joined p.map (Read p')) z λ ts l' y. record {
+                  (parse_places below f comma (drop (suc i) kinds) (seen_at b v₁ p.seen p.to) (lexemes_from b p.at)) (λ ts t'. parsed (put_first t.term ts) t') p' (joined p.map (Ok p')) z λ ts l' y. record {
                     behind = y.behind;
                     inside = y.inside;
                     room = y.room;
@@ -268,28 +254,26 @@ module _ {b q r o v : List ℕ} {at n left f i to seen s m e x : ℕ} (h : AtPla
     few = h.within.few;
   }
 
-  module _ (o₁ v₁ : List ℕ) (y : Answer) (read : ReadsTerm b e left x q n r o to v seen o₁ v₁ y) where
-    told : (k : ℕ) (a : Answer) → y ≡ a →
+  module _ (o₁ v₁ : List ℕ) where
+    told : (a : Answer) → ReadsTerm b e left x q n r o to v seen o₁ v₁ a → (k : ℕ) →
         Reads (TermTo (tabled_vocabulary k n r) b o to o₁ v₁) (parse_term (names_in b (take n q)) (tabled_vocabulary k n r) left (get_or r (record_size * f + 2 + i) 0) (seen_at b v seen to) (lexemes_from b e)) a
-    told k a is =
-        subst (λ (a : Answer). Reads (TermTo (tabled_vocabulary k n r) b o to o₁ v₁) (parse_term (names_in b (take n q)) (tabled_vocabulary k n r) left (get_or r (record_size * f + 2 + i) 0) (seen_at b v seen to) (lexemes_from b e)) a) is
-        (subst (λ (j : ℕ). Reads (TermTo (tabled_vocabulary k n r) b o to o₁ v₁) (parse_term (names_in b (take n q)) (tabled_vocabulary k n r) left j (seen_at b v seen to) (lexemes_from b e)) y) h.kind (read k))
+    told a read k =
+        subst (λ (j : ℕ). Reads (TermTo (tabled_vocabulary k n r) b o to o₁ v₁) (parse_term (names_in b (take n q)) (tabled_vocabulary k n r) left j (seen_at b v seen to) (lexemes_from b e)) a) h.kind (read k)
 
-    pub place-refused : (o₂ v₂ : List ℕ) (z : Fault) → y ≡ Bad z → ReadsPlaces b at left f i q n r o to v seen o₂ v₂ (Bad z)
-    place-refused o₂ v₂ z is k =
-        places-bad b q r o v at k n left f i to seen h.within h.lent h.tables h.known s m h.here h.start h.before e h.stands h.end o₁ v₁ o₂ v₂ z (told k (Bad z) is)
+    pub place-refused : (o₂ v₂ : List ℕ) (z : Fault) → ReadsTerm b e left x q n r o to v seen o₁ v₁ (Err z) → ReadsPlaces b at left f i q n r o to v seen o₂ v₂ (Err z)
+    place-refused o₂ v₂ z read k =
+        places-bad b q r o v at k n left f i to seen h.within h.lent h.tables h.known s m h.here h.start h.before e h.stands h.end o₁ v₁ o₂ v₂ z (told (Err z) read k)
 
-    module _ (p : Reached) (is : y ≡ Read p) where
+    module _ (p : Reached) (read : ReadsTerm b e left x q n r o to v seen o₁ v₁ (Ok p)) where
       pub place-ends : Within b p.at n p.to p.seen × Lent o₁ v₁ × (p.map ≤ 1)
       place-ends =
-          term-ends b q r o v at 0 n left f i to seen h.within h.lent h.tables h.known s m h.here h.start h.before e h.stands h.end o₁ v₁ p (told 0 (Read p) is)
+          term-ends b q r o v at 0 n left f i to seen h.within h.lent h.tables h.known s m h.here h.start h.before e h.stands h.end o₁ v₁ p (told (Ok p) read 0)
 
       module _ (o₂ v₂ : List ℕ) (a : Answer) (behind : ReadsPlaces b p.at left f (i + 1) q n r o₁ p.to v₁ p.seen o₂ v₂ a) where
         pub place-small : Small p.map a
         place-small =
-            places-small b q r o v at 0 n left f i to seen h.within h.lent h.tables h.known s m h.here h.start h.before e h.stands h.end o₁ v₁ o₂ v₂ p a (told 0 (Read p) is) (behind 0)
+            places-small b q r o v at 0 n left f i to seen h.within h.lent h.tables h.known s m h.here h.start h.before e h.stands h.end o₁ v₁ o₂ v₂ p a (told (Ok p) read 0) (behind 0)
 
-        pub place_read : (z : Answer) → z ≡ joined p.map a → ReadsPlaces b at left f i q n r o to v seen o₂ v₂ z
-        place_read z eq k =
-            subst (λ (z : Answer). Reads (TermsTo (tabled_vocabulary k n r) b o to o₂ v₂ (length (drop i (word (tabled_vocabulary k n r) f).kinds))) (read_from (parse_term (names_in b (take n q)) (tabled_vocabulary k n r) left) f i (drop i (word (tabled_vocabulary k n r) f).kinds) (seen_at b v seen to) (lexemes_from b at)) z) (sym eq)
-            (places-read b q r o v at k n left f i to seen h.within h.lent h.tables h.known s m h.here h.start h.before e h.stands h.end o₁ v₁ o₂ v₂ p a (told k (Read p) is) (behind k))
+        pub place_read : ReadsPlaces b at left f i q n r o to v seen o₂ v₂ (joined p.map a)
+        place_read k =
+            places-read b q r o v at k n left f i to seen h.within h.lent h.tables h.known s m h.here h.start h.before e h.stands h.end o₁ v₁ o₂ v₂ p a (told (Ok p) read k) (behind k)

@@ -1,7 +1,7 @@
 -- AtTerms: a term, by what it begins with.
 --
 --   word-bytes             a word's number and map are put before the bytes of its places
---   term_leaf              a term that is read whole or refused
+--   term_leaf, term-whole  a term that is read whole or refused
 --   term-bad, term-read, map-small    a word, by what is read at its places
 --   word-within, word-lent, word_some, word-known, word-refused, word-map, word_read_lem     the same laws where read_term has come to a word
 --
@@ -18,11 +18,10 @@ use Rattle.texts.specs.Lexemes.{Lexeme, lexemes_from}
 use Rattle.texts.specs.Faults.{Parsed, parsed, bad, parse_then, too_deep}
 use Rattle.texts.specs.PhraseReading.{TermRead, TermsRead, word_bytes, fault_at, read_node, parse_term, read_behind}
 use Rattle.texts.specs.Tabled.{names_in, tabled_places, tabled_vocabulary}
-use Rattle.clauses.specs.Reading.{Within, Lent, Tables, seen_at, Reads, place_flags, TermTo, TermsTo, Below, word_read, WordAt, HeadIs, HeadRead, ReadsPlaces, ReadsTerm}
-use Rattle.clauses.specs.declared.Fault.{Fault}
+use Rattle.clauses.specs.Reading.{Answer, Within, Lent, Tables, seen_at, Reads, place_flags, TermTo, TermsTo, Below, word_read, WordAt, HeadIs, HeadRead, ReadsPlaces, ReadsTerm}
+use Rattle.faults.specs.declared.Fault.{Fault}
 use Rattle.clauses.specs.declared.Reached.{Reached}
-use Rattle.clauses.specs.declared.Answer.{Answer}
-use Rattle.clauses.specs.declared.Answer.TheVariants.{Read, Bad}
+use Rattle.std.specs.Prelude.{Ok, Err}
 use Rattle.clauses.specs.declared.Head.{Head}
 use Rattle.clauses.specs.declared.Head.TheVariants.{Leaf, Word}
 use Rattle.clauses.proofs.Flags.{written-full, flags-below}
@@ -68,8 +67,8 @@ module _ (b q r o v : List ℕ) (at k n left due to seen : ℕ) where
   abbrev term : ℕ → Parsed TermRead
   term levels = parse_term (names_in b (take n q)) vocabulary levels due (seen_at b v seen to) (lexemes_from b at)
 
-  pub term_leaf : (o' v' : List ℕ) (h : Head) (a : Answer) → h ≡ Leaf a → HeadIs vocabulary b n left o to v seen o' v' node h → Reads (TermTo vocabulary b o to o' v') (term left) a
-  term_leaf o' v' h a e is = go left (subst (HeadIs vocabulary b n left o to v seen o' v' node) e is)
+  pub term_leaf : (o' v' : List ℕ) (a : Answer) → ((below : Below) → Reads (TermTo vocabulary b o to o' v') (node below) a) → Reads (TermTo vocabulary b o to o' v') (term left) a
+  term_leaf o' v' a = go left
     where
       go : (levels : ℕ) →
           ((below : Below) → Reads (TermTo vocabulary b o to o' v') (read_node below (names_in b (take n q)) vocabulary levels due (seen_at b v seen to) (lexemes_from b at)) a) →
@@ -77,9 +76,8 @@ module _ (b q r o v : List ℕ) (at k n left due to seen : ℕ) where
       go zero h = h (λ k s' l'. fault_at too_deep k l')
       go (suc levels) h = h (parse_term (names_in b (take n q)) vocabulary levels)
 
-  pub word_at : (o' v' : List ℕ) (h : Head) (f e : ℕ) → h ≡ Word f e → HeadIs vocabulary b n left o to v seen o' v' node h →
-      (o' ≡ o) × (v' ≡ v) × WordAt vocabulary b n left to v seen node f e
-  word_at o' v' h f e q is = subst (HeadIs vocabulary b n left o to v seen o' v' node) q is
+  pub term-whole : (o' v' : List ℕ) (h : Head) (p : Reached) → h ≡ Leaf p → HeadIs vocabulary b n left o to v seen o' v' node (Ok h) → Reads (TermTo vocabulary b o to o' v') (term left) (Ok p)
+  term-whole o' v' h p is head = term_leaf o' v' (Ok p) (subst (λ (x : Head). HeadIs vocabulary b n left o to v seen o' v' node (Ok x)) is head)
 
   -- A word, with what is read at its places.
   module _ (f e : ℕ) (word_is : WordAt vocabulary b n left to v seen node f e) where
@@ -105,24 +103,24 @@ module _ (b q r o v : List ℕ) (at k n left due to seen : ℕ) where
       abbrev Places-read : Answer → Type 0
       Places-read a = Reads (TermsTo vocabulary b o (to + word_bytes) o₂ v₂ (length kinds)) behind a
 
-      pub term-bad : (o₃ v₃ : List ℕ) (x : Fault) → Places-read (Bad x) → Reads (TermTo vocabulary b o to o₃ v₃) (term left) (Bad x)
-      term-bad o₃ v₃ x h = subst (λ (g : Parsed TermRead). Reads (TermTo vocabulary b o to o₃ v₃) g (Bad x)) (sym one_less) (refuse _ _ behind (word_read f) x h)
+      pub term-bad : (o₃ v₃ : List ℕ) (x : Fault) → Places-read (Err x) → Reads (TermTo vocabulary b o to o₃ v₃) (term left) (Err x)
+      term-bad o₃ v₃ x h = subst (λ (g : Parsed TermRead). Reads (TermTo vocabulary b o to o₃ v₃) g (Err x)) (sym one_less) (refuse _ _ behind (word_read f) x h)
 
-      module _ (p : Reached) (few : n ≤ most_words) (lent : Lent o v) (tables : Tables q r) (read : Places-read (Read p)) where
+      module _ (p : Reached) (few : n ≤ most_words) (lent : Lent o v) (tables : Tables q r) (read : Places-read (Ok p)) where
         many : length kinds ≡ tabled_places r f
         many = kinds-count k n r f word_is.known few tables.records
 
         pub map-small : p.map < 256
         map-small = go behind read
           where
-            go : (g : Parsed TermsRead) → Reads (TermsTo vocabulary b o (to + word_bytes) o₂ v₂ (length kinds)) g (Read p) → p.map < 256
+            go : (g : Parsed TermsRead) → Reads (TermsTo vocabulary b o (to + word_bytes) o₂ v₂ (length kinds)) g (Ok p) → p.map < 256
             go (parsed ts l) h = omega (arith, h.map, flags-below (place_flags ts.terms) 8 (omega (arith, h.count, many, places-few r f)))
             go (bad x) h = absurd h
 
-        pub term-read : Reads (TermTo vocabulary b o to (set (set o₂ to f) (to + 1) p.map) v₂) (term left) (Read (record { at = p.at; to = p.to; seen = p.seen; map = 1 }))
+        pub term-read : Reads (TermTo vocabulary b o to (set (set o₂ to f) (to + 1) p.map) v₂) (term left) (Ok (record { at = p.at; to = p.to; seen = p.seen; map = 1 }))
         term-read =
-            subst (λ (g : Parsed TermRead). Reads (TermTo vocabulary b o to (set (set o₂ to f) (to + 1) p.map) v₂) g (Read (record { at = p.at; to = p.to; seen = p.seen; map = 1 }))) (sym one_less)
-            (follow (TermsTo vocabulary b o (to + word_bytes) o₂ v₂ (length kinds)) (TermTo vocabulary b o to (set (set o₂ to f) (to + 1) p.map) v₂) behind (word_read f) p (Read (record { at = p.at; to = p.to; seen = p.seen; map = 1 })) read λ ts l h. record {
+            subst (λ (g : Parsed TermRead). Reads (TermTo vocabulary b o to (set (set o₂ to f) (to + 1) p.map) v₂) g (Ok (record { at = p.at; to = p.to; seen = p.seen; map = 1 }))) (sym one_less)
+            (follow (TermsTo vocabulary b o (to + word_bytes) o₂ v₂ (length kinds)) (TermTo vocabulary b o to (set (set o₂ to f) (to + 1) p.map) v₂) behind (word_read f) p (Ok (record { at = p.at; to = p.to; seen = p.seen; map = 1 })) read λ ts l h. record {
               behind = h.behind;
               inside = h.inside;
               room = h.room;
@@ -144,10 +142,10 @@ module _ (b q r o v : List ℕ) (at k n left due to seen : ℕ) where
 -- ---- the same, where read_term has come to a word
 
 module _ (b q r o v : List ℕ) (at n left due to seen : ℕ) (w : Within b at n to seen) (lent : Lent o v) (tables : Tables q r)
-    (o' v' : List ℕ) (h : Head) (f e : ℕ) (is : h ≡ Word f e) (head : HeadRead b at left due q n r o to v seen o' v' h) where
+    (o' v' : List ℕ) (h : Head) (f e : ℕ) (is : h ≡ Word f e) (head : HeadRead b at left due q n r o to v seen o' v' (Ok h)) where
   abbrev standing : (k : ℕ) →
       (o' ≡ o) × (v' ≡ v) × WordAt (tabled_vocabulary k n r) b n left to v seen (λ below. read_node below (names_in b (take n q)) (tabled_vocabulary k n r) left due (seen_at b v seen to) (lexemes_from b at)) f e
-  standing k = word_at b q r o v at k n left due to seen o' v' h f e is (head k)
+  standing k = subst (λ (x : Head). HeadIs (tabled_vocabulary k n r) b n left o to v seen o' v' (λ below. read_node below (names_in b (take n q)) (tabled_vocabulary k n r) left due (seen_at b v seen to) (lexemes_from b at)) (Ok x)) is (head k)
 
   pub word-within : Within b e n (to + 2) seen
   word-within = record { short = w.short; inside = (standing 0).2.inside; words = w.words; room = (standing 0).2.fits; few = w.few }
@@ -162,23 +160,24 @@ module _ (b q r o v : List ℕ) (at n left due to seen : ℕ) (w : Within b at n
   word-known = (standing 0).2.known
 
   module _ (o₂ v₂ : List ℕ) (y : Answer) (places : ReadsPlaces b e (left - 1) f 0 q n r o' (to + 2) v' seen o₂ v₂ y) where
-    told : (k : ℕ) (a : Answer) → y ≡ a →
+    told : (k : ℕ) →
         Reads (TermsTo (tabled_vocabulary k n r) b o (to + 2) o₂ v₂ (length (word (tabled_vocabulary k n r) f).kinds))
-        (read_behind (parse_term (names_in b (take n q)) (tabled_vocabulary k n r) (left - 1)) f (word (tabled_vocabulary k n r) f).kinds (seen_at b v seen (to + 2)) (lexemes_from b e)) a
-    told k a i =
-        subst (λ (x : List ℕ). Reads (TermsTo (tabled_vocabulary k n r) b x (to + 2) o₂ v₂ (length (word (tabled_vocabulary k n r) f).kinds)) (read_behind (parse_term (names_in b (take n q)) (tabled_vocabulary k n r) (left - 1)) f (word (tabled_vocabulary k n r) f).kinds (seen_at b v seen (to + 2)) (lexemes_from b e)) a) (standing k).0
-        (subst (λ (x : List ℕ). Reads (TermsTo (tabled_vocabulary k n r) b o' (to + 2) o₂ v₂ (length (word (tabled_vocabulary k n r) f).kinds)) (read_behind (parse_term (names_in b (take n q)) (tabled_vocabulary k n r) (left - 1)) f (word (tabled_vocabulary k n r) f).kinds (seen_at b x seen (to + 2)) (lexemes_from b e)) a) (standing k).1
-        (subst (λ (x : Answer). Reads (TermsTo (tabled_vocabulary k n r) b o' (to + 2) o₂ v₂ (length (word (tabled_vocabulary k n r) f).kinds)) (read_behind (parse_term (names_in b (take n q)) (tabled_vocabulary k n r) (left - 1)) f (word (tabled_vocabulary k n r) f).kinds (seen_at b v' seen (to + 2)) (lexemes_from b e)) x) i (places k)))
+        (read_behind (parse_term (names_in b (take n q)) (tabled_vocabulary k n r) (left - 1)) f (word (tabled_vocabulary k n r) f).kinds (seen_at b v seen (to + 2)) (lexemes_from b e)) y
+    told k =
+        subst (λ (x : List ℕ). Reads (TermsTo (tabled_vocabulary k n r) b x (to + 2) o₂ v₂ (length (word (tabled_vocabulary k n r) f).kinds)) (read_behind (parse_term (names_in b (take n q)) (tabled_vocabulary k n r) (left - 1)) f (word (tabled_vocabulary k n r) f).kinds (seen_at b v seen (to + 2)) (lexemes_from b e)) y) (standing k).0
+        (subst (λ (x : List ℕ). Reads (TermsTo (tabled_vocabulary k n r) b o' (to + 2) o₂ v₂ (length (word (tabled_vocabulary k n r) f).kinds)) (read_behind (parse_term (names_in b (take n q)) (tabled_vocabulary k n r) (left - 1)) f (word (tabled_vocabulary k n r) f).kinds (seen_at b x seen (to + 2)) (lexemes_from b e)) y) (standing k).1
+        (places k))
 
-    pub word-refused : (o₃ v₃ : List ℕ) (x : Fault) → y ≡ Bad x → ReadsTerm b at left due q n r o to v seen o₃ v₃ (Bad x)
-    word-refused o₃ v₃ x i k = term-bad b q r o v at k n left due to seen f e (standing k).2 o₂ v₂ o₃ v₃ x (told k (Bad x) i)
+  module _ (o₂ v₂ : List ℕ) where
+    pub word-refused : (o₃ v₃ : List ℕ) (x : Fault) → ReadsPlaces b e (left - 1) f 0 q n r o' (to + 2) v' seen o₂ v₂ (Err x) → ReadsTerm b at left due q n r o to v seen o₃ v₃ (Err x)
+    word-refused o₃ v₃ x places k = term-bad b q r o v at k n left due to seen f e (standing k).2 o₂ v₂ o₃ v₃ x (told o₂ v₂ (Err x) places k)
 
-    module _ (p : Reached) (i : y ≡ Read p) where
+    module _ (p : Reached) (places : ReadsPlaces b e (left - 1) f 0 q n r o' (to + 2) v' seen o₂ v₂ (Ok p)) where
       pub word-map : p.map < 256
-      word-map = map-small b q r o v at 0 n left due to seen f e (standing 0).2 o₂ v₂ p w.words lent tables (told 0 (Read p) i)
+      word-map = map-small b q r o v at 0 n left due to seen f e (standing 0).2 o₂ v₂ p w.words lent tables (told o₂ v₂ (Ok p) places 0)
 
       pub word_read_lem : (o₃ : List ℕ) → o₃ ≡ set (set o₂ to f) (to + 1) p.map →
-          ReadsTerm b at left due q n r o to v seen o₃ v₂ (Read (record { at = p.at; to = p.to; seen = p.seen; map = 1 }))
+          ReadsTerm b at left due q n r o to v seen o₃ v₂ (Ok (record { at = p.at; to = p.to; seen = p.seen; map = 1 }))
       word_read_lem o₃ eq k =
-          subst (λ (x : List ℕ). Reads (TermTo (tabled_vocabulary k n r) b o to x v₂) (parse_term (names_in b (take n q)) (tabled_vocabulary k n r) left due (seen_at b v seen to) (lexemes_from b at)) (Read (record { at = p.at; to = p.to; seen = p.seen; map = 1 }))) (sym eq)
-          (term-read b q r o v at k n left due to seen f e (standing k).2 o₂ v₂ p w.words lent tables (told k (Read p) i))
+          subst (λ (x : List ℕ). Reads (TermTo (tabled_vocabulary k n r) b o to x v₂) (parse_term (names_in b (take n q)) (tabled_vocabulary k n r) left due (seen_at b v seen to) (lexemes_from b at)) (Ok (record { at = p.at; to = p.to; seen = p.seen; map = 1 }))) (sym eq)
+          (term-read b q r o v at k n left due to seen f e (standing k).2 o₂ v₂ p w.words lent tables (told o₂ v₂ (Ok p) places k))

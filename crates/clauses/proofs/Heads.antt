@@ -23,9 +23,11 @@ use Rattle.texts.specs.Names.{same, opened, most_name, is_identifier, is_variabl
 use Rattle.texts.specs.Faults.{Parsed, parse_then, token}
 use Rattle.texts.specs.PhraseReading.{TermRead, word_bytes, word_why, variable_why, read_behind, parse_word, read_variable, read_node}
 use Rattle.texts.specs.Tabled.{names_in, record_size, tabled_vocabulary}
-use Rattle.clauses.specs.Reading.{Within, Lent, Tables, seen_at, Reads, TermTo, word_reason, variable_reason, ReadsVariable, Below, word_read, HeadIs}
-use Rattle.clauses.specs.declared.Answer.{Answer}
-use Rattle.clauses.specs.declared.Answer.TheVariants.{Read, Bad}
+use Rattle.clauses.specs.Reading.{Answer, Within, Lent, Tables, seen_at, Reads, TermTo, word_reason, variable_reason, ReadsVariable, Below, word_read, HeadIs}
+use Rattle.std.specs.Prelude.{Ok, Err}
+use Rattle.faults.specs.declared.Reason.{Reason}
+use Rattle.faults.specs.Reasons.{number_of}
+use Rattle.faults.proofs.Numbers.{number-some}
 use Rattle.clauses.specs.declared.Head.TheVariants.{Leaf, Word}
 use Rattle.clauses.proofs.Fronts.{front-token, front-place, front, mark_some, variable_some, identifier_some}
 use Rattle.clauses.proofs.Tables.{result-at, names-count}
@@ -75,11 +77,11 @@ reason_none true f n kind left due to e = known (ltb f n) refl (eqb kind due) (e
 -- ---- why a token is no variable
 
 -- The reason that variable_why gives for the token at an offset.
-abbrev pub Reason : List ℕ → List ℕ → ℕ → ℕ → ℕ → ℕ → ℕ → Type 0
-Reason b v s left to seen why =
+abbrev pub Reasoned : List ℕ → List ℕ → ℕ → ℕ → ℕ → ℕ → ℕ → Type 0
+Reasoned b v s left to seen why =
     why ≡ variable_reason (length (token_at b s)) (index_in (token_at b s) (names_in b (take seen v))) seen left to
 
-pub variable_reason_lem : (b v : List ℕ) (s left to seen why : ℕ) → seen ≤ length v → Reason b v s left to seen why →
+pub variable_reason_lem : (b v : List ℕ) (s left to seen why : ℕ) → seen ≤ length v → Reasoned b v s left to seen why →
     variable_why left (seen_at b v seen to) (token_at b s) ≡ why
 variable_reason_lem b v s left to seen why h e =
     ap (λ (j : ℕ). variable_reason (length (token_at b s)) (index_in (token_at b s) (names_in b (take seen v))) j left to) (names-count b seen v h) ∙ sym e
@@ -97,31 +99,31 @@ free size found seen left to e =
     go true false false true p false p' z = absurd (omega arith)
     go true false false true p true p' z = (ltb-true seen name_count p, leb-true (to + 1) most_bytes p')
 
-pub variable_free : (b v : List ℕ) (s left to seen why : ℕ) → Reason b v s left to seen why → why ≡ 0 → (seen < name_count) × (to + 1 ≤ most_bytes)
+pub variable_free : (b v : List ℕ) (s left to seen why : ℕ) → Reasoned b v s left to seen why → why ≡ 0 → (seen < name_count) × (to + 1 ≤ most_bytes)
 variable_free b v s left to seen why e h =
     free (length (token_at b s)) (index_in (token_at b s) (names_in b (take seen v))) seen left to (sym e ∙ h)
 
-pub variable-refused : (b o v o' v' : List ℕ) (s left due to seen why : ℕ) → Within b s 0 to seen → Lent o v →
-    Reason b v s left to seen why → (why ≡ 0 → ⊥) →
-    ReadsVariable b s left due o to v seen o' v' (Bad (record { why = why; at = s; of = due }))
-variable-refused b o v o' v' s left due to seen why w lent e n W l f =
-    subst (λ (x : ℕ). Reads (TermTo W b o to o' v') (read_variable due (seen_at b v seen to) l x) (Bad (record { why = why; at = s; of = due })))
-    (sym (variable_reason_lem b v s left to seen why (omega (arith, w.few, lent.variables)) e)) (go why n)
+pub variable-refused : (b o v o' v' : List ℕ) (s left due to seen : ℕ) (why : Reason) → Within b s 0 to seen → Lent o v →
+    Reasoned b v s left to seen (number_of why) →
+    ReadsVariable b s left due o to v seen o' v' (Err (record { why = why; at = s; of = due }))
+variable-refused b o v o' v' s left due to seen why w lent e W l f =
+    subst (λ (x : ℕ). Reads (TermTo W b o to o' v') (read_variable due (seen_at b v seen to) l x) (Err (record { why = why; at = s; of = due })))
+    (sym (variable_reason_lem b v s left to seen (number_of why) (omega (arith, w.few, lent.variables)) e)) (go (number_of why) (number-some why) refl)
   where
-    go : (x : ℕ) → (x ≡ 0 → ⊥) → Reads (TermTo W b o to o' v') (read_variable due (seen_at b v seen to) l x) (Bad (record { why = x; at = s; of = due }))
-    go zero h = absurd (h refl)
-    go (suc x) h = ap (λ (i : ℕ). record { why = suc x; at = i; of = due }) f.place
+    go : (x : ℕ) → 0 < x → x ≡ number_of why → Reads (TermTo W b o to o' v') (read_variable due (seen_at b v seen to) l x) (Err (record { why = why; at = s; of = due }))
+    go zero h is = absurd (omega arith)
+    go (suc x) h is = ap₂ (λ (i j : ℕ). record { why = i; at = j; of = due }) is f.place
 
 map_snoc : (b : List ℕ) (p : List ℕ) (s : ℕ) → names_in b (p ++ (s ∷ [])) ≡ names_in b p ++ (token_at b s ∷ [])
 map_snoc b [] s = refl
 map_snoc b (x ∷ p) s = ap (λ (l : List Token). token_at b x ∷ l) (map_snoc b p s)
 
 pub variable-read : (b o v : List ℕ) (s left due to seen why e : ℕ) → Within b s 0 to seen → Lent o v →
-    Reason b v s left to seen why → why ≡ 0 → e ≡ s + token_size (drop s b) →
+    Reasoned b v s left to seen why → why ≡ 0 → e ≡ s + token_size (drop s b) →
     ReadsVariable b s left due o to v seen (set o to (name_byte seen)) (set v seen s)
-    (Read (record { at = e; to = to + 1; seen = seen + 1; map = 1 }))
+    (Ok (record { at = e; to = to + 1; seen = seen + 1; map = 1 }))
 variable-read b o v s left due to seen why e w lent reason none end W l f =
-    subst (λ (x : ℕ). Reads (TermTo W b o to (set o to (name_byte seen)) (set v seen s)) (read_variable due (seen_at b v seen to) l x) (Read (record { at = e; to = to + 1; seen = seen + 1; map = 1 })))
+    subst (λ (x : ℕ). Reads (TermTo W b o to (set o to (name_byte seen)) (set v seen s)) (read_variable due (seen_at b v seen to) l x) (Ok (record { at = e; to = to + 1; seen = seen + 1; map = 1 })))
     (sym (variable_reason_lem b v s left to seen why (omega (arith, w.few, lent.variables)) reason ∙ none))
     (record {
       behind = f.behind ∙ ap (lexemes_from b) (sym end);
@@ -154,10 +156,10 @@ module _ (b q r o v : List ℕ) (at s k n left due to seen : ℕ) (w : Within b 
   tokened = front-token b at s start
 
   pub head_open : (e : ℕ) → same (token_at b s) (95 ∷ []) ≡ true → e ≡ s + token_size (drop s b) →
-      HeadIs vocabulary b n left o to v seen o v node (Leaf (Read (record { at = e; to = to; seen = seen; map = 0 })))
+      HeadIs vocabulary b n left o to v seen o v node (Ok (Leaf (record { at = e; to = to; seen = seen; map = 0 })))
   head_open e h end below =
       let f = front b at s w.inside start (mark_some (token_at b s) 95 h) in
-      subst (λ (g : Parsed TermRead). Reads (TermTo vocabulary b o to o v) g (Read (record { at = e; to = to; seen = seen; map = 0 })))
+      subst (λ (g : Parsed TermRead). Reads (TermTo vocabulary b o to o v) g (Ok (record { at = e; to = to; seen = seen; map = 0 })))
       (sym (cond_true (same (token (lexemes_from b at)) opened) _ _ (ap (λ (u : Token). same u opened) tokened ∙ h)))
       (record {
         behind = f.behind ∙ ap (lexemes_from b) (sym end);
@@ -179,7 +181,7 @@ module _ (b q r o v : List ℕ) (at s k n left due to seen : ℕ) (w : Within b 
     not_open below = cond_false (same (token (lexemes_from b at)) opened) _ _ (ap (λ (u : Token). same u opened) tokened ∙ closed)
 
     pub head-variable : (o' v' : List ℕ) (a : Answer) → is_variable (token_at b s) ≡ true → ReadsVariable b s left due o to v seen o' v' a →
-        HeadIs vocabulary b n left o to v seen o' v' node (Leaf a)
+        (below : Below) → Reads (TermTo vocabulary b o to o' v') (node below) a
     head-variable o' v' a h read below =
         subst (λ (g : Parsed TermRead). Reads (TermTo vocabulary b o to o' v') g a)
         (sym
@@ -200,19 +202,19 @@ module _ (b q r o v : List ℕ) (at s k n left due to seen : ℕ) (w : Within b 
           ∙ word_reason_lem b q v r k n left due to seen f (token_at b s) (omega (arith, w.words, tables.names)) found
           ∙ sym reason)
 
-      pub head-refused : (o' v' : List ℕ) → (why ≡ 0 → ⊥) →
-          HeadIs vocabulary b n left o to v seen o' v' node (Leaf (Bad (record { why = why; at = s; of = due })))
-      head-refused o' v' h below =
-          subst (λ (g : Parsed TermRead). Reads (TermTo vocabulary b o to o' v') g (Bad (record { why = why; at = s; of = due })))
-          (sym (no-variable below)) (go why h)
+      pub head-refused : (o' v' : List ℕ) (x : Reason) → why ≡ number_of x →
+          HeadIs vocabulary b n left o to v seen o' v' node (Err (record { why = x; at = s; of = due }))
+      head-refused o' v' x is below =
+          subst (λ (g : Parsed TermRead). Reads (TermTo vocabulary b o to o' v') g (Err (record { why = x; at = s; of = due })))
+          (sym (no-variable below)) (go why (let some = number-some x in omega (arith, is)) is)
         where
-          go : (x : ℕ) → (x ≡ 0 → ⊥) →
-              Reads (TermTo vocabulary b o to o' v') (parse_word below (names_in b (take n q)) vocabulary left due (seen_at b v seen to) (lexemes_from b at) x) (Bad (record { why = x; at = s; of = due }))
-          go zero h = absurd (h refl)
-          go (suc x) h = ap (λ (i : ℕ). record { why = suc x; at = i; of = due }) (front-place b at s start)
+          go : (i : ℕ) → 0 < i → i ≡ number_of x →
+              Reads (TermTo vocabulary b o to o' v') (parse_word below (names_in b (take n q)) vocabulary left due (seen_at b v seen to) (lexemes_from b at) i) (Err (record { why = x; at = s; of = due }))
+          go zero h e = absurd (omega arith)
+          go (suc i) h e = ap₂ (λ (j p : ℕ). record { why = j; at = p; of = due }) e (front-place b at s start)
 
       pub head-word : (e : ℕ) → why ≡ 0 → e ≡ s + token_size (drop s b) →
-          HeadIs vocabulary b n left o to v seen o v node (Word f e)
+          HeadIs vocabulary b n left o to v seen o v node (Ok (Word f e))
       head-word e h end =
           let none = reason_none (is_identifier (token_at b s)) f n (get_or r (record_size * f) 0) left due to (sym reason ∙ h) in
           let first = front b at s w.inside start (identifier_some (token_at b s) none.named) in (

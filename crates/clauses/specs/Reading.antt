@@ -5,7 +5,7 @@
 --   Tables q r                  .. and so have the table of the words' names and their records
 --   Fits                        all of that
 --   seen_at b v seen to          what was read so far, by the table of variables
---   fault_of x                   a fault, as the definitions have it
+--   Answer                      what reading gives
 --   Reads P g a                 the answer a is what g says; P is what holds of what was read
 --   place_flags ts               a bit for each of the terms ts, which stands where the term is written
 --   ReadTo                      what was read up to a point, with its bytes and bits
@@ -23,7 +23,7 @@
 --   ReadsPlaces, ReadsTerm      the places of a word from a number on, a term
 --   Small, joined               the bit of a place, and the bits of those behind it
 --
-use Rattle.std.specs.Prelude.{◌≡◌, Bool, not, cond, List, [], ◌∷◌, ◌++◌, ℕ, zero, suc, ◌+◌, ◌*◌, ◌<◌, ◌≤◌, eqb, ltb, leb, length, take, drop}
+use Rattle.std.specs.Prelude.{◌≡◌, Bool, not, cond, List, [], ◌∷◌, ◌++◌, ℕ, zero, suc, ◌+◌, ◌*◌, ◌<◌, ◌≤◌, eqb, ltb, leb, length, take, drop, Result, Ok, Err}
 use Rattle.terms.specs.Term.{Term, Terms, nil, cons}
 use Rattle.wire.specs.Map.{number, is_open}
 use Rattle.wire.specs.Vocabulary.{Vocabulary, word, most_words}
@@ -31,14 +31,12 @@ use Rattle.wire.specs.TermBytes.{encode_at, encode_all, name_count, most_bytes}
 use Rattle.texts.specs.Lexemes.{Lexeme, token_size, lexemes_from, token_at}
 use Rattle.texts.specs.Names.{opening, comma, most_name}
 use Rattle.texts.specs.Files.{most_text}
-use Rattle.texts.specs.Faults as faults
 use Rattle.texts.specs.Faults.{Parsed, parsed, bad, parse_then, token, place, rest, long_name, term_due, unknown_word, other_kind, too_deep, too_long, variable_twice, many_variables}
 use Rattle.texts.specs.PhraseReading.{Seen, TermRead, TermsRead, word_bytes, variable_why, parse_places, read_behind, read_variable, read_node, parse_term}
 use Rattle.texts.specs.Tabled.{names_in, record_size, tabled_vocabulary}
-use Rattle.clauses.specs.declared.Fault.{Fault}
+use Rattle.faults.specs.declared.Fault.{Fault}
+use Rattle.faults.specs.Reasons.{fault_of}
 use Rattle.clauses.specs.declared.Reached.{Reached}
-use Rattle.clauses.specs.declared.Answer.{Answer}
-use Rattle.clauses.specs.declared.Answer.TheVariants.{Read, Bad}
 use Rattle.clauses.specs.declared.Head.{Head}
 use Rattle.clauses.specs.declared.Head.TheVariants.{Leaf, Word}
 
@@ -65,14 +63,14 @@ pub record Fits (b : List ℕ) (at : ℕ) (q : List ℕ) (n : ℕ) (r o : List �
 abbrev pub seen_at : List ℕ → List ℕ → ℕ → ℕ → Seen
 seen_at b v seen to = record { variables = names_in b (take seen v); used = to }
 
-abbrev pub fault_of : Fault → faults.Fault
-fault_of x = record { why = x.why; at = x.at; of = x.of }
+abbrev pub Answer : Type 0
+Answer = Result Reached Fault
 
 abbrev pub Reads : {A : Type 0} → (A → List Lexeme → Reached → Type 0) → Parsed A → Answer → Type 0
-Reads P (parsed a r) (Read p) = P a r p
-Reads P (parsed a r) (Bad x) = ⊥
-Reads P (bad f) (Read p) = ⊥
-Reads P (bad f) (Bad x) = f ≡ fault_of x
+Reads P (parsed a r) (Ok p) = P a r p
+Reads P (parsed a r) (Err x) = ⊥
+Reads P (bad f) (Ok p) = ⊥
+Reads P (bad f) (Err x) = f ≡ fault_of x
 
 abbrev pub place_flags : Terms → List Bool
 place_flags nil = []
@@ -139,11 +137,12 @@ pub record WordAt (W : Vocabulary) (b : List ℕ) (n left to : ℕ) (v : List �
   pub behind : (below : Below) →
       node below ≡ parse_then (read_behind below f (word W f).kinds (seen_at b v seen (to + word_bytes)) (lexemes_from b e)) (word_read f)
 
-abbrev pub HeadIs : Vocabulary → List ℕ → ℕ → ℕ → List ℕ → ℕ → List ℕ → ℕ → List ℕ → List ℕ → (Below → Parsed TermRead) → Head → Type 0
-HeadIs W b n left o to v seen o' v' node (Leaf a) = (below : Below) → Reads (TermTo W b o to o' v') (node below) a
-HeadIs W b n left o to v seen o' v' node (Word f e) = (o' ≡ o) × (v' ≡ v) × WordAt W b n left to v seen node f e
+abbrev pub HeadIs : Vocabulary → List ℕ → ℕ → ℕ → List ℕ → ℕ → List ℕ → ℕ → List ℕ → List ℕ → (Below → Parsed TermRead) → Result Head Fault → Type 0
+HeadIs W b n left o to v seen o' v' node (Ok (Leaf p)) = (below : Below) → Reads (TermTo W b o to o' v') (node below) (Ok p)
+HeadIs W b n left o to v seen o' v' node (Ok (Word f e)) = (o' ≡ o) × (v' ≡ v) × WordAt W b n left to v seen node f e
+HeadIs W b n left o to v seen o' v' node (Err x) = (below : Below) → Reads (TermTo W b o to o' v') (node below) (Err x)
 
-abbrev pub HeadRead : List ℕ → ℕ → ℕ → ℕ → List ℕ → ℕ → List ℕ → List ℕ → ℕ → List ℕ → ℕ → List ℕ → List ℕ → Head → Type 0
+abbrev pub HeadRead : List ℕ → ℕ → ℕ → ℕ → List ℕ → ℕ → List ℕ → List ℕ → ℕ → List ℕ → ℕ → List ℕ → List ℕ → Result Head Fault → Type 0
 HeadRead b at left due q n r o to v seen o' v' h =
     (k : ℕ) →
     HeadIs (tabled_vocabulary k n r) b n left o to v seen o' v'
@@ -177,9 +176,9 @@ ReadsTerm b at left due q n r o to v seen o' v' a =
     Reads (TermTo W b o to o' v') (parse_term (names_in b (take n q)) W left due (seen_at b v seen to) (lexemes_from b at)) a
 
 abbrev pub Small : ℕ → Answer → Type 0
-Small bit (Read p) = (bit ≤ 1) × (p.map ≤ 127)
-Small bit (Bad x) = Unit {0}
+Small bit (Ok p) = (bit ≤ 1) × (p.map ≤ 127)
+Small bit (Err x) = Unit {0}
 
 abbrev pub joined : ℕ → Answer → Answer
-joined bit (Read p) = Read (record { at = p.at; to = p.to; seen = p.seen; map = bit + 2 * p.map })
-joined bit (Bad x) = Bad x
+joined bit (Ok p) = Ok (record { at = p.at; to = p.to; seen = p.seen; map = bit + 2 * p.map })
+joined bit (Err x) = Err x

@@ -1,6 +1,6 @@
--- The laws behind the proofs of telling faults. What is said of reasons, kept as lines.
+-- The laws behind the proofs of telling faults. What is said of reasons.
 pub mod Said
--- What stands for a byte of the line that is shown.
+-- The bytes of the line that is shown.
 pub mod Drawing
 -- The whole.
 pub mod Told

@@ -2,8 +2,8 @@
 --
 --   behind_is                                    the token behind another one
 --   unknown_question, unknown-blank, unknown-plain     what is said of a name that is no word
---   other-pattern, other-unknown, other-marked, other-plain     what is said of the token at fault
---   reason_due, reason_opens, reason_places, reason_other     what is wrong: a kind, a (, the places of a word, or none of these
+--   other-marked                                 what is said of a byte order mark
+--   reason_opens                                 what is wrong where a ( stands and no place is due
 --   told                                         the place, the reason and the picture
 --
 use mathlib.Core.Path.{◌≡◌, sym, ap, ap₂, ◌∙◌}
@@ -12,14 +12,14 @@ use mathlib.Core.List.{List, [], ◌++◌, append_assoc}
 use Prim.Native.Nat.{ℕ, suc, ◌+◌}
 use lib.ListN.{take, drop}
 use lib.Dec.{eqb}
-use borrow.Author.Tests.{eq-eqb, ne_eqb}
+use borrow.Author.Tests.{ne_eqb}
 use Rattle.wire.specs.Text.{ascii, decimal}
 use Rattle.wire.proofs.Cond.{cond_true, cond_false}
 use Rattle.texts.specs.Lexemes.{Token, asking, blanks, token_size, lexemes_from, token_at}
 use Rattle.texts.specs.Names.{same, mark, opening, is_variable}
-use Rattle.texts.specs.Faults.{kind_due, pattern_due, term_due, unknown_word, other_kind, places_wrong, places_over}
-use Rattle.texts.specs.Complaints.{Known, due_text, commas_in, places_text, no_pattern_text, token_behind, unknown_text, order_marked, reason_text, newlines, columns, line_start, complaint}
-use Rattle.complaints.specs.Parts.{fault, about_places, plain, other_text, place_text, picture_text}
+use Rattle.texts.specs.Faults.{kind_due, pattern_due, term_due, unknown_word, other_kind}
+use Rattle.texts.specs.Complaints.{Known, commas_in, token_behind, unknown_text, order_marked, reason_text, newlines, columns, line_start, complaint}
+use Rattle.complaints.specs.Parts.{fault, about_places, other_text, place_text, picture_text}
 
 pub behind_is : (b : List ℕ) (at : ℕ) {e s : ℕ} → e ≡ at + token_size (drop at b) → s ≡ e + blanks (drop e b) → token_at b s ≡ token_behind b at
 behind_is b at f g = ap (token_at b) (g ∙ ap (λ x. x + blanks (drop x b)) f)
@@ -42,16 +42,7 @@ module _ (u : Token) {v w : Token} (b : w ≡ v) {q : Bool} (e : q ≡ same w (m
     unknown-plain k = ends _ (cond_false (is_variable w) _ _ (sym f ∙ k))
 
 module _ (u v : Token) (why : ℕ) where
-  pub other-pattern : why ≡ pattern_due → no_pattern_text u ≡ other_text u v why
-  other-pattern p = sym (cond_true (eqb why pattern_due) _ _ (eq-eqb why pattern_due p))
-
   module _ (p : why ≡ pattern_due → ⊥) where
-    pub other-unknown : why ≡ unknown_word → unknown_text u v ≡ other_text u v why
-    other-unknown w =
-        sym
-        (cond_false (eqb why pattern_due) _ _ (ne_eqb why pattern_due p)
-        ∙ cond_true (eqb why unknown_word) _ _ (eq-eqb why unknown_word w))
-
     module _ (w : why ≡ unknown_word → ⊥) {t : Bool} (e : t ≡ (eqb why kind_due && order_marked u)) where
       pub other-marked : t ≡ true → ascii "a byte order mark stands here, and a text begins with `kind`" ≡ other_text u v why
       other-marked d =
@@ -60,38 +51,13 @@ module _ (u v : Token) (why : ℕ) where
           ∙ cond_false (eqb why unknown_word) _ _ (ne_eqb why unknown_word w)
           ∙ cond_true (eqb why kind_due && order_marked u) _ _ (sym e ∙ d))
 
-      pub other-plain : t ≡ false → plain u why ≡ other_text u v why
-      other-plain d =
-          sym
-          (cond_false (eqb why pattern_due) _ _ (ne_eqb why pattern_due p)
-          ∙ cond_false (eqb why unknown_word) _ _ (ne_eqb why unknown_word w)
-          ∙ cond_false (eqb why kind_due && order_marked u) _ _ (sym e ∙ d))
-
 module _ (T : Known) (why at of : ℕ) (u v : Token) (c : ℕ) {t : Bool} (e : t ≡ (eqb why term_due || eqb why other_kind)) where
-  pub reason_due : t ≡ true → due_text T of ≡ reason_text T (fault why at of) u v c
-  reason_due d = sym (cond_true (eqb why term_due || eqb why other_kind) _ _ (sym e ∙ d))
-
   module _ (d : t ≡ false) {o : Bool} (f : o ≡ (about_places why && same u (mark opening))) where
     pub reason_opens : o ≡ true → ascii "no places are due here, as what stands before takes none or has them all" ≡ reason_text T (fault why at of) u v c
     reason_opens g =
         sym
         (cond_false (eqb why term_due || eqb why other_kind) _ _ (sym e ∙ d)
         ∙ cond_true (about_places why && same u (mark opening)) _ _ (sym f ∙ g))
-
-    module _ (g : o ≡ false) {p : Bool} (h : p ≡ (eqb why places_wrong || eqb why places_over)) where
-      pub reason_places : p ≡ true → places_text T (fault why at of) u c ≡ reason_text T (fault why at of) u v c
-      reason_places k =
-          sym
-          (cond_false (eqb why term_due || eqb why other_kind) _ _ (sym e ∙ d)
-          ∙ cond_false (about_places why && same u (mark opening)) _ _ (sym f ∙ g)
-          ∙ cond_true (eqb why places_wrong || eqb why places_over) _ _ (sym h ∙ k))
-
-      pub reason_other : p ≡ false → other_text u v why ≡ reason_text T (fault why at of) u v c
-      reason_other k =
-          sym
-          (cond_false (eqb why term_due || eqb why other_kind) _ _ (sym e ∙ d)
-          ∙ cond_false (about_places why && same u (mark opening)) _ _ (sym f ∙ g)
-          ∙ cond_false (eqb why places_wrong || eqb why places_over) _ _ (sym h ∙ k))
 
 regroup : (a b c d e r : List ℕ) → (a ++ (b ++ (c ++ (d ++ e)))) ++ r ≡ a ++ (b ++ (c ++ (d ++ (e ++ r))))
 regroup a b c d e r = simp append_assoc

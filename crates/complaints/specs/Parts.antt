@@ -1,34 +1,31 @@
 -- Parts: the parts of a complaint that functions of their own put.
 --
 --   fault why at of        a fault, by its three numbers
---   skipped p b            nothing stands for the byte b of a line; p: padded for the mark below
---   seen_as p b             the byte that stands for the byte b of a line, where one does
---   drawn p b              the byte b of a line, as it is shown, or as it is padded
+--   seen_text s            the byte that stands for one of a line, or nothing
+--   drawn r b              the byte b of a line, as it is shown, or as it is padded
 --   about_places why        the reason may be that a ( stands where no place is due
 --   plain u why            what is said of the token u for a reason that has its text in the tables
 --   other_text u v why      what is said of the token u for a reason that is about no kind and no places; v stands behind it
 --   place_text before last  line and column of the place behind the bytes before; last: those in its line
 --   picture_text line last  the line, and below it the mark behind the bytes last
 --
-use Rattle.std.specs.Prelude.{Bool, true, false, not, ◌||◌, ◌&&◌, cond, List, [], ◌++◌, ℕ, suc, eqb, ltb, get_or, take}
+use Rattle.std.specs.Prelude.{Bool, ◌||◌, ◌&&◌, cond, Option, Some, None, List, [], ◌∷◌, ◌++◌, ℕ, suc, eqb, get_or, take}
 use Rattle.wire.specs.Row.{write_row}
 use Rattle.wire.specs.Text.{ascii, newline, decimal}
 use Rattle.texts.specs.Lexemes.{Token}
 use Rattle.texts.specs.Faults.{kind_due, pattern_due, unknown_word, places_wrong, places_over}
-use Rattle.texts.specs.Complaints.{reasons, endings, token_then, no_pattern_text, unknown_text, order_marked, newlines, follows, columns, shown, padding, line_size}
+use Rattle.texts.specs.Complaints.{reasons, endings, token_then, no_pattern_text, unknown_text, order_marked, newlines, columns, shown, padding, line_size}
+use Rattle.complaints.specs.declared.Row.{Row}
+use Rattle.complaints.specs.declared.Row.TheVariants.{Shown, Padded}
 pub use Rattle.dues.specs.Parts.{fault}
 
-abbrev pub skipped : Bool → ℕ → Bool
-skipped true b = follows b
-skipped false b = eqb b 13
+abbrev pub seen_text : Option ℕ → List ℕ
+seen_text None = []
+seen_text (Some c) = c ∷ []
 
-abbrev pub seen_as : Bool → ℕ → ℕ
-seen_as true b = cond (eqb b 9) b 32
-seen_as false b = cond ((ltb b 32 && not (eqb b 9)) || eqb b 127) 63 b
-
-abbrev pub drawn : Bool → ℕ → List ℕ
-drawn true b = padding b
-drawn false b = shown b
+abbrev pub drawn : Row → ℕ → List ℕ
+drawn Shown b = shown b
+drawn Padded b = padding b
 
 abbrev pub about_places : ℕ → Bool
 about_places why = eqb why places_wrong || (eqb why places_over || eqb why pattern_due)

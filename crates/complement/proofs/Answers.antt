@@ -9,33 +9,36 @@ use Rattle.signature.proofs.Answers.{vocabulary_refusal_of}
 use Rattle.reader.specs.declared.refusal.TermRefusal.TheVariants as T
 use Rattle.reader.proofs.Answers.{term_refusal_of}
 use Rattle.complement.specs.Answers.{list_numbers, ListAnswersDiffer}
-use Rattle.complement.specs.declared.ListAnswer.{ListAnswer}
-use Rattle.complement.specs.declared.ListAnswer.TheVariants.{Listed, Vocabulary, Pattern, Repeated, NoRoom}
+use Rattle.std.specs.Prelude.{Result, Ok, Err}
+use Rattle.sizes.specs.declared.Size.{Size}
+use Rattle.complement.specs.declared.ListRefusal.{ListRefusal}
+use Rattle.complement.specs.declared.ListRefusal.TheVariants.{Vocabulary, Pattern, Repeated, NoRoom}
 
-abbrev list_answer_of : Reply → ListAnswer
-list_answer_of (accepted l) = Listed (get_or l 0 0) (get_or l 1 0)
+abbrev list_answer_of : Reply → Result Size ListRefusal
+list_answer_of (accepted l) = Ok (record { entries = get_or l 0 0; bytes = get_or l 1 0 })
 list_answer_of (refused n i q) =
-    cond (ltb n 7) (Vocabulary (vocabulary_refusal_of n q))
-    (cond (ltb n 16) (Pattern (term_refusal_of n q)) (cond (eqb n 18) (Repeated q) (NoRoom q)))
+    Err
+    (cond (ltb n 7) (Vocabulary (vocabulary_refusal_of n q))
+    (cond (ltb n 16) (Pattern (term_refusal_of n q)) (cond (eqb n 18) (Repeated q) (NoRoom q))))
 
-list_back : (a : ListAnswer) → list_answer_of (list_numbers a) ≡ a
-list_back (Listed n m) = refl
-list_back (Vocabulary Head) = refl
-list_back (Vocabulary WordCount) = refl
-list_back (Vocabulary (Ends q)) = refl
-list_back (Vocabulary (NoSuchKind q)) = refl
-list_back (Vocabulary (Continues q)) = refl
-list_back (Pattern T.Size) = refl
-list_back (Pattern T.NoSuchKind) = refl
-list_back (Pattern (T.Ends q)) = refl
-list_back (Pattern (T.TooDeep q)) = refl
-list_back (Pattern (T.NoWordOrName q)) = refl
-list_back (Pattern (T.WrongKind q)) = refl
-list_back (Pattern (T.Clashes q)) = refl
-list_back (Pattern (T.StrayBit q)) = refl
-list_back (Pattern (T.Continues q)) = refl
-list_back (Repeated q) = refl
-list_back (NoRoom m) = refl
+list_back : (a : Result Size ListRefusal) → list_answer_of (list_numbers a) ≡ a
+list_back (Ok size) = refl
+list_back (Err (Vocabulary Head)) = refl
+list_back (Err (Vocabulary WordCount)) = refl
+list_back (Err (Vocabulary (Ends q))) = refl
+list_back (Err (Vocabulary (NoSuchKind q))) = refl
+list_back (Err (Vocabulary (Continues q))) = refl
+list_back (Err (Pattern T.Size)) = refl
+list_back (Err (Pattern T.NoSuchKind)) = refl
+list_back (Err (Pattern (T.Ends q))) = refl
+list_back (Err (Pattern (T.TooDeep q))) = refl
+list_back (Err (Pattern (T.NoWordOrName q))) = refl
+list_back (Err (Pattern (T.WrongKind q))) = refl
+list_back (Err (Pattern (T.Clashes q))) = refl
+list_back (Err (Pattern (T.StrayBit q))) = refl
+list_back (Err (Pattern (T.Continues q))) = refl
+list_back (Err (Repeated q)) = refl
+list_back (Err (NoRoom m)) = refl
 
 pub list_answers_differ : ListAnswersDiffer
 list_answers_differ a b e = sym (list_back a) ∙ ap list_answer_of e ∙ list_back b

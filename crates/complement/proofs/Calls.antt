@@ -26,40 +26,47 @@ use Rattle.wire.proofs.Leftovers.{list-keeps}
 use Rattle.wire.proofs.Settling.{settled-count}
 use Rattle.wire.proofs.VocabulariesInverse.{vocabularies_inverse}
 use Rattle.repeats.specs.FirstRepeat.{first_repeat, repeat_of}
-use Rattle.repeats.specs.declared.Repeat.{Repeat}
-use Rattle.repeats.specs.declared.Repeat.TheVariants.{At, Nothing}
 use Rattle.repeats.proofs.Passing.{pattern_repeats}
 use Rattle.signature.specs.Answers.{vocabulary_refused}
 use Rattle.signature.specs.Tables.{accepted_in, vocabulary_in}
-use Rattle.signature.specs.declared.Missing.{Missing}
-use Rattle.signature.specs.declared.VocabularyRefusal.{VocabularyRefusal}
-use Rattle.reader.specs.Answers.{term_refused}
+use Rattle.std.specs.Prelude.{Option, Some, None}
+use Rattle.std.specs.Prelude.{Result, Ok, Err, IsErrAnd}
+use Rattle.reader.specs.Answers.{term_refused, check_refused}
+use Rattle.reader.specs.declared.CheckRefusal.{CheckRefusal}
+use Rattle.reader.specs.declared.CheckRefusal.TheVariants as C
 use Rattle.reader.specs.Loaded.{without_values, SettledTable}
-use Rattle.reader.specs.declared.refusal.TermRefusal.{TermRefusal}
 use Rattle.reader.proofs.Refused.{Refuses, vocabulary-refuses, term-refuses}
+use Rattle.sizes.specs.declared.Size.{Size}
+use Rattle.complement.specs.Answers.{refusal_of, list_numbers}
 use Rattle.complement.specs.Sifting.{SettledPattern, left_of, left_bytes, ListsPattern}
+use Rattle.complement.specs.declared.ListRefusal.{ListRefusal}
+
+-- A refusal that is passed on.
+pub passed_on : (r : Result Size ListRefusal) (why : CheckRefusal) → IsErrAnd r (λ e. e ≡ refusal_of why) → r ≡ Err (refusal_of why)
+passed_on (Ok size) why h = absurd h
+passed_on (Err e) why h = ap Err h
 
 -- ---- a name that stands twice
 
-module _ {p : List ℕ} {words : ℕ} {table : List ℕ} {k : Missing} (h : SettledPattern p words table k) (before : List ℕ) where
-  repeats : (r : Repeat) → repeat_of r ≡ first_repeat words p → repeat_of r ≡ repeated_in [] (sightings h.vocabulary h.term)
+module _ {p : List ℕ} {words : ℕ} {table : List ℕ} {k : Option ℕ} (h : SettledPattern p words table k) (before : List ℕ) where
+  repeats : (r : Option ℕ) → repeat_of r ≡ first_repeat words p → repeat_of r ≡ repeated_in [] (sightings h.vocabulary h.term)
   repeats r e =
       e
       ∙ ap₂ first_repeat (h.settled.tabled.words ∙ settled-count h.vocabulary) h.held.written
       ∙ pattern_repeats h.vocabulary h.in_order h.kind h.term h.held.good
 
-  judged : (r : Repeat) → repeat_of r ≡ first_repeat words p →
+  judged : (r : Option ℕ) → repeat_of r ≡ first_repeat words p →
       listed_pattern h.vocabulary before (linear_in h.vocabulary (accept (kinded h.kind h.term)))
       ≡ listed_pattern h.vocabulary before (linear_of (kinded h.kind h.term) (repeat_of r))
   judged r e = ap (λ o. listed_pattern h.vocabulary before (linear_of (kinded h.kind h.term) o)) (sym (repeats r e))
 
-  pub pattern_repeated : (r : Repeat) → repeat_of r ≡ first_repeat words p → (q : ℕ) → r ≡ At q →
+  pub pattern_repeated : (r : Option ℕ) → repeat_of r ≡ first_repeat words p → (q : ℕ) → r ≡ Some q →
       HasEffect (listed_pattern h.vocabulary before (linear_in h.vocabulary (accept (kinded h.kind h.term)))) (refused 18 1 q) before
   pattern_repeated r e q f =
       let g = judged r e ∙ ap (λ r. listed_pattern h.vocabulary before (linear_of (kinded h.kind h.term) (repeat_of r))) f in
       record { reply = sym (ap (λ (l : Effect). l.reply) g); after = sym (ap (λ (l : Effect). l.after) g) }
 
-  pub pattern-linear : (r : Repeat) → repeat_of r ≡ first_repeat words p → r ≡ Nothing → {reply : Reply} {after : List ℕ} →
+  pub pattern-linear : (r : Option ℕ) → repeat_of r ≡ first_repeat words p → r ≡ None → {reply : Reply} {after : List ℕ} →
       HasEffect (listed_into before (length (left_of h)) (left_bytes h)) reply after →
       HasEffect (listed_pattern h.vocabulary before (linear_in h.vocabulary (accept (kinded h.kind h.term)))) reply after
   pattern-linear r e f {reply} {after} s =
@@ -101,11 +108,10 @@ module _ (v p before : List ℕ) (vocabularyBytes : (i : ℕ) → get_or v i 0 <
     s,
   )
 
-  pub list-vocabulary : (why : VocabularyRefusal) → vocabulary_refused why ≡ without_values (term_reply v p) → Ensured (vocabulary_refused why) before
-  list-vocabulary why e = promised (refused-listed v p before (vocabulary_refused why) (vocabulary-refuses why) e)
-
-  pub list-term : (why : TermRefusal) → term_refused 1 why ≡ without_values (term_reply v p) → Ensured (term_refused 1 why) before
-  list-term why e = promised (refused-listed v p before (term_refused 1 why) (term-refuses 1 0 why) e)
+  -- The check of the pattern refuses.
+  pub list-refused : (why : CheckRefusal) → check_refused why ≡ without_values (term_reply v p) → Ensured (list_numbers (Err (refusal_of why))) before
+  list-refused (C.Vocabulary why) e = promised (refused-listed v p before (vocabulary_refused why) (vocabulary-refuses why) e)
+  list-refused (C.Term why) e = promised (refused-listed v p before (term_refused 1 why) (term-refuses 1 0 why) e)
 
   -- Both are accepted.
   module _ (e : accepted [] ≡ without_values (term_reply v p)) where
@@ -139,7 +145,7 @@ module _ (v p before : List ℕ) (vocabularyBytes : (i : ℕ) → get_or v i 0 <
     pub some_bytes : 2 ≤ length v
     some_bytes = let e = ap length held.written in omega arith
 
-    module _ {words : ℕ} {table : List ℕ} {k : Missing} (counted : words ≡ byte_at v 1) (settles : SettledTable v table k) where
+    module _ {words : ℕ} {table : List ℕ} {k : Option ℕ} (counted : words ≡ byte_at v 1) (settles : SettledTable v table k) where
       pub patterned : SettledPattern p words table k
       patterned =
           let in_order = held.in_order in

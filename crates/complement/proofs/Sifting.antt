@@ -33,15 +33,15 @@ use Rattle.wire.proofs.Cond.{cond_false}
 use Rattle.wire.proofs.Settling.{settled-count, settled-in_order, settled-entries, settled-holds, fruitful-leftovers}
 use Rattle.wire.proofs.Words.{in_order_well_formed}
 use Rattle.signature.specs.Settled.{found_kind}
-use Rattle.signature.specs.declared.Missing.{Missing}
-use Rattle.signature.specs.declared.Missing.TheVariants.{Kind, Nothing}
+use Rattle.std.specs.Prelude.{Option}
+use Rattle.std.specs.Prelude.{Some, None}
 use Rattle.productive.specs.Tests.{fruitful_in, inhabited_in}
 use Rattle.productive.proofs.Tabled.{fruitful-test, inhabited-test}
 use Rattle.complement.specs.Calls.{Patterned, ListsLinear}
 use Rattle.complement.specs.Sifting.{SettledPattern, MissingKind, whole_only, ListsWhole, left_of, left_bytes, ListsSettled}
 use Rattle.complement.proofs.Linear.{shows_no_room, shows_written}
 
-module _ {p : List ℕ} {words : ℕ} {table : List ℕ} {k : Missing} (h : SettledPattern p words table k) where
+module _ {p : List ℕ} {words : ℕ} {table : List ℕ} {k : Option ℕ} (h : SettledPattern p words table k) where
   abbrev W : Vocabulary
   W = h.vocabulary
 
@@ -79,7 +79,7 @@ module _ {p : List ℕ} {words : ℕ} {table : List ℕ} {k : Missing} (h : Sett
       ∙ ap (listed_into before (length (left_of h))) (settled-entries W (left_of h)))
       (l (fruitful_patterned e))
 
-  pub none_missing : k ≡ Nothing → Fruitful true
+  pub none_missing : k ≡ None → Fruitful true
   none_missing e =
       let wf = in_order_well_formed W h.in_order in
       all-fruitful S wf ((emptiness_is_exact S wf).missed.0 (sym h.settled.found ∙ ap found_kind e)) t s h.held.good.sorted.sorted
@@ -111,7 +111,7 @@ module _ {p : List ℕ} {words : ℕ} {table : List ℕ} {k : Missing} (h : Sett
 
 -- ---- the lowest kind without complete situations is known
 
-module _ {p : List ℕ} {words : ℕ} {table : List ℕ} {k : Missing} {e : ℕ} (known : k ≡ Kind e) where
+module _ {p : List ℕ} {words : ℕ} {table : List ℕ} {k : Option ℕ} {e : ℕ} (known : k ≡ Some e) where
   pub kind_missing : SettledPattern p words table k → MissingKind p words table e
   kind_missing = subst (SettledPattern p words table) known
 

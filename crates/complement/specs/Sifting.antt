@@ -21,10 +21,10 @@ use Rattle.wire.specs.TermBytes.{whole_byte, HoldsTerm}
 use Rattle.wire.specs.Leftovers.{entries_bytes}
 use Rattle.wire.specs.ListComputed.{linear_in, leftovers_of, listed_into, listed_pattern}
 use Rattle.signature.specs.Settled.{SettledOf}
-use Rattle.signature.specs.declared.Missing.{Missing}
-use Rattle.signature.specs.declared.Missing.TheVariants.{Kind}
+use Rattle.std.specs.Prelude.{Option}
+use Rattle.std.specs.Prelude.{Some}
 
-pub record SettledPattern (p : List ℕ) (words : ℕ) (table : List ℕ) (k : Missing) : Type 0 where
+pub record SettledPattern (p : List ℕ) (words : ℕ) (table : List ℕ) (k : Option ℕ) : Type 0 where
   pub vocabulary : Vocabulary
   pub kind : ℕ
   pub term : Term
@@ -33,7 +33,7 @@ pub record SettledPattern (p : List ℕ) (words : ℕ) (table : List ℕ) (k : M
   pub held : HoldsTerm vocabulary p kind term
 
 abbrev pub MissingKind : List ℕ → ℕ → List ℕ → ℕ → Type 0
-MissingKind p words table e = SettledPattern p words table (Kind e)
+MissingKind p words table e = SettledPattern p words table (Some e)
 
 abbrev pub whole_only : ℕ → Bool → List ℕ
 whole_only kind true = kind ∷ whole_byte ∷ []
@@ -42,17 +42,17 @@ whole_only kind false = []
 abbrev pub ListsWhole : ℕ → Bool → List ℕ → List ℕ → Reply → Type 0
 ListsWhole kind some before after r = HasEffect (listed_into before (bit some) (whole_only kind some)) r after
 
-abbrev pub left_of : {p : List ℕ} {words : ℕ} {table : List ℕ} {k : Missing} → SettledPattern p words table k → List Kinded
+abbrev pub left_of : {p : List ℕ} {words : ℕ} {table : List ℕ} {k : Option ℕ} → SettledPattern p words table k → List Kinded
 left_of h = leftovers_of h.vocabulary h.kind h.term
 
-abbrev pub left_bytes : {p : List ℕ} {words : ℕ} {table : List ℕ} {k : Missing} → SettledPattern p words table k → List ℕ
+abbrev pub left_bytes : {p : List ℕ} {words : ℕ} {table : List ℕ} {k : Option ℕ} → SettledPattern p words table k → List ℕ
 left_bytes h = entries_bytes h.vocabulary (left_of h)
 
 abbrev pub ListsSettled : List ℕ → ℕ → List ℕ → ℕ → List ℕ → List ℕ → Reply → Type 0
 ListsSettled p words table e before after r =
     (h : MissingKind p words table e) → HasEffect (listed_into before (length (left_of h)) (left_bytes h)) r after
 
-abbrev pub ListsPattern : List ℕ → ℕ → List ℕ → Missing → List ℕ → List ℕ → Reply → Type 0
+abbrev pub ListsPattern : List ℕ → ℕ → List ℕ → Option ℕ → List ℕ → List ℕ → Reply → Type 0
 ListsPattern p words table k before after r =
     (h : SettledPattern p words table k) →
     HasEffect (listed_pattern h.vocabulary before (linear_in h.vocabulary (accept (kinded h.kind h.term)))) r after

@@ -7,29 +7,33 @@ ghost use Rattle.wire.specs.Leftovers.{ListPromise};
 ghost use Rattle.wire.specs.Effect.{HasEffect};
 ghost use Rattle.wire.specs.ListComputed.{listed};
 ghost use Rattle.kinds.specs.Kinds.{kind_in};
-ghost use Rattle.complement.specs.Answers.{list_numbers};
+ghost use Rattle.complement.specs.Answers.{refusal_of, list_numbers};
 ghost use Rattle.complement.specs.Calls.{Patterned, HasRoom, WritesEntries, ListsLinear};
 ghost use Rattle.complement.specs.Sifting.{SettledPattern, MissingKind, ListsWhole, ListsSettled, ListsPattern};
 ghost use Rattle.complement.specs.Entering.{Byte, OthersAt, ListsOthers, TermAt, ListsTerm, PlacesAt, ListsPlaces};
 
-use reader::{PatternAnswer, TermRefusal};
-use repeats::Repeat;
-use signature::{Missing, VocabularyRefusal};
+use reader::{CheckRefusal, TermRefusal};
+use signature::VocabularyRefusal;
+use sizes::Size;
 
-// The number of entries and of bytes, or why there is no listing: document 01, lines 1 to 5 and 7 to 15, 18 and 20.
-#[derive(Drop)]
-pub enum ListAnswer {
-    Listed(usize, usize),
+// Why there is no listing: document 01, lines 1 to 5 and 7 to 15, 18 and 20.
+#[derive(Clone, Copy)]
+pub enum ListRefusal {
     Vocabulary(VocabularyRefusal),
     Pattern(TermRefusal),
     Repeated(usize),
     NoRoom(usize),
 }
 
-fn wide(b: u8) -> usize
-    ensures { Byte b result }
-{
-    b as usize
+impl From<CheckRefusal> for ListRefusal {
+    ghost from_gives = { λ why r. r ≡ refusal_of why };
+
+    fn from(why: CheckRefusal) -> ListRefusal {
+        match why {
+            CheckRefusal::Vocabulary(why) => ListRefusal::Vocabulary(why),
+            CheckRefusal::Term(why) => ListRefusal::Pattern(why),
+        }
+    }
 }
 
 // The lowest bits of a map, up to bit b.
@@ -37,7 +41,7 @@ fn kept(map: u8, b: usize) -> u8
     requires { b < map_bits }
     ensures { result ≡ map % 2 ^ suc b }
 {
-    (wide(map) % (2usize << b)) as u8
+    (map as usize % (2usize << b)) as u8
 }
 
 // Writes the first n bytes of the copy, a word's number and an empty map.
@@ -57,12 +61,14 @@ fn lowest(f: usize, results: &[u8; 96], chains: &[u8; 112]) -> usize
     requires { f < 96 }
     ensures { Byte (get_or chains.now (96 + kind_in results.now f) 0) result }
 {
-    let kind = wide(results[f]) % 16;
-    wide(chains[96 + kind])
+    let kind = results[f] as usize % 16;
+    chains[96 + kind] as usize
 }
 
 // An entry for every other word of the result kind of f, from its lowest word on, each into the rest of the lent slice behind
 // the one before it.
+// Kept: `others::write_others` tests the room for each entry and writes a tail; here all are measured before, so one for both would
+// take a test and a tail that stand empty here.
 fn write_others(
     copy: &[u8],
     at: usize,
@@ -75,10 +81,11 @@ fn write_others(
     ensures { ListsOthers copy.now at f first chains.now out.old result out.new }
 {
     let mut n = 0;
+    // Kept: the words of a kind are a chain in the table, so the next one is read there and not counted.
     let mut h = first;
     while h < 96 {
         let g = h;
-        h = wide(chains[g]);
+        h = chains[g] as usize;
         if g != f {
             write_entry(copy, at, g as u8, &mut out[n..]);
             n = n + at + maps::NODE;
@@ -117,7 +124,7 @@ fn list_term(
         };
     }
     let map = maps::read(copy, at + 1);
-    let f = wide(first);
+    let f = first as usize;
     let n = write_others(copy, at, f, lowest(f, results, chains), chains, out);
     let below = list_places(copy, at, map, chains, results, left, &mut out[n..]);
     let end = below.at;
@@ -127,6 +134,7 @@ fn list_term(
 
 // The listing of the terms of a word's written bits, the lowest first, each into the rest of the lent slice behind
 // the one before it. The word's map keeps only the bits up to each term in turn; at the highest it is the pattern's again.
+// Kept: the walk ends at the highest bit and carries two offsets, so a `for` over the eight places would be no plainer.
 #[cycle(list_places_list_term)]
 fn list_places(
     copy: &mut [u8],
@@ -143,17 +151,17 @@ fn list_places(
     let mut n = 0;
     let mut next = at + maps::NODE;
     let mut b = 0;
-    let mut bits = wide(map);
+    let mut bits = map as usize;
     while bits != 0 {
         let place = b;
         let bit = bits % 2;
         b += 1;
-        bits = bits / 2;
+        bits /= 2;
         if bit == 1 {
             maps::write(kept(map, place), copy, at + 1);
             let here = list_term(copy, next, chains, results, left - 1, &mut out[n..]);
             next = here.at;
-            n = n + here.written;
+            n += here.written;
         }
     }
     Progress {
@@ -191,35 +199,44 @@ fn list_copied(pattern: &[u8], words: usize, results: &[u8; 96], out: &mut [u8])
 }
 
 // The listing of a pattern that is accepted and in which no name stands twice.
-fn list_linear(pattern: &[u8], words: usize, results: &[u8; 96], out: &mut [u8]) -> ListAnswer
+fn list_linear(
+    pattern: &[u8],
+    words: usize,
+    results: &[u8; 96],
+    out: &mut [u8],
+) -> Result<Size, ListRefusal>
     requires { Patterned pattern.now words results.now }
     ensures { ListsLinear pattern.now words results.now out.old out.new (list_numbers result) }
 {
     let size = sizes::measure(pattern, words, results);
-    let entries = size.entries;
-    let bytes = size.bytes;
-    if out.len() < bytes {
-        return ListAnswer::NoRoom(bytes);
+    if out.len() < size.bytes {
+        return Err(ListRefusal::NoRoom(size.bytes));
     }
-    if bytes != 0 {
+    if size.bytes != 0 {
         list_copied(pattern, words, results, out);
     }
-    ListAnswer::Listed(entries, bytes)
+    Ok(size)
 }
 
 // The listing of a pattern that no complete situation fits: 255 of its kind, or no entry where the kind has no situation.
-fn list_whole(kind: u8, some: bool, out: &mut [u8]) -> ListAnswer
+fn list_whole(kind: u8, some: bool, out: &mut [u8]) -> Result<Size, ListRefusal>
     ensures { ListsWhole kind some out.old out.new (list_numbers result) }
 {
     if !some {
-        return ListAnswer::Listed(0, 0);
+        return Ok(Size {
+            entries: 0,
+            bytes: 0,
+        });
     }
     if out.len() < 2 {
-        return ListAnswer::NoRoom(2);
+        return Err(ListRefusal::NoRoom(2));
     }
     out[0] = kind;
     out[1] = 255;
-    ListAnswer::Listed(1, 2)
+    Ok(Size {
+        entries: 1,
+        bytes: 2,
+    })
 }
 
 // The listing of a pattern that is accepted and in which no name stands twice, where `empty` is the lowest kind without
@@ -230,7 +247,7 @@ fn list_settled(
     settled: &[u8; 96],
     empty: usize,
     out: &mut [u8],
-) -> ListAnswer
+) -> Result<Size, ListRefusal>
     requires { MissingKind pattern.now words settled.now empty }
     ensures { ListsSettled pattern.now words settled.now empty out.old out.new (list_numbers result) }
 {
@@ -238,7 +255,7 @@ fn list_settled(
         return list_linear(pattern, words, settled, out);
     }
     let kind = pattern[0];
-    let some = productive::inhabited(wide(kind), words, settled, empty);
+    let some = productive::inhabited(kind as usize, words, settled, empty);
     list_whole(kind, some, out)
 }
 
@@ -247,37 +264,28 @@ fn list_pattern(
     pattern: &[u8],
     words: usize,
     settled: &[u8; 96],
-    missing: Missing,
+    missing: Option<usize>,
     out: &mut [u8],
-) -> ListAnswer
+) -> Result<Size, ListRefusal>
     requires { SettledPattern pattern.now words settled.now missing }
     ensures { ListsPattern pattern.now words settled.now missing out.old out.new (list_numbers result) }
 {
     match repeats::first_repeat(pattern, words) {
-        Repeat::At(q) => ListAnswer::Repeated(q),
-        Repeat::Nothing => match missing {
-            Missing::Nothing => list_linear(pattern, words, settled, out),
-            Missing::Kind(empty) => list_settled(pattern, words, settled, empty, out),
+        Some(q) => Err(ListRefusal::Repeated(q)),
+        None => match missing {
+            None => list_linear(pattern, words, settled, out),
+            Some(empty) => list_settled(pattern, words, settled, empty, out),
         },
     }
 }
 
 // Writes the leftovers of a pattern into the lent slice, one directly behind the other, and says how many entries and bytes
 // they are. A refusal leaves the slice as it was.
-pub fn list(vocabulary: &[u8], pattern: &[u8], out: &mut [u8]) -> ListAnswer
+pub fn list(vocabulary: &[u8], pattern: &[u8], out: &mut [u8]) -> Result<Size, ListRefusal>
     ensures list_promise { ListPromise vocabulary.now pattern.now out.old out.new (list_numbers result) }
     ensures has_effect { HasEffect (listed vocabulary.now pattern.now out.old) (list_numbers result) out.new }
 {
     let mut settled = [0u8; 96];
-    match reader::load_pattern(vocabulary, pattern, &mut settled) {
-        PatternAnswer::Vocabulary(why) => ListAnswer::Vocabulary(why),
-        PatternAnswer::Pattern(why) => ListAnswer::Pattern(why),
-        PatternAnswer::Loaded(missing) => list_pattern(
-            pattern,
-            wide(vocabulary[1]),
-            &settled,
-            missing,
-            out,
-        ),
-    }
+    let missing = reader::load_pattern(vocabulary, pattern, &mut settled)?;
+    list_pattern(pattern, vocabulary[1] as usize, &settled, missing, out)
 }

@@ -1,7 +1,7 @@
 // Where the reading of a term stands: a cursor by value, whose methods take it and give it back.
 #![tactic(auto)]
 
-ghost use Rattle.std.specs.Prelude.{◌≡◌, ◌+◌, ◌-◌, ◌<◌, max, true};
+ghost use Rattle.std.specs.Prelude.{◌≡◌, ◌+◌, ◌<◌, true};
 ghost use Rattle.cursors.specs.Cursors.{gaps_after, gaps_short, complete_in, gap_shown, short_in, started, past_leaf, past_word, went_down, went_up, at_frame};
 
 // The offset of the next byte, the words so far, the deepest level that was due so far, the first gap, below how many words the
@@ -17,31 +17,12 @@ pub struct Cursor {
     pub due: u64,
 }
 
-fn most(a: usize, b: usize) -> usize
-    ensures { result ≡ max a b }
-{
-    if a < b { b } else { a }
-}
-
-// A sum that fits. No input is so long that one does not.
-fn sum(a: usize, b: usize) -> usize
-    ensures { a + b < 18446744073709551616 → result ≡ a + b }
-{
-    std::num::wrapping_add_usize(a, b)
-}
-
-fn less(n: usize) -> usize
-    ensures { result ≡ n - 1 }
-{
-    if n == 0 { 0 } else { n - 1 }
-}
-
-// The gaps behind one more at an offset, which is the first if all was complete before it.
+// The gaps behind one more at an offset, which is the first if all was complete before it. No input is so long that a sum does
+// not fit.
 fn gaps_after(gaps: usize, at: usize) -> usize
     ensures { at + at < 18446744073709551616 → result ≡ gaps_after gaps at }
 {
-    let twice = sum(at, at);
-    if gaps < twice { gaps } else { twice }
+    gaps.min(at.wrapping_add(at))
 }
 
 // The same behind a short map.
@@ -59,7 +40,7 @@ pub fn start(at: usize) -> Cursor
         at,
         words: 0,
         deepest: 1,
-        gaps: 18446744073709551615,
+        gaps: usize::MAX,
         depth: 0,
         due: 0,
     }
@@ -71,12 +52,9 @@ impl Cursor {
         ensures { self.at + self.at < 18446744073709551616 → self.at + 1 < 18446744073709551616 → result ≡ past_leaf self }
     {
         Cursor {
-            at: sum(self.at, 1),
-            words: self.words,
-            deepest: self.deepest,
+            at: self.at.wrapping_add(1),
             gaps: gaps_after(self.gaps, self.at),
-            depth: self.depth,
-            due: self.due,
+            ..self
         }
     }
 
@@ -85,12 +63,9 @@ impl Cursor {
         ensures { self.at + 2 < 18446744073709551616 → self.words + 1 < 18446744073709551616 → result ≡ past_word true self }
     {
         Cursor {
-            at: sum(self.at, maps::NODE),
-            words: sum(self.words, 1),
-            deepest: self.deepest,
-            gaps: self.gaps,
-            depth: self.depth,
-            due: self.due,
+            at: self.at.wrapping_add(maps::NODE),
+            words: self.words.wrapping_add(1),
+            ..self
         }
     }
 
@@ -102,12 +77,10 @@ impl Cursor {
             return self.whole_word();
         }
         Cursor {
-            at: sum(self.at, maps::NODE),
-            words: sum(self.words, 1),
-            deepest: self.deepest,
-            gaps: gaps_short(self.gaps, sum(self.at, 1)),
-            depth: self.depth,
-            due: self.due,
+            at: self.at.wrapping_add(maps::NODE),
+            words: self.words.wrapping_add(1),
+            gaps: gaps_short(self.gaps, self.at.wrapping_add(1)),
+            ..self
         }
     }
 
@@ -116,12 +89,10 @@ impl Cursor {
         ensures { self.depth + 2 < 18446744073709551616 → result ≡ went_down due self }
     {
         Cursor {
-            at: self.at,
-            words: self.words,
-            deepest: most(self.deepest, sum(self.depth, 2)),
-            gaps: self.gaps,
-            depth: sum(self.depth, 1),
+            deepest: self.deepest.max(self.depth.wrapping_add(2)),
+            depth: self.depth.wrapping_add(1),
             due,
+            ..self
         }
     }
 
@@ -130,12 +101,9 @@ impl Cursor {
         ensures { result ≡ went_up due self }
     {
         Cursor {
-            at: self.at,
-            words: self.words,
-            deepest: self.deepest,
-            gaps: self.gaps,
-            depth: less(self.depth),
+            depth: self.depth.saturating_sub(1),
             due,
+            ..self
         }
     }
 
@@ -143,28 +111,21 @@ impl Cursor {
     pub fn onto(self, due: u64) -> Cursor
         ensures { result ≡ at_frame due self }
     {
-        Cursor {
-            at: self.at,
-            words: self.words,
-            deepest: self.deepest,
-            gaps: self.gaps,
-            depth: self.depth,
-            due,
-        }
+        Cursor { due, ..self }
     }
 
     // Whether the term is complete so far.
     pub fn complete(self) -> bool
         ensures { result ≡ complete_in self }
     {
-        self.gaps == 18446744073709551615
+        self.gaps == usize::MAX
     }
 
     // The first gap so far, which is the cursor's own offset while there is none.
     pub fn gap(self) -> usize
         ensures { result ≡ gap_shown self }
     {
-        if self.gaps == 18446744073709551615 {
+        if self.gaps == usize::MAX {
             return self.at;
         }
         self.gaps / 2
@@ -174,9 +135,6 @@ impl Cursor {
     pub fn short(self) -> bool
         ensures { result ≡ short_in self }
     {
-        if self.gaps == 18446744073709551615 {
-            return false;
-        }
-        self.gaps % 2 == 1
+        self.gaps != usize::MAX && self.gaps % 2 == 1
     }
 }

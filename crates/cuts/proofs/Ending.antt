@@ -15,8 +15,8 @@ use lib.Seq.{drop_at, drop-drop}
 use Rattle.others.specs.Listed.{FitBehind, Listed}
 use Rattle.others.proofs.Entries.{fits-first, fits_second, listed-both, listed-end, listed-length}
 use Rattle.cuts.specs.declared.own.Walk.{Walk}
-use Rattle.cuts.specs.declared.own.Step.{Step}
-use Rattle.cuts.specs.declared.own.Step.TheVariants.{Went, Full}
+use Rattle.std.specs.Prelude.{Ok, Err}
+use Rattle.cuts.specs.Walking.{Step}
 use Rattle.cuts.specs.Cutting.{From, Finished, CutEnds}
 
 pub none_of : (l : List (List ℕ)) → length l ≡ 0 → l ≡ []
@@ -26,7 +26,7 @@ none_of (x ∷ l) e = absurd (omega arith)
 pub ends_on : (x y : List (List ℕ)) (later : ℕ) {bytes bytes' : List ℕ} → bytes' ≡ bytes → {i i' : ℕ} → i' ≡ i → {q q' : ℕ} → q' ≡ q →
     {n k : ℕ} {before mid : List ℕ} → Listed x n k before mid → (copied after : List ℕ) (r : Step) → CutEnds y bytes' i' q' later k mid copied after r →
     CutEnds (x ++ y) bytes i q later n before copied after r
-ends_on x y later b i q l copied after (Went w) f = record {
+ends_on x y later b i q l copied after (Ok w) f = record {
   listed = listed-both l f.listed;
   todo = f.todo;
   passed =
@@ -34,7 +34,7 @@ ends_on x y later b i q l copied after (Went w) f = record {
       let g = f.passed p in
       record { at = g.at ∙ ap length b; stands = g.stands ∙ b; entry = g.entry ∙ i; pattern = g.pattern ∙ q };
 }
-ends_on x y later b i q {before = before} l copied after Full f =
+ends_on x y later b i q {before = before} l copied after (Err e) f =
     λ fits.
     f (subst (FitBehind y _) (sym (listed-length l)) (subst (λ m. FitBehind y m (length before)) (sym (listed-end l)) (fits_second x y fits)))
 

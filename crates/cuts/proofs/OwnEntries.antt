@@ -17,14 +17,14 @@ use Rattle.kinds.specs.Kinds.{others_in}
 use Rattle.kinds.proofs.Others.{others-tabled}
 use Rattle.extents.specs.Extents.{most_extent}
 use Rattle.slices.proofs.Writing.{part, part_length}
-use Rattle.others.specs.declared.Others.{Others}
-use Rattle.others.specs.declared.Others.TheVariants.{Bytes, Full}
+use Rattle.std.specs.Prelude.{Result, Ok, Err}
+use Rattle.others.specs.declared.Filled.{Filled}
+use Rattle.others.specs.declared.Full.{Full}
 use Rattle.others.specs.Listed.{Listed}
 use Rattle.others.specs.Others.{entry_of, others_of, LengthsAgree, SiblingsAt, OthersCut, BytesInside}
 use Rattle.others.proofs.Entries.{listed_none}
 use Rattle.cuts.specs.declared.own.Walk.{Walk}
-use Rattle.cuts.specs.declared.own.Step.{Step}
-use Rattle.cuts.specs.Walking.{passed, Moves}
+use Rattle.cuts.specs.Walking.{Step, passed, Moves}
 use Rattle.cuts.specs.Own.{own, behind_of, OpenAt, OwnEnds}
 
 pub own_reach : (i : ℕ) (entry : List ℕ) {top copied n out : ℕ} → top ≤ copied → copied ≤ most_extent → length entry ≤ most_extent → n ≤ out →
@@ -65,27 +65,27 @@ module _ {copy : List ℕ} {top : ℕ} {blank : Bool} {tail : List ℕ} {f : ℕ
   none : blank ≡ false → entries ≡ []
   none e = ap (λ b. own b W f (take top copy) tail) e
 
-  pub own_none : (before : List ℕ) → w.written ≤ length before → blank ≡ false → OthersCut entries o.later w.written before before (Bytes w.written w.todo)
+  pub own_none : (before : List ℕ) → w.written ≤ length before → blank ≡ false → OthersCut entries o.later w.written before before (Ok (record { bytes = w.written; due = w.todo }))
   own_none before s e = record {
     listed = subst (λ ls. Listed ls w.written w.written before before) (sym (none e)) (listed_none before s);
     due = omega (arith, o.due, ap length (none e));
   }
 
-  pub own-cut : (before after : List ℕ) (r : Others) → blank ≡ true → {tail' : List ℕ} → tail' ≡ tail →
+  pub own-cut : (before after : List ℕ) (r : Result Filled Full) → blank ≡ true → {tail' : List ℕ} → tail' ≡ tail →
       OthersCut (others_of (take top copy) tail' hs) o.later w.written before after r → OthersCut entries o.later w.written before after r
   own-cut before after r e same h = subst (λ ls. OthersCut ls o.later w.written before after r) (ap (λ t. others_of (take top copy) t hs) same ∙ sym (own_open e)) h
 
-  pub own-ends : (size : ℕ) (before after : List ℕ) (r : Others) {s : Step} → s ≡ behind_of w size r → OthersCut entries o.later w.written before after r →
+  pub own-ends : (size : ℕ) (before after : List ℕ) (r : Result Filled Full) {s : Step} → s ≡ behind_of w size r → OthersCut entries o.later w.written before after r →
       OwnEnds entries o.later w before after s
   own-ends size before after r told h = subst (OwnEnds entries o.later w before after) (sym told) (go r h)
     where
-      go : (r : Others) → OthersCut entries o.later w.written before after r → OwnEnds entries o.later w before after (behind_of w size r)
-      go (Bytes n todo) x = record { listed = x.listed; todo = x.due }
-      go Full x = x
+      go : (r : Result Filled Full) → OthersCut entries o.later w.written before after r → OwnEnds entries o.later w before after (behind_of w size r)
+      go (Ok f) x = record { listed = x.listed; todo = x.due }
+      go (Err e) x = x
 
-pub own_moves : (w : Walk) (size out : ℕ) (r : Others) {s : Step} → s ≡ behind_of w size r → BytesInside out r → Moves (passed w size) out s
+pub own_moves : (w : Walk) (size out : ℕ) (r : Result Filled Full) {s : Step} → s ≡ behind_of w size r → BytesInside out r → Moves (passed w size) out s
 own_moves w size out r told h = subst (Moves (passed w size) out) (sym told) (go r h)
   where
-    go : (r : Others) → BytesInside out r → Moves (passed w size) out (behind_of w size r)
-    go (Bytes n todo) x = record { at = refl; entry = refl; pattern = refl; written = x }
-    go Full x = tt
+    go : (r : Result Filled Full) → BytesInside out r → Moves (passed w size) out (behind_of w size r)
+    go (Ok f) x = record { at = refl; entry = refl; pattern = refl; written = x }
+    go (Err e) x = tt

@@ -33,8 +33,8 @@ use Rattle.others.specs.Listed.{FitBehind, Listed}
 use Rattle.others.proofs.Entries.{listed_none, listed-inside, listed-length}
 use Rattle.cuts.specs.declared.own.Walk.{Walk}
 use Rattle.cuts.specs.declared.walk.Bits.{Bits}
-use Rattle.cuts.specs.declared.own.Step.{Step}
-use Rattle.cuts.specs.declared.own.Step.TheVariants.{Went, Full}
+use Rattle.std.specs.Prelude.{Ok}
+use Rattle.cuts.specs.Walking.{Step, full}
 use Rattle.cuts.specs.Cutting.{From, Finished, CutEnds, PutsMap, Last, above_of, TermsAt, TermsEnd, CutsTerms, CutPlacesAt, PlacesEnd, CutsPlaces}
 use Rattle.cuts.proofs.Pairs.{both-short, placed, placed_below, Split, split, NoneLeft, none_left}
 use Rattle.cuts.proofs.Ending.{ends_on, ends_early, ends-full, from_on}
@@ -100,7 +100,7 @@ module _ {copy : List ℕ} {w : Walk} {bits : Bits} {entry pattern siblings : Li
   -- ---- no bit is left
 
   places_none : bits.entry + bits.pattern ≡ 0 → {copied : List ℕ} → PutsMap bits copy copied →
-      PlacesEnd h before copied before (Went w)
+      PlacesEnd h before copied before (Ok w)
   places_none z {copied} puts =
       let n : NoneLeft W h.b h.fs h.mine h.other = none_left W h.b h.fs h.mine h.other h.pairs (omega (arith, h.mine_bits, h.other_bits)) in
       let none : entries ≡ [] = n.cuts f bits.low body front h.tail in
@@ -218,21 +218,21 @@ module _ {copy : List ℕ} {w : Walk} {bits : Bits} {entry pattern siblings : Li
       CutsNext copied' mid r = CutsTerms copied w (eqb (bits.entry % 2) 0) entry (eqb (bits.pattern % 2) 0) pattern siblings left before copied' mid r
 
       -- The next entries do not fit.
-      pub places-full : (copied' mid : List ℕ) {r : Step} → r ≡ Full → CutsNext copied' mid r → PlacesEnd h before copied' mid Full
+      pub places-full : (copied' mid : List ℕ) {r : Step} → r ≡ full → CutsNext copied' mid r → PlacesEnd h before copied' mid full
       unfolding place-terms
       places-full copied' mid told cut =
           subst (λ ls. FitBehind ls w.written (length before) → ⊥) (sym split_entries)
           (ends-full here above (subst (λ r. TermsEnd place-terms before copied' mid r) told (cut place-terms)))
 
       -- They are written.
-      module _ (copied' mid : List ℕ) {r : Step} {next : Walk} (told : r ≡ Went next) (cut : CutsNext copied' mid r) where
+      module _ (copied' mid : List ℕ) {r : Step} {next : Walk} (told : r ≡ Ok next) (cut : CutsNext copied' mid r) where
         d : Finished here (here-front ++ encode_at W (both s.e s.p)) (w.entry + length (encode_at W s.e)) (w.pattern + length (encode_at W s.p))
             (length above + h.later) w.written before copied' mid next
         unfolding place-terms
         d = subst (λ r. TermsEnd place-terms before copied' mid r) told (cut place-terms)
 
         -- No entry is due any more.
-        pub places_early : next.todo ≡ 0 → PlacesEnd h before copied' mid (Went next)
+        pub places_early : next.todo ≡ 0 → PlacesEnd h before copied' mid (Ok next)
         places_early z =
             let i : ℕ = w.entry + length (encode_all W h.mine) in
             let q : ℕ = w.pattern + length (encode_all W h.other) in
@@ -324,9 +324,9 @@ module _ {copy : List ℕ} {w : Walk} {bits : Bits} {entry pattern siblings : Li
 
   -- No place is left: the next bit would be one of a map.
   pub places-last : {r : Bool} → Last bits.bit bits.entry bits.pattern r → r ≡ true → {copied : List ℕ} → PutsMap bits copy copied →
-      PlacesEnd h before copied before (Went w)
+      PlacesEnd h before copied before (Ok w)
   places-last t e {copied} puts = go (eqb (bits.entry + bits.pattern) 0) refl
     where
-      go : (b : Bool) → eqb (bits.entry + bits.pattern) 0 ≡ b → PlacesEnd h before copied before (Went w)
+      go : (b : Bool) → eqb (bits.entry + bits.pattern) 0 ≡ b → PlacesEnd h before copied before (Ok w)
       go true z = places_none (eqb-true (bits.entry + bits.pattern) 0 z) puts
       go false z = let some-bit = eqb-false (bits.entry + bits.pattern) 0 z in absurd (t.yes e some-bit (bit-small some-bit))

@@ -27,10 +27,9 @@ use Rattle.wire.proofs.AgainstCount.{cut_at-count}
 use Rattle.others.specs.Listed.{FitBehind, Listed}
 use Rattle.others.proofs.Entries.{listed_none}
 use Rattle.cuts.specs.declared.own.Walk.{Walk}
-use Rattle.cuts.specs.declared.own.Step.{Step}
-use Rattle.cuts.specs.declared.own.Step.TheVariants.{Went, Full}
+use Rattle.std.specs.Prelude.{Ok}
 use Rattle.cuts.specs.Calls.{CutAt}
-use Rattle.cuts.specs.Walking.{InReach}
+use Rattle.cuts.specs.Walking.{Step, full, InReach}
 use Rattle.cuts.specs.Cutting.{From, TermsAt, TermsEnd, CutsWord}
 use Rattle.cuts.proofs.Ending.{none_of}
 
@@ -65,11 +64,11 @@ module _ {copy : List ℕ} {w : Walk} {blank : Bool} {entry : List ℕ} {gap : B
   abbrev walked : List (List ℕ)
   walked = cut_at t.vocabulary t.other t.mine t.front t.tail
 
-  ended-full : r ≡ Full → FitBehind walked w.written (length before) → ⊥
+  ended-full : r ≡ full → FitBehind walked w.written (length before) → ⊥
   ended-full e = subst (TermsEnd t before copied after) e f
 
-  ended-done : {end : Walk} → r ≡ Went end → Listed walked w.written end.written before after
-  ended-done {end} e = let g : TermsEnd t before copied after (Went end) = subst (TermsEnd t before copied after) e f in g.listed
+  ended-done : {end : Walk} → r ≡ Ok end → Listed walked w.written end.written before after
+  ended-done {end} e = let g : TermsEnd t before copied after (Ok end) = subst (TermsEnd t before copied after) e f in g.listed
 
 -- ---- the entry and the pattern
 
@@ -184,12 +183,12 @@ module _ {entry pattern siblings : List ℕ} {copied todo : ℕ} (c : CutAt entr
     root-byte = subst (λ i. get_or pattern i 0 ≤ 127) (sym first) c.word
 
     module _ (copied' after : List ℕ) (r : Step) (does : CutsWord copy' w blank entry pattern siblings most_levels out copied' after r) where
-      pub cut-full : r ≡ Full → FitBehind list w.written (length out) → ⊥
+      pub cut-full : r ≡ full → FitBehind list w.written (length out) → ⊥
       unfolding cut-begins
       cut-full e f =
           ended-full cut-begins out copied' after r (does cut-begins root-byte) e (subst (λ l. FitBehind l w.written (length out)) written f)
 
-      pub cut-done : {end : Walk} → r ≡ Went end → Listed list w.written end.written out after
+      pub cut-done : {end : Walk} → r ≡ Ok end → Listed list w.written end.written out after
       unfolding cut-begins
       cut-done {end} e =
           subst (λ l. Listed l w.written end.written out after) (sym written)

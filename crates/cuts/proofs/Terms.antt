@@ -32,11 +32,10 @@ use Rattle.others.proofs.Entries.{listed_none, listed-inside, listed-length}
 use Rattle.cuts.specs.declared.own.Walk.{Walk}
 use Rattle.cuts.specs.declared.walk.Bits.{Bits}
 use Rattle.cuts.specs.declared.walk.Node.{Node}
-use Rattle.cuts.specs.declared.own.Step.{Step}
-use Rattle.cuts.specs.declared.own.Step.TheVariants.{Went, Full}
-use Rattle.cuts.specs.Walking.{passed, Moved, Over, StaysOver}
+use Rattle.std.specs.Prelude.{Option, Some, None, Ok, Err}
+use Rattle.cuts.specs.Walking.{Step, full, passed, Moved, Over, StaysOver}
 use Rattle.cuts.specs.Own.{OwnListed, OwnEnds, own, OpenAt, ListsOwn}
-use Rattle.cuts.specs.Cutting.{From, Finished, CutEnds, Room, NodesRead, NodesFound, kind_at, extent_at, OverAt, TakenOver, TakesOver, TermsAt, TermsEnd, CutsWord, CutPlacesAt, CutsPlaces}
+use Rattle.cuts.specs.Cutting.{From, Finished, CutEnds, Room, NodesRead, NodesFound, wordless_at, extent_at, OverAt, TakenOver, TakesOver, TermsAt, TermsEnd, CutsWord, CutPlacesAt, CutsPlaces}
 use Rattle.cuts.proofs.Walking.{Had, nothing, name, a_word, had}
 use Rattle.cuts.proofs.Pairs.{placed}
 use Rattle.cuts.proofs.Words.{both_open, both-name, Word, word_of}
@@ -92,7 +91,7 @@ module _ {copy : List ℕ} {w : Walk} {blank : Bool} {entry : List ℕ} {gap : B
   Passes q end = Over (length copy) (length entry) w q end
 
   over_finished : entries ≡ [] → both h.mine h.other ≡ h.mine → (q : ℕ) → q ≡ w.pattern + length (encode_at W h.other) →
-      {copied : List ℕ} {end : Walk} → Passes q end → TakenOver copy w (encode_at W h.mine) copied end → TermsEnd h before copied before (Went end)
+      {copied : List ℕ} {end : Walk} → Passes q end → TakenOver copy w (encode_at W h.mine) copied end → TermsEnd h before copied before (Ok end)
   over_finished none same q passes {copied} {end} o t =
       let here : bytes ≡ h.front ++ encode_at W h.mine = ap (λ u. h.front ++ encode_at W u) same in
       record {
@@ -108,7 +107,7 @@ module _ {copy : List ℕ} {w : Walk} {blank : Bool} {entry : List ℕ} {gap : B
       }
 
   gap-over : gap ≡ true → {copied : List ℕ} {end : Walk} (q : ℕ) → q ≡ w.pattern → Passes q end → TakenOver copy w (encode_at W h.mine) copied end →
-      TermsEnd h before copied before (Went end)
+      TermsEnd h before copied before (Ok end)
   gap-over e q passes o t =
       let open-there : h.other ≡ any = open_is h.other (h.gaps ∙ e) in
       over_finished (ap (λ p. cut_at W p h.mine h.front h.tail) open-there)
@@ -116,10 +115,10 @@ module _ {copy : List ℕ} {w : Walk} {blank : Bool} {entry : List ℕ} {gap : B
       (omega (arith, ap (λ p. length (encode_at W p)) open-there)) o t
 
   name-over : gap ≡ false → 127 < get_or pattern w.pattern 0 → {copied : List ℕ} {end : Walk} (q : ℕ) → q ≡ w.pattern + 1 →
-      Passes q end → TakenOver copy w (encode_at W h.mine) copied end → TermsEnd h before copied before (Went end)
+      Passes q end → TakenOver copy w (encode_at W h.mine) copied end → TermsEnd h before copied before (Ok end)
   name-over e k {copied} {end} q passes o t = go h.other refl
     where
-      go : (p : Term) → h.other ≡ p → TermsEnd h before copied before (Went end)
+      go : (p : Term) → h.other ≡ p → TermsEnd h before copied before (Ok end)
       go any s = absurd (true≢false (sym (ap is_open s) ∙ h.gaps ∙ e))
       go (var n) s =
           over_finished (ap (λ p. cut_at W p h.mine h.front h.tail) s) (ap (both h.mine) s ∙ both-name h.mine n h.pair.nameless) q
@@ -129,24 +128,24 @@ module _ {copy : List ℕ} {w : Walk} {blank : Bool} {entry : List ℕ} {gap : B
           absurd (omega (arith, first_byte, ap (λ p. get_or (encode_at W p ++ h.rest) 0 0) s, sorted.0, length_symbols W, h.tables.in_order.few_words))
 
   -- What the pattern has there.
-  module _ {k : ℕ} (kind : k ≡ kind_at gap pattern w.pattern) where
-    pub over-cut : k < 2 → (copied : List ℕ) (r : Step) → StaysOver (length copy) (length entry) w (w.pattern + k) r → TakesOver copy w blank entry copied r →
-        TermsEnd h before copied before r
+  module _ {k : Option ℕ} (kind : k ≡ wordless_at gap pattern w.pattern) where
+    pub over-cut : {size : ℕ} → k ≡ Some size → (copied : List ℕ) (r : Step) → StaysOver (length copy) (length entry) w (w.pattern + size) r →
+        TakesOver copy w blank entry copied r → TermsEnd h before copied before r
     unfolding over-at
-    over-cut l copied (Went end) o t = go (had gap pattern w.pattern kind)
+    over-cut {size} l copied (Ok end) o t = go (had gap pattern w.pattern kind)
       where
-        go : Had gap pattern w.pattern k → TermsEnd h before copied before (Went end)
-        go (nothing e z) = gap-over e (w.pattern + k) (omega arith) o (t over-at)
-        go (name e b z) = name-over e b (w.pattern + k) (omega arith) o (t over-at)
-        go (a_word e b z) = absurd (omega arith)
-    over-cut l copied Full o t = absurd (t over-at)
+        go : Had gap pattern w.pattern k → TermsEnd h before copied before (Ok end)
+        go (nothing e z) = gap-over e (w.pattern + size) (let n : size ≡ 0 = cc in omega arith) o (t over-at)
+        go (name e b z) = name-over e b (w.pattern + size) (let n : size ≡ 1 = cc in omega arith) o (t over-at)
+        go (a_word e b z) = cc
+    over-cut l copied (Err x) o t = absurd (t over-at)
 
-    word_had : 2 ≤ k → (gap ≡ false) × (get_or pattern w.pattern 0 ≤ 127)
+    word_had : k ≡ None → (gap ≡ false) × (get_or pattern w.pattern 0 ≤ 127)
     word_had l = go (had gap pattern w.pattern kind)
       where
         go : Had gap pattern w.pattern k → (gap ≡ false) × (get_or pattern w.pattern 0 ≤ 127)
-        go (nothing e z) = absurd (omega arith)
-        go (name e b z) = absurd (omega arith)
+        go (nothing e z) = cc
+        go (name e b z) = cc
         go (a_word e b z) = (e, b)
 
   -- ---- the pattern has a word there
@@ -179,7 +178,7 @@ module _ {copy : List ℕ} {w : Walk} {blank : Bool} {entry : List ℕ} {gap : B
   unfolding closed-terms
   closed-end e copied after r t = t
 
-  pub closed-cut : {k : ℕ} → k ≡ kind_at gap pattern w.pattern → 2 ≤ k → (copied after : List ℕ) (r : Step) →
+  pub closed-cut : {k : Option ℕ} → k ≡ wordless_at gap pattern w.pattern → k ≡ None → (copied after : List ℕ) (r : Step) →
       CutsWord copy w blank entry pattern siblings left before copied after r → TermsEnd h before copied after r
   closed-cut kind l copied after r does =
       let x = word_had kind l in
@@ -226,9 +225,9 @@ module _ {copy : List ℕ} {w : Walk} {blank : Bool} {entry : List ℕ} {gap : B
       put = omega (arith, copy-inside);
     }
 
-    pub node-lacks : {node : Node} → NodesFound left blank entry w.entry pattern w.pattern (length copy - w.at) node → 127 < node.word →
-        (copied after : List ℕ) → TermsEnd h before copied after Full
-    node-lacks n e copied after fits = n.lacks e room-here low
+    pub node-lacks : NodesFound left blank entry w.entry pattern w.pattern (length copy - w.at) None →
+        (copied after : List ℕ) → TermsEnd h before copied after full
+    node-lacks n copied after fits = n room-here
 
     -- Both words are read.
     module _ {node : Node} (n : NodesRead blank entry w.entry pattern w.pattern node) where
@@ -288,18 +287,18 @@ module _ {copy : List ℕ} {w : Walk} {blank : Bool} {entry : List ℕ} {gap : B
       OwnCut mid r = OwnEnds (own blank own-terms.vocabulary node.word (take w.at copy) mine-part) own-terms.later w before mid r
 
       -- These entries do not fit.
-      pub node-full : (mid : List ℕ) {r : Step} → r ≡ Full → ListsHere mid r → (copied : List ℕ) → TermsEnd h before copied mid Full
+      pub node-full : (mid : List ℕ) {r : Step} → r ≡ full → ListsHere mid r → (copied : List ℕ) → TermsEnd h before copied mid full
       unfolding own-terms
       node-full mid told lists copied =
           subst (λ ls. FitBehind ls w.written (length before) → ⊥) (sym split_entries) (ends-full mine-own above (subst (OwnCut mid) told (lists own-terms)))
 
       -- They are written.
-      module _ (mid : List ℕ) {r : Step} {next : Walk} (told : r ≡ Went next) (lists : ListsHere mid r) where
+      module _ (mid : List ℕ) {r : Step} {next : Walk} (told : r ≡ Ok next) (lists : ListsHere mid r) where
         d : OwnListed mine-own (length above + h.later) w before mid next
         unfolding own-terms
         d = subst (OwnCut mid) told (lists own-terms)
 
-        pub node_early : next.todo ≡ 0 → (copied : List ℕ) → TermsEnd h before copied mid (Went next)
+        pub node_early : next.todo ≡ 0 → (copied : List ℕ) → TermsEnd h before copied mid (Ok next)
         node_early z copied =
             let i : ℕ = w.entry + length (encode_at W h.mine) in
             let q : ℕ = w.pattern + length (encode_at W h.other) in

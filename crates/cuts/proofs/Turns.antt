@@ -12,9 +12,8 @@ use lib.ListN.{length}
 use Rattle.extents.specs.Extents.{most_extent}
 use Rattle.cuts.specs.declared.own.Walk.{Walk}
 use Rattle.cuts.specs.declared.walk.Bits.{Bits}
-use Rattle.cuts.specs.declared.own.Step.{Step}
-use Rattle.cuts.specs.declared.own.Step.TheVariants.{Went}
-use Rattle.cuts.specs.Walking.{Inside, InMap}
+use Rattle.std.specs.Prelude.{Ok}
+use Rattle.cuts.specs.Walking.{Step, Inside, InMap}
 use Rattle.cuts.specs.Cutting.{PutsMap, above_of, CutsTerms, CutsPlaces}
 use Rattle.cuts.proofs.Places.{places-on}
 
@@ -34,7 +33,7 @@ reached_none i m t = record { inside = i; map = m; top = t; copy_length = refl; 
 pub reached-on : {entry pattern siblings : List ℕ} {left : ℕ} {copy₀ : List ℕ} {w₀ : Walk} {bits₀ : Bits} {out₀ copy : List ℕ} {w : Walk} {bits : Bits} {out : List ℕ} →
     Reached entry pattern siblings left copy₀ w₀ bits₀ out₀ copy w bits out → (bits.entry + bits.pattern ≡ 0 → ⊥) →
     {copied : List ℕ} → PutsMap bits copy copied → length copied ≡ length copy →
-    (copied' mid : List ℕ) {r : Step} {next : Walk} → r ≡ Went next →
+    (copied' mid : List ℕ) {r : Step} {next : Walk} → r ≡ Ok next →
     CutsTerms copied w (eqb (bits.entry % 2) 0) entry (eqb (bits.pattern % 2) 0) pattern siblings left out copied' mid r → (next.todo ≡ 0 → ⊥) →
     length copied' ≡ length copied → length mid ≡ length out → Inside (length copy₀) (length entry) (length pattern) (length out₀) next →
     {higher : Bits} → higher ≡ above_of bits w.at next.at → InMap higher.low higher.bit higher.entry higher.pattern →

@@ -7,7 +7,7 @@
 --   size-inside, moved_inside   behind a word that is there
 --   over-stays               where a term is passed
 --   map-begins               what is left of the maps at a word
---   Had, had, kind-inside    what the pattern has at a place, and it is inside the pattern
+--   Had, had, wordless-inside    what the pattern has at a place, and it is inside the pattern
 --
 use mathlib.Core.Path.{◌≡◌, refl, sym, ◌∙◌, subst}
 use mathlib.Core.Bool.{Bool, true, false, cond}
@@ -19,17 +19,16 @@ use lib.ListN.{length, get_or, get_or-eq_default}
 use borrow.Author.Tests.{ltb-true, ltb-false}
 use Rattle.wire.proofs.Cond.{cond_true, cond_false}
 use Rattle.cuts.specs.declared.own.Walk.{Walk}
-use Rattle.cuts.specs.declared.own.Step.{Step}
-use Rattle.cuts.specs.declared.own.Step.TheVariants.{Went, Full}
+use Rattle.std.specs.Prelude.{Option, Some, None, Ok, Err}
 use Rattle.cuts.specs.declared.walk.Node.{Node}
-use Rattle.cuts.specs.Walking.{Inside, StaysInside, passed, Moved, Moves, StaysOver, InMap, InReach}
-use Rattle.cuts.specs.Cutting.{Room, NodesAt, NodesRead, kind_at}
+use Rattle.cuts.specs.Walking.{Step, Inside, StaysInside, passed, Moved, Moves, StaysOver, InMap, InReach}
+use Rattle.cuts.specs.Cutting.{Room, NodesAt, NodesRead, wordless_at}
 
 module _ {copied : ℕ} (entry pattern : ℕ) {out : ℕ} where
   pub stays_as : {copied' out' : ℕ} (r : Step) → copied' ≡ copied → out' ≡ out → StaysInside copied' entry pattern out' r → StaysInside copied entry pattern out r
   stays_as {copied'} {out'} r c o h = subst (λ n. StaysInside n entry pattern out r) c (subst (λ n. StaysInside copied' entry pattern n r) o h)
 
-pub stays-told : (copied entry pattern out : ℕ) {r : Step} {w : Walk} → r ≡ Went w → StaysInside copied entry pattern out r → Inside copied entry pattern out w
+pub stays-told : (copied entry pattern out : ℕ) {r : Step} {w : Walk} → r ≡ Ok w → StaysInside copied entry pattern out r → Inside copied entry pattern out w
 stays-told copied entry pattern out e = subst (StaysInside copied entry pattern out) e
 
 pub node_at : {left : ℕ} {blank : Bool} {bytes other : List ℕ} {i q copied : ℕ} → i ≤ length bytes → q ≤ length other → Room left blank (length bytes - i) (length other - q) copied →
@@ -78,7 +77,7 @@ module _ {copied entry pattern out : ℕ} where
     }
 
     pub over-stays : (q : ℕ) → q ≤ pattern → (r : Step) → StaysOver copied entry w q r → StaysInside copied entry pattern out r
-    over-stays q l (Went end) o = record {
+    over-stays q l (Ok end) o = record {
       at = o.at;
       mine = o.mine;
       other = omega (arith, o.pattern);
@@ -87,9 +86,9 @@ module _ {copied entry pattern out : ℕ} where
       entry_small = h.entry_small;
       pattern_small = h.pattern_small;
     }
-    over-stays q l Full o = tt
+    over-stays q l (Err e) o = tt
 
-pub moved_told : (w : Walk) (out : ℕ) {r : Step} {next : Walk} → r ≡ Went next → Moves w out r → Moved w out next
+pub moved_told : (w : Walk) (out : ℕ) {r : Step} {next : Walk} → r ≡ Ok next → Moves w out r → Moved w out next
 moved_told w out e = subst (Moves w out) e
 
 -- ---- the bits of the maps
@@ -106,23 +105,24 @@ some_byte l q h = go (ltb q (length l)) refl
     go true e = ltb-true q (length l) e
     go false e = absurd (omega (arith, get_or-eq_default l 0 {n = q} (ltb-false q (length l) e)))
 
-pub data Had (gap : Bool) (pattern : List ℕ) (q k : ℕ) : Type 0 where
-  nothing : gap ≡ true → k ≡ 0 → Had gap pattern q k
-  name : gap ≡ false → 127 < get_or pattern q 0 → k ≡ 1 → Had gap pattern q k
-  a_word : gap ≡ false → get_or pattern q 0 ≤ 127 → k ≡ 2 → Had gap pattern q k
+pub data Had (gap : Bool) (pattern : List ℕ) (q : ℕ) (k : Option ℕ) : Type 0 where
+  nothing : gap ≡ true → k ≡ Some 0 → Had gap pattern q k
+  name : gap ≡ false → 127 < get_or pattern q 0 → k ≡ Some 1 → Had gap pattern q k
+  a_word : gap ≡ false → get_or pattern q 0 ≤ 127 → k ≡ None → Had gap pattern q k
 
-pub had : (gap : Bool) (pattern : List ℕ) (q : ℕ) {k : ℕ} → k ≡ kind_at gap pattern q → Had gap pattern q k
+pub had : (gap : Bool) (pattern : List ℕ) (q : ℕ) {k : Option ℕ} → k ≡ wordless_at gap pattern q → Had gap pattern q k
 had true pattern q kind = nothing refl kind
 had false pattern q {k} kind = go (ltb 127 (get_or pattern q 0)) refl
   where
     go : (b : Bool) → ltb 127 (get_or pattern q 0) ≡ b → Had false pattern q k
-    go true l = name refl (ltb-true 127 (get_or pattern q 0) l) (kind ∙ cond_true (ltb 127 (get_or pattern q 0)) 1 2 l)
-    go false l = a_word refl (ltb-false 127 (get_or pattern q 0) l) (kind ∙ cond_false (ltb 127 (get_or pattern q 0)) 1 2 l)
+    go true l = name refl (ltb-true 127 (get_or pattern q 0) l) (kind ∙ cond_true (ltb 127 (get_or pattern q 0)) (Some 1) None l)
+    go false l = a_word refl (ltb-false 127 (get_or pattern q 0) l) (kind ∙ cond_false (ltb 127 (get_or pattern q 0)) (Some 1) None l)
 
-pub kind-inside : (gap : Bool) (pattern : List ℕ) (q : ℕ) {k : ℕ} → k ≡ kind_at gap pattern q → q ≤ length pattern → k < 2 → q + k ≤ length pattern
-kind-inside gap pattern q {k} kind i l = go (had gap pattern q kind)
+pub wordless-inside : (gap : Bool) (pattern : List ℕ) (q : ℕ) {k : Option ℕ} {size : ℕ} → k ≡ wordless_at gap pattern q → q ≤ length pattern →
+    k ≡ Some size → q + size ≤ length pattern
+wordless-inside gap pattern q {k} {size} kind i l = go (had gap pattern q kind)
   where
-    go : Had gap pattern q k → q + k ≤ length pattern
-    go (nothing e z) = omega arith
-    go (name e b z) = let s = some_byte pattern q b in omega arith
-    go (a_word e b z) = absurd (omega arith)
+    go : Had gap pattern q k → q + size ≤ length pattern
+    go (nothing e z) = let n : size ≡ 0 = cc in omega arith
+    go (name e b z) = let n : size ≡ 1 = cc in let s = some_byte pattern q b in omega arith
+    go (a_word e b z) = cc

@@ -4,7 +4,7 @@
 --   CutOf ls n before after r   the answer r: ls is written behind the first n bytes, or does not fit
 --   CutsEntry               the entries by which the entry is replaced are so written
 --
-use Rattle.std.specs.Prelude.{◌≡◌, false, List, map, ℕ, ◌+◌, ◌≤◌, length, get_or}
+use Rattle.std.specs.Prelude.{◌≡◌, Result, Ok, Err, false, List, map, ℕ, ◌+◌, ◌≤◌, length, get_or}
 use Rattle.terms.specs.Term.{Term}
 use Rattle.terms.specs.Book.{disjoint, cut}
 use Rattle.wire.specs.Vocabulary.{Vocabulary, signature}
@@ -12,8 +12,7 @@ use Rattle.wire.specs.TermBytes.{encode_term}
 use Rattle.extents.specs.Extents.{most_extent}
 use Rattle.others.specs.Listed.{FitBehind, Listed}
 use Rattle.cuts.specs.Entries.{EntryOf, PatternOf, TablesOf}
-use Rattle.cuts.specs.declared.Cut.{Cut}
-use Rattle.cuts.specs.declared.Cut.TheVariants.{Bytes, Full}
+use Rattle.others.specs.declared.Full.{Full}
 
 -- The copy has room for what both have.
 pub record CutAt (entry pattern siblings : List ℕ) (copied todo : ℕ) : Type 0 where
@@ -32,11 +31,11 @@ pub record CutAt (entry pattern siblings : List ℕ) (copied todo : ℕ) : Type 
   pub shares : disjoint one term ≡ false
   pub due : todo ≡ length (cut (signature vocabulary) one term)
 
-abbrev pub CutOf : List (List ℕ) → ℕ → List ℕ → List ℕ → Cut → Type 0
-CutOf ls n before after (Bytes n') = Listed ls n n' before after
-CutOf ls n before after Full = FitBehind ls n (length before) → ⊥
+abbrev pub CutOf : List (List ℕ) → ℕ → List ℕ → List ℕ → Result ℕ Full → Type 0
+CutOf ls n before after (Ok n') = Listed ls n n' before after
+CutOf ls n before after (Err e) = FitBehind ls n (length before) → ⊥
 
-abbrev pub CutsEntry : List ℕ → List ℕ → List ℕ → ℕ → ℕ → ℕ → List ℕ → List ℕ → Cut → Type 0
+abbrev pub CutsEntry : List ℕ → List ℕ → List ℕ → ℕ → ℕ → ℕ → List ℕ → List ℕ → Result ℕ Full → Type 0
 CutsEntry entry pattern siblings copied todo n before after r =
     (h : CutAt entry pattern siblings copied todo) → n ≤ length before →
     CutOf (map (encode_term h.vocabulary h.kind) (cut (signature h.vocabulary) h.one h.term)) n before after r

@@ -12,7 +12,7 @@
 --   MapIs, PutsMap             the word's map in the copy, at the next place or at the end, and it is put there
 --   Last bit e p r             r says whether no place is left, as e + p is 0 or a map has no such bit
 --   above_of bits at end        the places above the next one, whose term in the copy goes from one offset to the other
---   kind_at gap pattern q       what the pattern has there: nothing, a name or a word
+--   wordless_at gap pattern q   how many bytes the pattern has there for nothing or a name; None for a word
 --   extent_at l i               how many bytes the term at the offset i of l takes
 --   OverAt                     where take_over begins: a term of the entry is written there, or it is open
 --   TakenOver, OverEnds, TakesOver   what it does
@@ -21,7 +21,7 @@
 --   CutPlacesAt                where cut_places begins, at the places of a word from some bit on
 --   PlacesEnd, CutsPlaces      what it does
 --
-use Rattle.std.specs.Prelude.{◌≡◌, Bool, true, false, cond, List, [], ◌∷◌, ◌++◌, ℕ, ◌+◌, ◌-◌, ◌*◌, ◌/◌, ◌^◌, ◌<◌, ◌≤◌, ltb, length, get_or, take, drop}
+use Rattle.std.specs.Prelude.{◌≡◌, Option, Some, None, Ok, Err, Bool, true, false, cond, List, [], ◌∷◌, ◌++◌, ℕ, ◌+◌, ◌-◌, ◌*◌, ◌/◌, ◌^◌, ◌<◌, ◌≤◌, ltb, length, get_or, take, drop}
 use Rattle.terms.specs.Term.{Term, Terms, nil, cons, Sorted, names}
 use Rattle.terms.specs.Book.{disjoint, both, both_all}
 use Rattle.wire.specs.Map.{map_bits, map_bytes, write_map, number, is_open, written_flags}
@@ -35,8 +35,7 @@ use Rattle.others.specs.Listed.{FitBehind, Listed}
 use Rattle.cuts.specs.declared.own.Walk.{Walk}
 use Rattle.cuts.specs.declared.walk.Bits.{Bits}
 use Rattle.cuts.specs.declared.walk.Node.{Node}
-use Rattle.cuts.specs.declared.own.Step.{Step}
-use Rattle.cuts.specs.declared.own.Step.TheVariants.{Went, Full}
+use Rattle.cuts.specs.Walking.{Step}
 use Rattle.cuts.specs.Entries.{TablesOf}
 
 pub record From (bytes rest : List ℕ) (i : ℕ) : Type 0 where
@@ -72,10 +71,10 @@ pub record Finished (ls : List (List ℕ)) (bytes : List ℕ) (i q later n : ℕ
   pub todo : w.todo ≡ later
   pub passed : 0 < later → PassedBoth bytes i q copied w
 
--- Of Full nothing is said but that the entries do not fit.
+-- Of no room nothing is said but that the entries do not fit.
 abbrev pub CutEnds : List (List ℕ) → List ℕ → ℕ → ℕ → ℕ → ℕ → List ℕ → List ℕ → List ℕ → Step → Type 0
-CutEnds ls bytes i q later n before copied after (Went w) = Finished ls bytes i q later n before copied after w
-CutEnds ls bytes i q later n before copied after Full = FitBehind ls n (length before) → ⊥
+CutEnds ls bytes i q later n before copied after (Ok w) = Finished ls bytes i q later n before copied after w
+CutEnds ls bytes i q later n before copied after (Err e) = FitBehind ls n (length before) → ⊥
 
 -- ---- a word of the pattern
 
@@ -103,9 +102,10 @@ pub record NodesRead (blank : Bool) (entry : List ℕ) (i : ℕ) (pattern : List
   pub mine : r.entry < 256
   pub small : r.pattern < 256
 
-pub record NodesFound (left : ℕ) (blank : Bool) (entry : List ℕ) (i : ℕ) (pattern : List ℕ) (q room : ℕ) (r : Node) : Type 0 where
-  pub there : r.word ≤ 127 → Room left blank (length entry - i) (length pattern - q) room × NodesRead blank entry i pattern q r
-  pub lacks : 127 < r.word → Room left blank (length entry - i) (length pattern - q) room → get_or pattern q 0 ≤ 127 → ⊥
+abbrev pub NodesFound : ℕ → Bool → List ℕ → ℕ → List ℕ → ℕ → ℕ → Option Node → Type 0
+NodesFound left blank entry i pattern q room (Some node) =
+    Room left blank (length entry - i) (length pattern - q) room × NodesRead blank entry i pattern q node
+NodesFound left blank entry i pattern q room None = Room left blank (length entry - i) (length pattern - q) room → ⊥
 
 -- ---- the map of a word in the copy
 
@@ -134,9 +134,9 @@ above_of bits at end = record {
 
 -- ---- a term of the entry is taken over
 
-abbrev pub kind_at : Bool → List ℕ → ℕ → ℕ
-kind_at true pattern q = 0
-kind_at false pattern q = cond (ltb 127 (get_or pattern q 0)) 1 2
+abbrev pub wordless_at : Bool → List ℕ → ℕ → Option ℕ
+wordless_at true pattern q = Some 0
+wordless_at false pattern q = cond (ltb 127 (get_or pattern q 0)) (Some 1) None
 
 unfoldable pub extent_at : List ℕ → ℕ → ℕ
 extent_at l i = term_size (drop i l)
@@ -156,8 +156,8 @@ pub record TakenOver (copy : List ℕ) (w : Walk) (term copied : List ℕ) (end 
   pub entry : end.entry ≡ w.entry + length term
 
 abbrev pub OverEnds : List ℕ → Walk → List ℕ → List ℕ → Step → Type 0
-OverEnds copy w term copied (Went end) = TakenOver copy w term copied end
-OverEnds copy w term copied Full = ⊥
+OverEnds copy w term copied (Ok end) = TakenOver copy w term copied end
+OverEnds copy w term copied (Err e) = ⊥
 
 abbrev pub TakesOver : List ℕ → Walk → Bool → List ℕ → List ℕ → Step → Type 0
 TakesOver copy w blank entry copied r = (h : OverAt copy w blank entry) → OverEnds copy w h.term copied r

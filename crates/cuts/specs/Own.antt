@@ -5,25 +5,24 @@
 --   OpenAt                  where write_own begins
 --   OwnListed, OwnEnds, ListsOwn   what it does: they are written, or do not fit
 --
-use Rattle.std.specs.Prelude.{◌≡◌, Bool, true, false, List, [], ℕ, ◌+◌, ◌<◌, length, take}
+use Rattle.std.specs.Prelude.{◌≡◌, Result, Ok, Err, Bool, true, false, List, [], ℕ, ◌+◌, ◌<◌, length, take}
 use Rattle.wire.specs.Map.{map_bytes}
 use Rattle.wire.specs.Vocabulary.{Vocabulary}
 use Rattle.wire.specs.EntryAgainst.{others_at}
-use Rattle.others.specs.declared.Others.{Others}
-use Rattle.others.specs.declared.Others.TheVariants as O
+use Rattle.others.specs.declared.Filled.{Filled}
+use Rattle.others.specs.declared.Full.{Full}
 use Rattle.others.specs.Listed.{FitBehind, Listed}
 use Rattle.cuts.specs.declared.own.Walk.{Walk}
-use Rattle.cuts.specs.declared.own.Step.{Step}
-use Rattle.cuts.specs.declared.own.Step.TheVariants.{Went, Full}
+use Rattle.cuts.specs.Walking.{Step}
 use Rattle.cuts.specs.Entries.{TablesOf}
 
 abbrev pub own : Bool → Vocabulary → ℕ → List ℕ → List ℕ → List (List ℕ)
 own true W f front tail = others_at W f front tail
 own false W f front tail = []
 
-abbrev pub behind_of : Walk → ℕ → Others → Step
-behind_of w size (O.Bytes n todo) = Went (record { at = w.at + (1 + map_bytes); entry = w.entry + size; pattern = w.pattern + (1 + map_bytes); written = n; todo = todo })
-behind_of w size O.Full = Full
+abbrev pub behind_of : Walk → ℕ → Result Filled Full → Step
+behind_of w size (Ok f) = Ok (record { at = w.at + (1 + map_bytes); entry = w.entry + size; pattern = w.pattern + (1 + map_bytes); written = f.bytes; todo = f.due })
+behind_of w size (Err e) = Err e
 
 pub record OpenAt (copy : List ℕ) (top : ℕ) (blank : Bool) (tail : List ℕ) (f : ℕ) (siblings : List ℕ) (w : Walk) : Type 0 where
   pub vocabulary : Vocabulary
@@ -37,8 +36,8 @@ pub record OwnListed (ls : List (List ℕ)) (later : ℕ) (w : Walk) (before aft
   pub todo : end.todo ≡ later
 
 abbrev pub OwnEnds : List (List ℕ) → ℕ → Walk → List ℕ → List ℕ → Step → Type 0
-OwnEnds ls later w before after (Went end) = OwnListed ls later w before after end
-OwnEnds ls later w before after Full = FitBehind ls w.written (length before) → ⊥
+OwnEnds ls later w before after (Ok end) = OwnListed ls later w before after end
+OwnEnds ls later w before after (Err e) = FitBehind ls w.written (length before) → ⊥
 
 abbrev pub ListsOwn : List ℕ → ℕ → Bool → List ℕ → ℕ → List ℕ → Walk → List ℕ → List ℕ → Step → Type 0
 ListsOwn copy top blank tail f siblings w before after r =

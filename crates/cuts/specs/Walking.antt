@@ -1,5 +1,6 @@
 -- Walking: where a walk over an entry and a pattern stands, whatever their bytes are; no public contract cites it.
 --
+--   Step, full              the walk behind a step, or no room
 --   Inside copied entry pattern out w   the walk is inside the copy, the entry, the pattern and the lent slice, which have so many
 --                           bytes
 --   StaysInside             so is the walk that a step ends at
@@ -11,12 +12,17 @@
 --   InMap low bit e p       what is left of two maps, from a bit on that is at most the 256
 --   InReach, OutOfReach     the lengths that a cut begins with, and the test of them
 --
-use Rattle.std.specs.Prelude.{◌≡◌, Bool, true, false, ℕ, ◌+◌, ◌<◌, ◌≤◌}
+use Rattle.std.specs.Prelude.{◌≡◌, Result, Ok, Err, Bool, true, false, ℕ, ◌+◌, ◌<◌, ◌≤◌}
 use Rattle.wire.specs.Map.{map_bytes}
 use Rattle.extents.specs.Extents.{most_extent}
 use Rattle.cuts.specs.declared.own.Walk.{Walk}
-use Rattle.cuts.specs.declared.own.Step.{Step}
-use Rattle.cuts.specs.declared.own.Step.TheVariants.{Went, Full}
+use Rattle.others.specs.declared.Full.{Full}
+
+abbrev pub Step : Type 0
+Step = Result Walk Full
+
+abbrev pub full : Step
+full = Err (record {})
 
 pub record Inside (copied entry pattern out : ℕ) (w : Walk) : Type 0 where
   pub at : w.at ≤ copied
@@ -28,8 +34,8 @@ pub record Inside (copied entry pattern out : ℕ) (w : Walk) : Type 0 where
   pub pattern_small : pattern ≤ most_extent
 
 abbrev pub StaysInside : ℕ → ℕ → ℕ → ℕ → Step → Type 0
-StaysInside copied entry pattern out (Went w) = Inside copied entry pattern out w
-StaysInside copied entry pattern out Full = Unit {0}
+StaysInside copied entry pattern out (Ok w) = Inside copied entry pattern out w
+StaysInside copied entry pattern out (Err e) = Unit {0}
 
 abbrev pub passed : Walk → ℕ → Walk
 passed w size = record { at = w.at + (1 + map_bytes); entry = w.entry + size; pattern = w.pattern + (1 + map_bytes); written = w.written; todo = w.todo }
@@ -41,8 +47,8 @@ pub record Moved (w : Walk) (out : ℕ) (end : Walk) : Type 0 where
   pub written : end.written ≤ out
 
 abbrev pub Moves : Walk → ℕ → Step → Type 0
-Moves w out (Went end) = Moved w out end
-Moves w out Full = Unit {0}
+Moves w out (Ok end) = Moved w out end
+Moves w out (Err e) = Unit {0}
 
 pub record Over (copied entry : ℕ) (w : Walk) (q : ℕ) (end : Walk) : Type 0 where
   pub at : end.at ≤ copied
@@ -52,8 +58,8 @@ pub record Over (copied entry : ℕ) (w : Walk) (q : ℕ) (end : Walk) : Type 0 
   pub todo : end.todo ≡ w.todo
 
 abbrev pub StaysOver : ℕ → ℕ → Walk → ℕ → Step → Type 0
-StaysOver copied entry w q (Went end) = Over copied entry w q end
-StaysOver copied entry w q Full = Unit {0}
+StaysOver copied entry w q (Ok end) = Over copied entry w q end
+StaysOver copied entry w q (Err e) = Unit {0}
 
 pub record InMap (low bit e p : ℕ) : Type 0 where
   pub below : low < bit

@@ -9,50 +9,26 @@ ghost use Rattle.cuts.specs.Calls.{CutsEntry};
 mod own;
 mod walk;
 
-use crate::own::{Step, Walk};
-
-// So many bytes are there now, or an entry has no room or is too long.
-#[derive(Drop)]
-pub enum Cut {
-    Bytes(usize),
-    Full,
-}
+use crate::own::Walk;
+use others::Full;
 
 // Whether an entry or a pattern is too short, the copy too small for one of them or too large, or the bytes written are not all
 // in the slice.
 fn out_of_reach(copy: usize, entry: usize, pattern: usize, n: usize, room: usize) -> bool
     ensures { OutOfReach copy entry pattern n room result }
 {
-    if entry < 2 {
-        return true;
-    }
-    if pattern < 2 {
-        return true;
-    }
-    if copy < entry {
-        return true;
-    }
-    if copy < pattern {
-        return true;
-    }
-    if 65536 < copy {
-        return true;
-    }
-    room < n
+    entry < 2 || pattern < 2 || copy < entry || copy < pattern || 65536 < copy || room < n
 }
 
 // How many bytes of an entry are passed at its root: all of 255.
 fn beginning(size: usize, blank: bool) -> usize
     ensures { result ≡ cond blank size 1 }
 {
-    if blank {
-        return size;
-    }
-    1
+    if blank { size } else { 1 }
 }
 
-// Puts the entries by which an entry is replaced behind the first n bytes; there are `todo` of them. The copy is for the bytes
-// that they begin with.
+// Puts the entries by which an entry is replaced behind the first n bytes, and says how many bytes are there then; there are `todo`
+// of them. The copy is for the bytes that they begin with.
 pub fn cut_entry(
     copy: &mut [u8],
     entry: &[u8],
@@ -61,14 +37,14 @@ pub fn cut_entry(
     todo: usize,
     n: usize,
     out: &mut [u8],
-) -> Cut
+) -> Result<usize, Full>
     ensures { CutsEntry entry.now pattern.now siblings.now (length copy.old) todo n out.old out.new result }
 {
     if todo == 0 {
-        return Cut::Bytes(n);
+        return Ok(n);
     }
     if out_of_reach(copy.len(), entry.len(), pattern.len(), n, out.len()) {
-        return Cut::Full;
+        return Err(Full);
     }
     copy[0] = entry[0];
     let blank = 127 < entry[1];
@@ -79,8 +55,6 @@ pub fn cut_entry(
         written: n,
         todo,
     };
-    match walk::cut_node(copy, w, blank, entry, pattern, siblings, 32, out) {
-        Step::Full => Cut::Full,
-        Step::Went(end) => Cut::Bytes(end.written),
-    }
+    let end = walk::cut_node(copy, w, blank, entry, pattern, siblings, 32, out)?;
+    Ok(end.written)
 }

@@ -2,10 +2,11 @@
 ghost use Rattle.std.specs.Prelude.{◌≡◌, ◌%◌, ◌≤◌, eqb, length};
 ghost use Rattle.extents.specs.Extents.{most_extent};
 ghost use Rattle.cuts.specs.Walking.{Inside, StaysInside, InMap, StaysOver};
-ghost use Rattle.cuts.specs.Cutting.{Lacks, NodesAt, NodesRead, NodesFound, MapIs, PutsMap, Last, above_of, kind_at, extent_at, TakesOver, CutsTerms, CutsWord, CutsPlaces};
+ghost use Rattle.cuts.specs.Cutting.{Lacks, NodesAt, NodesRead, NodesFound, MapIs, PutsMap, Last, above_of, wordless_at, extent_at, TakesOver, CutsTerms, CutsWord, CutsPlaces};
 
 use crate::own;
-use crate::own::{Step, Walk};
+use crate::own::Walk;
+use others::Full;
 
 // The places of a word that are still to be passed: the word's offset in the copy, the map of the places below at which the copy
 // has a term, the bit of the next place, and the bits of the entry's map and of the pattern's from there on.
@@ -18,7 +19,7 @@ struct Bits {
     pattern: usize,
 }
 
-// A word of the pattern, how many bytes the entry has for it, and both maps. A word of 255: bytes are missing.
+// A word of the pattern, how many bytes the entry has for it, and both maps.
 #[derive(Drop)]
 struct Node {
     word: usize,
@@ -31,19 +32,7 @@ struct Node {
 fn lacks(left: usize, blank: bool, entry: usize, pattern: usize, copy: usize) -> bool
     ensures { Lacks left blank entry pattern copy result }
 {
-    if left == 0 {
-        return true;
-    }
-    if pattern < maps::NODE {
-        return true;
-    }
-    if copy < maps::NODE {
-        return true;
-    }
-    if blank {
-        return false;
-    }
-    entry < maps::NODE
+    left == 0 || pattern < maps::NODE || copy < maps::NODE || !blank && entry < maps::NODE
 }
 
 // Reads a word of the pattern, and the entry's map there: none where the entry is open.
@@ -51,8 +40,8 @@ fn read_maps(blank: bool, entry: &[u8], i: usize, pattern: &[u8], q: usize) -> N
     requires { NodesAt blank entry.now i pattern.now q }
     ensures { NodesRead blank entry.now i pattern.now q result }
 {
-    let word = own::wide(pattern[q]);
-    let other = own::wide(maps::read(pattern, q + 1));
+    let word = pattern[q] as usize;
+    let other = maps::read(pattern, q + 1) as usize;
     if blank {
         return Node {
             word,
@@ -61,7 +50,7 @@ fn read_maps(blank: bool, entry: &[u8], i: usize, pattern: &[u8], q: usize) -> N
             pattern: other,
         };
     }
-    let mine = own::wide(maps::read(entry, i + 1));
+    let mine = maps::read(entry, i + 1) as usize;
     Node {
         word,
         size: maps::NODE,
@@ -79,20 +68,15 @@ fn read_node(
     pattern: &[u8],
     q: usize,
     room: usize,
-) -> Node
+) -> Option<Node>
     requires i_in_bounds { i ≤ length entry.now }
     requires q_in_bounds { q ≤ length pattern.now }
     ensures { NodesFound left blank entry.now i pattern.now q room result }
 {
     if lacks(left, blank, entry.len() - i, pattern.len() - q, room) {
-        return Node {
-            word: 255,
-            size: 0,
-            entry: 0,
-            pattern: 0,
-        };
+        return None;
     }
-    read_maps(blank, entry, i, pattern, q)
+    Some(read_maps(blank, entry, i, pattern, q))
 }
 
 // The word's map in the copy: what is below the next place, the place itself, and the entry's places above; where no place is
@@ -126,10 +110,7 @@ fn last(bits: Bits) -> bool
     requires { InMap bits.low bits.bit bits.entry bits.pattern }
     ensures { Last bits.bit bits.entry bits.pattern result }
 {
-    if bits.entry + bits.pattern == 0 {
-        return true;
-    }
-    128 < bits.bit
+    bits.entry + bits.pattern == 0 || 128 < bits.bit
 }
 
 // The places above the next one. The map below has this place where the copy has a term for it, which stands from `at` to `end`.
@@ -139,26 +120,16 @@ fn above(bits: Bits, at: usize, end: usize) -> Bits
     ensures in_map_2 { InMap result.low result.bit result.entry result.pattern }
     ensures value { result ≡ above_of bits at end }
 {
-    let top = bits.top;
-    let low = bits.low;
-    let bit = bits.bit;
-    let entry = bits.entry / 2;
-    let pattern = bits.pattern / 2;
-    if at < end {
-        return Bits {
-            top,
-            low: low + bit,
-            bit: 2 * bit,
-            entry,
-            pattern,
-        };
-    }
     Bits {
-        top,
-        low,
-        bit: 2 * bit,
-        entry,
-        pattern,
+        top: bits.top,
+        low: if at < end {
+            bits.low + bits.bit
+        } else {
+            bits.low
+        },
+        bit: 2 * bits.bit,
+        entry: bits.entry / 2,
+        pattern: bits.pattern / 2,
     }
 }
 
@@ -170,53 +141,41 @@ fn extent(bytes: &[u8], i: usize) -> usize
     extents::term_size(&bytes[i..])
 }
 
-// What the pattern has at a place: 0 for nothing, 1 for a name, 2 for a word.
-fn term_kind(gap: bool, pattern: &[u8], q: usize) -> usize
-    ensures { result ≡ kind_at gap pattern.now q }
+// How many bytes the pattern has at a place where it has no word: none for nothing, one for a name. None where it has a word.
+fn wordless(gap: bool, pattern: &[u8], q: usize) -> Option<usize>
+    ensures { result ≡ wordless_at gap pattern.now q }
 {
     if gap {
-        return 0;
+        return Some(0);
     }
-    if pattern.len() <= q {
-        return 2;
+    if q < pattern.len() && 127 < pattern[q] {
+        return Some(1);
     }
-    if 127 < pattern[q] {
-        return 1;
-    }
-    2
+    None
 }
 
 // Copies the entry's term, where it has one. The pattern has none there, or a name, and q bytes of it are passed then.
-fn take_over(copy: &mut [u8], w: Walk, blank: bool, entry: &[u8], q: usize) -> Step
+fn take_over(copy: &mut [u8], w: Walk, blank: bool, entry: &[u8], q: usize) -> Result<Walk, Full>
     requires at_in_bounds { w.at ≤ length copy.old }
     requires w_in_bounds { w.entry ≤ length entry.now }
     ensures stays_over { StaysOver (length copy.old) (length entry.now) w q result }
     ensures takes_over { TakesOver copy.old w blank entry.now copy.new result }
 {
+    if blank {
+        return Ok(Walk { pattern: q, ..w });
+    }
     let at = w.at;
     let i = w.entry;
-    let written = w.written;
-    let todo = w.todo;
-    if blank {
-        return Step::Went(Walk {
-            at,
-            entry: i,
-            pattern: q,
-            written,
-            todo,
-        });
-    }
     let n = extent(entry, i);
     if copy.len() - at < n {
-        return Step::Full;
+        return Err(Full);
     }
     slices::copy(&entry[i..i + n], &mut copy[at..]);
-    Step::Went(Walk {
+    Ok(Walk {
         at: at + n,
         entry: i + n,
         pattern: q,
-        written,
-        todo,
+        ..w
     })
 }
 
@@ -232,24 +191,19 @@ pub(crate) fn cut_node(
     siblings: &[u8; 384],
     left: usize,
     out: &mut [u8],
-) -> Step
+) -> Result<Walk, Full>
     requires { Inside (length copy.old) (length entry.now) (length pattern.now) (length out.old) w }
     ensures stays_inside { StaysInside (length copy.old) (length entry.now) (length pattern.now) (length out.old) result }
     ensures cuts_word { CutsWord copy.old w blank entry.now pattern.now siblings.now left out.old copy.new out.new result }
 {
     let top = w.at;
-    let node = read_node(
-        left,
-        blank,
-        entry,
-        w.entry,
-        pattern,
-        w.pattern,
-        copy.len() - top,
-    );
+    let room = copy.len() - top;
+    let Some(node) = read_node(left, blank, entry, w.entry, pattern, w.pattern, room) else {
+        return Err(Full);
+    };
     let word = node.word;
     if 127 < word {
-        return Step::Full;
+        return Err(Full);
     }
     let bits = Bits {
         top,
@@ -258,16 +212,12 @@ pub(crate) fn cut_node(
         entry: node.entry,
         pattern: node.pattern,
     };
-    match own::write_own(copy, w, blank, entry, word, node.size, siblings, out) {
-        Step::Full => Step::Full,
-        Step::Went(next) => {
-            if next.todo == 0 {
-                return Step::Went(next);
-            }
-            copy[top] = word as u8;
-            cut_places(copy, next, bits, entry, pattern, siblings, left - 1, out)
-        }
+    let next = own::write_own(copy, w, blank, entry, word, node.size, siblings, out)?;
+    if next.todo == 0 {
+        return Ok(next);
     }
+    copy[top] = word as u8;
+    cut_places(copy, next, bits, entry, pattern, siblings, left - 1, out)
 }
 
 // The entries of the places of a word from some bit on, the lowest first. The word's map in the copy keeps the places below that
@@ -282,7 +232,7 @@ fn cut_places(
     siblings: &[u8; 384],
     left: usize,
     out: &mut [u8],
-) -> Step
+) -> Result<Walk, Full>
     requires inside { Inside (length copy.old) (length entry.now) (length pattern.now) (length out.old) w }
     requires in_map { InMap bits.low bits.bit bits.entry bits.pattern }
     requires top_le_most_extent { bits.top ≤ most_extent }
@@ -291,21 +241,18 @@ fn cut_places(
 {
     let mut w = w;
     let mut bits = bits;
+    // Kept: a turn passes the next place of either map until none is left, so no index is counted.
     loop {
         put_map(copy, bits);
         if last(bits) {
-            return Step::Went(w);
+            return Ok(w);
         }
-        match cut_place(copy, w, bits, entry, pattern, siblings, left, out) {
-            Step::Full => return Step::Full,
-            Step::Went(next) => {
-                if next.todo == 0 {
-                    return Step::Went(next);
-                }
-                bits = above(bits, w.at, next.at);
-                w = next;
-            }
+        let next = cut_place(copy, w, bits, entry, pattern, siblings, left, out)?;
+        if next.todo == 0 {
+            return Ok(next);
         }
+        bits = above(bits, w.at, next.at);
+        w = next;
     }
 }
 
@@ -321,16 +268,15 @@ fn cut_place(
     siblings: &[u8; 384],
     left: usize,
     out: &mut [u8],
-) -> Step
+) -> Result<Walk, Full>
     requires { Inside (length copy.old) (length entry.now) (length pattern.now) (length out.old) w }
     ensures stays_inside { StaysInside (length copy.old) (length entry.now) (length pattern.now) (length out.old) result }
     ensures cuts_terms { CutsTerms copy.old w (eqb (bits.entry % 2) 0) entry.now (eqb (bits.pattern % 2) 0) pattern.now siblings.now left out.old copy.new out.new result }
 {
     let q = w.pattern;
     let blank = bits.entry % 2 == 0;
-    let kind = term_kind(bits.pattern % 2 == 0, pattern, q);
-    if kind < 2 {
-        return take_over(copy, w, blank, entry, q + kind);
+    if let Some(size) = wordless(bits.pattern % 2 == 0, pattern, q) {
+        return take_over(copy, w, blank, entry, q + size);
     }
     cut_node(copy, w, blank, entry, pattern, siblings, left, out)
 }

@@ -2,7 +2,7 @@
 // names, and prints the leftovers of each pattern. What cannot be opened, read or written is told in a line on the error output.
 #![tactic(auto)]
 
-use intake::Taken;
+use pages::Page;
 use std::env::{Env, FillError};
 use std::fs;
 use std::fs::Files;
@@ -16,13 +16,14 @@ fn complain(rt: &impl Eprint, what: &str) {
 // Prints the answer for the text that comes. A byte more than a text may have is taken, so that a longer one is told.
 fn answer_from(rt: &(impl Print + Eprint + Files), input: &mut impl Read) {
     let mut bytes = [0u8; 65536];
-    let Taken::Bytes(n) = intake::take(input, &mut bytes) else {
+    let Ok(n) = intake::take(input, &mut bytes) else {
         complain(rt, "the text could not be read");
         return;
     };
-    let mut page = [0u8; 1048576];
-    let k = answers::answer(&bytes[0..n], &mut page);
-    if !outlet::deliver(rt, &page[0..k]) {
+    let mut page = Page::new();
+    answers::answer(&bytes[..n], &mut page);
+    let text = page.bytes.get(..page.end).unwrap_or(&[]);
+    if !outlet::deliver(rt, text) {
         complain(rt, "the answer could not be written whole");
     }
 }
@@ -50,7 +51,7 @@ fn main(rt: HostRuntime) {
         }
     }
     match rt.arg(1, &mut path) {
-        Ok(n) => answer_file(&rt, &path[0..n]),
+        Ok(n) => answer_file(&rt, &path[..n]),
         Err(FillError::TooLong) => complain(&rt, "the file could not be opened"),
         Err(FillError::NotPresent) => answer_from(&rt, &mut rt.stdin()),
     }

@@ -1,76 +1,34 @@
 -- Commas: the loop that counts the , before the ) that ends some places.
 --
---   deeper_out, deeper_close, deeper_more, deeper_same     in how many parentheses what stands behind a token is
---   deeper_few                   in one more at most
---   term-name, term_open, term-variable     whether a term may begin with a token
---   comma-deep, comma-other, comma-one, comma_none, comma-small     whether a token counts; once at most
+--   deeper_few                   what stands behind a token is in one parenthesis more at most
+--   comma-small                  a token counts once at most
 --   here b s                     the lexemes from the offset s on, where a token begins there or the text ends
 --   commas_begin, commas_turn, commas_stop, commas_end     the loop: its beginning, a turn, the mark that ends it, and the end of the text
 --   next_start                   the next token begins further on
 --
 use mathlib.Core.Path.{◌≡◌, refl, sym, ap, ap₂, ◌∙◌}
-use mathlib.Core.Bool.{Bool, true, false, ◌||◌, ◌&&◌, cond, and-false}
+use mathlib.Core.Bool.{Bool, true, false, ◌&&◌, cond, and-false}
 use mathlib.Core.List.{List, [], ◌∷◌}
 use Prim.Native.Nat.{ℕ, zero, suc, ◌+◌, ◌-◌, ◌<◌, ◌≤◌}
 use native.Mathlib.Omega.{arith}
 use lib.Dec.{eqb}
 use lib.ListN.{length, drop, length-drop}
-use borrow.Author.Tests.{eq-eqb, ne_eqb, lt-ltb, le-ltb}
+use borrow.Author.Tests.{ne_eqb, lt-ltb, le-ltb}
 use Rattle.wire.proofs.Cond.{cond_true, cond_false, choice}
 use Rattle.texts.specs.Lexemes.{Token, Lexeme, blanks, token_size, lexemes_from, token_at}
-use Rattle.texts.specs.Names.{same, opened, mark, opening, comma, closing, colon, is_identifier, is_variable}
+use Rattle.texts.specs.Names.{same, mark, opening, comma, closing, colon}
 use Rattle.texts.specs.Complaints.{begins_term, first_token, commas_in}
 use Rattle.texts.proofs.Scanning.{token_some, token_none, lexemes_after, lexemes-first, same-exact}
 use Rattle.dues.specs.Parts.{deeper_at, comma_at}
 
 module _ (d : ℕ) (u : Token) where
-  module _ {z : Bool} (g : z ≡ same u (mark colon)) where
-    pub deeper_out : z ≡ true → 0 ≡ deeper_at d u
-    deeper_out h = sym (cond_true _ _ _ (sym g ∙ h))
-
-    module _ (y : z ≡ false) {c : Bool} (e : c ≡ same u (mark closing)) where
-      pub deeper_close : c ≡ true → d - 1 ≡ deeper_at d u
-      deeper_close h = sym (cond_false _ _ _ (sym g ∙ y) ∙ cond_true _ _ _ (sym e ∙ h))
-
-      module _ (h : c ≡ false) {o : Bool} (f : o ≡ same u (mark opening)) where
-        pub deeper_more : o ≡ true → d + 1 ≡ deeper_at d u
-        deeper_more k = sym (cond_false _ _ _ (sym g ∙ y) ∙ cond_false _ _ _ (sym e ∙ h) ∙ cond_true _ _ _ (sym f ∙ k))
-
-        pub deeper_same : o ≡ false → d ≡ deeper_at d u
-        deeper_same k = sym (cond_false _ _ _ (sym g ∙ y) ∙ cond_false _ _ _ (sym e ∙ h) ∙ cond_false _ _ _ (sym f ∙ k))
-
   pub deeper_few : deeper_at d u ≤ d + 1
   deeper_few =
       choice (λ n. n ≤ d + 1) (same u (mark colon)) 0 (cond (same u (mark closing)) (d - 1) (cond (same u (mark opening)) (d + 1) d)) (λ g. omega arith)
       (λ g. choice (λ n. n ≤ d + 1) (same u (mark closing)) (d - 1) (cond (same u (mark opening)) (d + 1) d) (λ e. omega arith)
       (λ e. choice (λ n. n ≤ d + 1) (same u (mark opening)) (d + 1) d (λ f. omega arith) (λ f. omega arith)))
 
-module _ (u : Token) {i : Bool} (e : i ≡ is_identifier u) where
-  pub term-name : i ≡ true → true ≡ begins_term u
-  term-name h = sym (ap (λ t. t || (same u opened || is_variable u)) (sym e ∙ h))
-
-  module _ (h : i ≡ false) {o : Bool} (f : o ≡ same u opened) where
-    pub term_open : o ≡ true → true ≡ begins_term u
-    term_open k = sym (ap₂ (λ s t. s || (t || is_variable u)) (sym e ∙ h) (sym f ∙ k))
-
-    pub term-variable : o ≡ false → {v : Bool} → v ≡ is_variable u → v ≡ begins_term u
-    term-variable k g = g ∙ sym (ap₂ (λ s t. s || (t || is_variable u)) (sym e ∙ h) (sym f ∙ k))
-
 module _ (d : ℕ) (u v : Token) where
-  pub comma-deep : (d ≡ 1 → ⊥) → 0 ≡ comma_at d u v
-  comma-deep h = sym (cond_false {A = ℕ} _ 1 0 (ap (λ t. t && (same u (mark comma) && begins_term v)) (ne_eqb d 1 h)))
-
-  module _ (h : d ≡ 1) {m : Bool} (e : m ≡ same u (mark comma)) where
-    pub comma-other : m ≡ false → 0 ≡ comma_at d u v
-    comma-other k = sym (cond_false {A = ℕ} _ 1 0 (ap₂ (λ s t. s && (t && begins_term v)) (eq-eqb d 1 h) (sym e ∙ k)))
-
-    module _ (k : m ≡ true) {b : Bool} (f : b ≡ begins_term v) where
-      pub comma-one : b ≡ true → 1 ≡ comma_at d u v
-      comma-one g = sym (cond_true {A = ℕ} _ 1 0 (ap₂ (λ s t. s && (t && begins_term v)) (eq-eqb d 1 h) (sym e ∙ k) ∙ sym f ∙ g))
-
-      pub comma_none : b ≡ false → 0 ≡ comma_at d u v
-      comma_none g = sym (cond_false {A = ℕ} _ 1 0 (ap₂ (λ s t. s && (t && begins_term v)) (eq-eqb d 1 h) (sym e ∙ k) ∙ sym f ∙ g))
-
   pub comma-small : comma_at d u v ≤ 1
   comma-small = choice (λ n. n ≤ 1) (eqb d 1 && (same u (mark comma) && begins_term v)) 1 0 (λ e. omega arith) (λ e. omega arith)
 

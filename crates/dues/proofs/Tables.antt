@@ -1,18 +1,17 @@
 -- Tables: what stands at a number of a table, and names and records that are found by it.
 --
 --   mapped_here, mapped_none     an element of a mapped list, and none behind its end
---   name-here, name_none         the name of a number, by the first offsets of a table
+--   name-here                    the name of a number, by the first offsets of a table
 --   counted-here, counted_none   what is computed of each number below n
---   places-few, places-most, places_none     the places that a record says, 8 at most, and 0 behind the last record
+--   places-here, places_none     the places that a record says, 8 at most, and 0 where there is no such word
 --
 use mathlib.Core.Path.{◌≡◌, refl, sym, ap, ◌∙◌}
 use mathlib.Core.List.{List, [], ◌∷◌, map}
-use Prim.Native.Nat.{ℕ, zero, suc, ◌+◌, ◌*◌, ◌<◌, ◌≤◌}
+use Prim.Native.Nat.{ℕ, zero, suc, ◌+◌, ◌*◌, ◌<◌, ◌≤◌, min}
 use native.Mathlib.Omega.{arith}
-use lib.ListN.{length, get_or, take, length-map, length-take, get_or-eq_default}
+use lib.ListN.{length, get_or, take, length-map, get_or-eq_default}
 use Rattle.terms.specs.Lists.{range}
 use Rattle.terms.proofs.Count.{length-range}
-use Rattle.texts.specs.Lexemes.{token_at}
 use Rattle.texts.specs.Names.{name_at}
 use Rattle.texts.specs.Tabled.{names_in, tabled_places}
 
@@ -23,9 +22,6 @@ mapped_here f d (x ∷ l) (suc i) h = mapped_here f d l i (omega arith)
 
 pub mapped_none : {A : Type 0} (f : ℕ → A) (d : A) (l : List ℕ) (i : ℕ) → length l ≤ i → get_or (map f l) i d ≡ d
 mapped_none f d l i h = get_or-eq_default (map f l) d (let e = length-map l f in omega arith)
-
-pub name_none : (text table : List ℕ) (n i : ℕ) → n ≤ i → [] ≡ name_at (names_in text (take n table)) i
-name_none text table n i h = sym (mapped_none (token_at text) [] (take n table) i (let e = length-take n table in omega arith))
 
 pub name-here : (text table : List ℕ) (n i : ℕ) → i < n → name_at (names_in text table) i ≡ name_at (names_in text (take n table)) i
 name-here text table zero i h = absurd (omega arith)
@@ -47,12 +43,13 @@ module _ (f : ℕ → ℕ) (n i : ℕ) where
   pub counted_none : n ≤ i → 0 ≡ get_or (map f (range 0 n)) i 0
   counted_none h = sym (mapped_none f 0 (range 0 n) i (let e = length-range 0 n in omega arith))
 
-module _ (r : List ℕ) (n f : ℕ) (h : f < n) where
-  pub places-few : {p : ℕ} → p ≡ get_or r (10 * f + 1) 0 → p < 8 → p ≡ get_or (map (tabled_places r) (range 0 n)) f 0
-  places-few e k = omega (arith, counted-here (tabled_places r) n f h)
+module _ (r : List ℕ) (n f : ℕ) where
+  pub places-here : f < n → {p : ℕ} → p ≡ min (get_or r (10 * f + 1) 0) 8 → p ≡ get_or (map (tabled_places r) (range 0 n)) f 0
+  places-here h e = e ∙ sym (counted-here (tabled_places r) n f h)
 
-  pub places-most : {p : ℕ} → p ≡ get_or r (10 * f + 1) 0 → 8 ≤ p → 8 ≡ get_or (map (tabled_places r) (range 0 n)) f 0
-  places-most e k = omega (arith, counted-here (tabled_places r) n f h)
-
-  pub places_none : length r ≤ 10 * f → 0 ≡ get_or (map (tabled_places r) (range 0 n)) f 0
-  places_none k = omega (arith, counted-here (tabled_places r) n f h, get_or-eq_default r 0 {n = 10 * f + 1} (omega arith))
+  pub places_none : length r ≡ 960 → min n 96 ≤ f → 0 ≡ get_or (map (tabled_places r) (range 0 n)) f 0
+  places_none k h =
+      let here : f < n → get_or (map (tabled_places r) (range 0 n)) f 0 ≡ min (get_or r (10 * f + 1) 0) 8 = counted-here (tabled_places r) n f in
+      let none : n ≤ f → 0 ≡ get_or (map (tabled_places r) (range 0 n)) f 0 = counted_none (tabled_places r) n f in
+      let past : 96 ≤ f → get_or r (10 * f + 1) 0 ≡ 0 = λ p. get_or-eq_default r 0 {n = 10 * f + 1} (omega arith) in
+      grind arith

@@ -1,19 +1,16 @@
 -- Words: the bytes of a vocabulary, one word after the other.
 --
---   shifted, map-small, map_some     the map of some places as the code makes it, and its size
---   Copied, copied_none, -more, -all, -length     bytes copied one by one
 --   word-put                 the bytes of a word
 --   PutTo k n records f at out     the first f words are written, up to an offset
 --   put_none, put-more, put_all    no word is written, one more is, all are
 --
-use mathlib.Core.Path.{◌≡◌, refl, sym, ap, ap₂, ◌∙◌}
-use mathlib.Core.List.{List, [], ◌∷◌, ◌++◌, map, map-append, append_assoc, append-nil}
-use Prim.Native.Nat.{ℕ, suc, ◌+◌, ◌*◌, ◌%◌, ◌^◌, ◌<◌, ◌≤◌}
-use native.Mathlib.Nat.{one-mul, pow-le-pow_right, one-le-pow, mod-eq_of_lt}
-use native.Mathlib.Numerals.{add-one}
-use native.Mathlib.Omega.{arith}
-use lib.ListN.{length, get_or, set, take, drop, length-set, length-drop, length-map}
-use lib.Seq.{paste, paste-zero, paste-suc, length-paste, take-paste, take-suc-set}
+use Rattle.std.proofs.Common.{◌≡◌, ℕ, ◌+◌, ◌-◌, ◌*◌, ◌<◌, ◌≤◌, suc, List, [], ◌∷◌, ◌++◌, length, get_or, set, take, drop, map, append_assoc, refl, sym, ap, ap₂, ◌∙◌, arith, add-one, length-drop}
+use Rattle.std.proofs.lemmas.List.{length-take-le}
+use Rattle.std.proofs.lemmas.Slice.{take-put_mid}
+use borrow.Rule.Slice.PartMut.{put_mid, same_len_mid}
+use mathlib.Core.List.{map-append, append-nil}
+use lib.ListN.{length-set, length-map}
+use lib.Seq.{take-suc-set}
 use Rattle.terms.specs.Lists.{range}
 use Rattle.terms.proofs.Count.{length-range}
 use Rattle.terms.proofs.Keep.{range-append}
@@ -21,41 +18,6 @@ use Rattle.wire.specs.Vocabulary.{Word, most_words, encode_word, encode_words}
 use Rattle.texts.specs.Lexicon.{gapless_map, most_places}
 use Rattle.texts.specs.Tabled.{record_size, tabled_places, word_in, words_in}
 use Rattle.encoder.specs.Encoded.{table_size, most_encoded, PutWord, Encoded}
-
--- ---- the map of a word
-
-module _ (m : ℕ) (few : m ≤ most_places) where
-  pub map-small : 2 ^ m ≤ 256
-  map-small = pow-le-pow_right {n = 2} (omega arith) few
-
-  pub map_some : 1 ≤ 2 ^ m
-  map_some = one-le-pow m 2 (omega arith)
-
-  pub shifted : (1 * 2 ^ m) % 18446744073709551616 ≡ 2 ^ m
-  shifted = let small = map-small in ap (λ i. i % 18446744073709551616) (one-mul (2 ^ m)) ∙ mod-eq_of_lt (omega arith)
-
--- ---- bytes copied one by one
-
-pub record Copied (source before : List ℕ) (at m j : ℕ) (out : List ℕ) : Type 0 where
-  pub upto : j ≤ m
-  pub same : out ≡ paste before at source j
-
-module _ {source before : List ℕ} {at m : ℕ} where
-  pub copied_none : Copied source before at m 0 before
-  copied_none = record { upto = omega arith; same = paste-zero before at source }
-
-  module _ {j : ℕ} {out : List ℕ} (c : Copied source before at m j out) (enough : m ≤ length source) (room : at + m ≤ length before) where
-    pub copied-length : length out ≡ length before
-    copied-length = let u = c.upto in ap length c.same ∙ length-paste before at source j (omega arith) (omega arith)
-
-    pub copied_more : j < m → {v : ℕ} → v ≡ get_or source j 0 → Copied source before at m (j + 1) (set out (at + j) v)
-    copied_more h {v} e = record {
-      upto = omega arith;
-      same = ap₂ (λ l i. set l (at + j) i) c.same e ∙ paste-suc before at source j 0 (omega arith) (omega arith) ∙ ap (paste before at source) (sym (add-one j));
-    }
-
-    pub copied_all : m ≤ j → out ≡ paste before at source m
-    copied_all h = c.same ∙ ap (paste before at source) (let u = c.upto in let e : j ≡ m = omega arith in e)
 
 -- ---- a word
 
@@ -76,27 +38,26 @@ module _ (records out : List ℕ) (f at : ℕ) (inside : f < most_words) (table 
       ∙ take-suc-set (set out at kind) (at + 1) mask (omega arith)
       ∙ ap (λ l. l ++ (mask ∷ [])) (ap (λ i. take i (set out at kind)) (add-one at) ∙ take-suc-set out at kind (omega arith))
 
-  pub places-few : tabled_places records f ≤ most_places
-  places-few = omega arith
-
-  pub source_room : record_size * f + 2 + tabled_places records f ≤ length records
-  source_room = omega arith
-
-  pub word-put : {m mask : ℕ} {after : List ℕ} → m ≡ tabled_places records f → mask ≡ gapless_map m →
-      after ≡ paste (headed mask) (at + 2) (drop (record_size * f + 2) records) m → PutWord records f at out (at + 2 + m) after
-  word-put {m} {mask} {after} e g h =
-      let few = places-few in
+  pub word-put : {m mask : ℕ} {copied : List ℕ} → m ≡ tabled_places records f → mask ≡ gapless_map m →
+      copied ≡ take (record_size * f + 2 + m - (record_size * f + 2)) (drop (record_size * f + 2) records) →
+      PutWord records f at out (at + 2 + m) (put_mid (at + 2) (at + 2 + m - (at + 2)) (headed mask) copied)
+  word-put {m} {mask} {copied} e g h =
+      let few : m ≤ most_places = omega arith in
       let size = headed_size mask in
       let source = length-drop (record_size * f + 2) records in
+      let is : copied ≡ take m (drop (record_size * f + 2) records) =
+      h ∙ ap (λ n. take n (drop (record_size * f + 2) records)) (let k : record_size * f + 2 + m - (record_size * f + 2) ≡ m = omega arith in k) in
+      let long : length copied ≡ m = ap length is ∙ length-take-le m (drop (record_size * f + 2) records) (omega arith) in
+      let part : length (take (at + 2 + m - (at + 2)) (drop (at + 2) (headed mask))) ≡ at + 2 + m - (at + 2) =
+      length-take-le (at + 2 + m - (at + 2)) (drop (at + 2) (headed mask)) (omega (arith, length-drop (at + 2) (headed mask))) in
       record {
-        size = ap length h ∙ length-paste (headed mask) (at + 2) (drop (record_size * f + 2) records) m (omega arith) (omega arith) ∙ size;
+        size = same_len_mid (at + 2) (at + 2 + m - (at + 2)) (headed mask) copied (omega arith) ∙ size;
         bytes =
-            ap (take (at + 2 + m)) h
-            ∙ take-paste (headed mask) (at + 2) (drop (record_size * f + 2) records) m (omega arith) (omega arith)
-            ∙ ap (λ l. l ++ take m (drop (record_size * f + 2) records)) (headed_take mask)
-            ∙ append_assoc (take at out ++ (kind ∷ [])) (mask ∷ []) (take m (drop (record_size * f + 2) records))
-            ∙ append_assoc (take at out) (kind ∷ []) (mask ∷ take m (drop (record_size * f + 2) records))
-            ∙ ap₂ (λ i j. take at out ++ (kind ∷ i ∷ take j (drop (record_size * f + 2) records))) (g ∙ ap gapless_map e) e;
+            take-put_mid (at + 2) (at + 2 + m - (at + 2)) (headed mask) copied (at + 2 + m) (omega arith) (omega arith)
+            ∙ ap (λ l. l ++ copied) (headed_take mask)
+            ∙ append_assoc (take at out ++ (kind ∷ [])) (mask ∷ []) copied
+            ∙ append_assoc (take at out) (kind ∷ []) (mask ∷ copied)
+            ∙ ap₂ (λ i j. take at out ++ (kind ∷ i ∷ j)) (g ∙ ap gapless_map e) (is ∙ ap (λ j. take j (drop (record_size * f + 2) records)) e);
         short = omega arith;
       }
 

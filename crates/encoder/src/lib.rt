@@ -1,30 +1,11 @@
 // The bytes of a vocabulary that stands in a table of records of ten bytes.
 #![tactic(auto)]
 
-ghost use Rattle.std.specs.Prelude.{◌≡◌, ◌+◌, ◌*◌, ◌<◌, ◌≤◌, length, drop};
-ghost use Rattle.std.proofs.Math.Seq.{paste};
+ghost use Rattle.std.specs.Prelude.{◌≡◌, ◌+◌, ◌<◌, ◌≤◌, length};
 ghost use Rattle.wire.specs.Vocabulary.{most_words};
 ghost use Rattle.texts.specs.Lexicon.{gapless_map, most_places};
-ghost use Rattle.texts.specs.Tabled.{record_size, tabled_places};
-ghost use Rattle.encoder.specs.Encoded.{table_size, most_encoded, PutWord, Encoded};
-
-fn wide(b: u8) -> usize
-    ensures { result ≡ b }
-{
-    b as usize
-}
-
-// How many places a record says, 8 at most.
-fn places(records: &[u8], f: usize) -> usize
-    requires { (f < most_words) × (length records.now ≡ table_size) }
-    ensures { result ≡ tabled_places records.now f }
-{
-    let m = wide(records[10 * f + 1]);
-    if m < 8 {
-        return m;
-    }
-    8
-}
+ghost use Rattle.texts.specs.Tabled.{record_size};
+ghost use Rattle.encoder.specs.Encoded.{PutWord, Encoded};
 
 // The map of m places, counted from 0 without gaps.
 fn full_map(m: usize) -> u8
@@ -34,58 +15,42 @@ fn full_map(m: usize) -> u8
     ((1usize << m) - 1) as u8
 }
 
-// Copies m bytes to an offset.
-fn copy(records: &[u8], from: usize, m: usize, out: &mut [u8], at: usize)
-    requires { (from + m ≤ length records.now) × (at + m ≤ length out.old) }
-    ensures { out.new ≡ paste out.old at (drop from records.now) m }
-{
-    let mut j = 0;
-    while j < m {
-        out[at + j] = records[from + j];
-        j += 1;
-    }
-}
-
-// Writes the word of number f at an offset.
-fn put_word(records: &[u8], f: usize, out: &mut [u8], at: usize) -> usize
-    requires f_lt_most_words { (f < most_words) × (length records.now ≡ table_size) }
-    requires record_size_in_bounds { at + record_size ≤ length out.old }
+// Writes the word of number f at an offset: its kind, its map, and the kinds of its places, 8 at most.
+fn put_word(records: &[u8; 960], f: usize, out: &mut [u8; 962], at: usize) -> usize
+    requires inside { f < most_words }
+    requires room { at + record_size ≤ length out.old }
     ensures { PutWord records.now f at out.old result out.new }
 {
-    let m = places(records, f);
-    out[at] = records[10 * f];
+    let record = 10 * f;
+    let m = usize::from(records[record + 1]).min(8);
+    out[at] = records[record];
     out[at + 1] = full_map(m);
-    copy(records, 10 * f + 2, m, out, at + 2);
+    out[at + 2..at + 2 + m].copy_from_slice(&records[record + 2..record + 2 + m]);
     at + 2 + m
 }
 
-fn put_words(k: u8, n: usize, records: &[u8], out: &mut [u8]) -> usize
-    requires n_le_most_words { (n ≤ most_words) × (length records.now ≡ table_size) }
-    requires out_len { length out.old ≡ most_encoded }
+fn put_words(k: u8, n: usize, records: &[u8; 960], out: &mut [u8; 962]) -> usize
+    requires { n ≤ most_words }
     ensures { Encoded k n records.now result out.new }
 {
     out[0] = k;
     out[1] = n as u8;
     let mut at = 2;
-    let mut f = 0;
-    while f < n {
+    for f in 0..n {
         at = put_word(records, f, out, at);
-        f += 1;
     }
     at
 }
 
 // Writes the bytes of the vocabulary of k kinds and the first n words of the table, and says how many they are. Nothing is written
 // where a count is too large for its byte or the table.
+// Kept: 0 says that nothing is written. The one caller has both counts in range, so an Option would ask it for an arm that never runs.
 pub fn encode(k: usize, n: usize, records: &[u8; 960], out: &mut [u8; 962]) -> usize
     ensures encoded { k < 256 → n ≤ most_words → Encoded k n records.now result out.new }
     ensures upper_bound { result ≤ length out.new }
 {
-    if 255 < k {
-        return 0;
+    match u8::try_from(k) {
+        Ok(k) if n <= 96 => put_words(k, n, records, out),
+        _ => 0,
     }
-    if 96 < n {
-        return 0;
-    }
-    put_words(k as u8, n, records, out)
 }

@@ -17,118 +17,117 @@
 //   answer LABEL: TEXT                            the answer of the program `desk`
 //   gauge LABEL: TEXT                             the same; tells its length and a sum of its bytes
 //
-// A line is printed up to its colon, and then the reply. Every other line is passed over.
-use crate::{desk_line, match_line, notation, report_line, say, slice_line};
+// A line is printed up to its colon, and then the reply. An empty line and one that begins with a number sign are passed over.
+use crate::slice_line::Call;
+use crate::text_line::Detail;
+use crate::{match_line, notation, say, slice_line, text_line};
 use std::io;
 
-// A line's first byte, and a number sign for an empty line.
-fn key(line: &[u8]) -> u8 {
-    if line.len() == 0 {
-        return b'#';
-    }
-    line[0]
+// What the line of a case asks.
+#[derive(Clone, Copy)]
+enum Asked {
+    Vocabulary,
+    Term,
+    Match,
+    Part,
+    Report(Detail),
+    Answer(Detail),
+    Slice(Call),
 }
 
-fn of_report(key: u8) -> bool {
-    if key == b'r' {
-        return true;
-    }
-    key == b'd'
-}
-
-// The line at an offset.
-fn line_at(text: &[u8], at: usize) -> &[u8] {
-    notation::before(notation::between(text, at, text.len()), b'\n')
-}
-
-// Runs the cases of a text.
-pub(crate) fn lines(rt: &impl Print, text: &[u8]) -> io::Result<()> {
-    let mut under = 0;
-    let mut at = 0;
-    while at < text.len() {
-        let size = notation::find(&text[at..], b'\n');
-        if text[at] == b'u' {
-            under = at;
+impl Asked {
+    // Goes by the first byte of the line's first word. What is none of these asks for list.
+    fn by(key: u8) -> Asked {
+        match key {
+            b'v' => Asked::Vocabulary,
+            b't' => Asked::Term,
+            b'm' => Asked::Match,
+            b'p' => Asked::Part,
+            b'r' => Asked::Report(Detail::Whole),
+            b'd' => Asked::Report(Detail::Sum),
+            b'a' => Asked::Answer(Detail::Whole),
+            b'g' => Asked::Answer(Detail::Sum),
+            b's' => Asked::Slice(Call::Sum),
+            b'f' => Asked::Slice(Call::Find),
+            b'b' => Asked::Slice(Call::Book),
+            b'h' => Asked::Slice(Call::Holds),
+            b'w' => Asked::Slice(Call::Write),
+            _ => Asked::Slice(Call::List),
         }
-        line(rt, line_at(text, at), line_at(text, under))?;
-        at += size + 1;
+    }
+}
+
+// What a line gives: its number, the bytes of the vocabulary that it stands under, and the bytes before its slash and
+// behind it.
+#[derive(Clone, Copy)]
+pub(crate) struct Case<'a> {
+    pub(crate) number: usize,
+    pub(crate) vocabulary: &'a [u8],
+    pub(crate) one: &'a [u8],
+    pub(crate) other: &'a [u8],
+}
+
+// Runs the cases of a text. Those before the first vocabulary stand under what the first line has.
+pub(crate) fn lines(rt: &impl Print, text: &[u8]) -> io::Result<()> {
+    let (first, _) = notation::cut(text, b'\n');
+    let (_, mut vocabulary) = notation::cut(first, b':');
+    for line in text.split(|b| *b == b'\n') {
+        let (label, inputs) = notation::cut(line, b':');
+        match line.first() {
+            None | Some(b'#') => {}
+            Some(b'u') => {
+                vocabulary = inputs;
+                rt.write_all(label)?;
+                println!(rt; "")?;
+            }
+            Some(key) => {
+                rt.write_all(label)?;
+                print!(rt; ": ")?;
+                decoded(
+                    rt,
+                    Asked::by(*key),
+                    notation::number(line, b' '),
+                    vocabulary,
+                    inputs,
+                )?;
+            }
+        }
     }
     Ok(())
 }
 
-// Runs the case of a line, with the line that has its vocabulary.
-fn line(rt: &impl Print, line: &[u8], under: &[u8]) -> io::Result<()> {
-    let asked = key(line);
-    if asked == b'#' {
-        return Ok(());
-    }
-    say::text(rt, notation::before(line, b':'))?;
-    if asked == b'u' {
-        return say::fixed(rt, say::END);
-    }
-    say::fixed(rt, say::COLON)?;
-    case(rt, line, notation::onward(under, b':'))
-}
-
-fn case(rt: &impl Print, line: &[u8], vocabulary: &[u8]) -> io::Result<()> {
-    let mut bytes = [0u8; 4097];
-    let n = notation::decode(vocabulary, &mut bytes);
-    under(rt, line, notation::between(&bytes, 0, n))
-}
-
-// The case of a line under a vocabulary. The longest book has a count and 64 patterns of 4,096 bytes.
-fn under(rt: &impl Print, line: &[u8], vocabulary: &[u8]) -> io::Result<()> {
-    let mut bytes = [0u8; 262400];
-    let n = notation::decode(
-        notation::before(notation::onward(line, b':'), b'/'),
-        &mut bytes,
-    );
-    beside(rt, line, vocabulary, notation::between(&bytes, 0, n))
-}
-
-// The same with the bytes before the slash.
-fn beside(rt: &impl Print, line: &[u8], vocabulary: &[u8], one: &[u8]) -> io::Result<()> {
-    let mut bytes = [0u8; 8192];
-    let n = notation::decode(
-        notation::onward(notation::onward(line, b':'), b'/'),
-        &mut bytes,
-    );
-    call(
-        rt,
-        key(line),
-        notation::number(line, b' '),
-        vocabulary,
-        one,
-        notation::between(&bytes, 0, n),
-    )
-}
-
-// Goes by the first byte of a line's first word.
-fn call(
+// Decodes the inputs. The longest book has a count and 64 patterns of 4,096 bytes.
+fn decoded(
     rt: &impl Print,
-    key: u8,
+    asked: Asked,
     number: usize,
     vocabulary: &[u8],
-    one: &[u8],
-    other: &[u8],
+    inputs: &[u8],
 ) -> io::Result<()> {
-    if key == b'v' {
-        return say::vocabulary(rt, one);
+    let mut for_vocabulary = [0u8; 4097];
+    let mut for_one = [0u8; 262400];
+    let mut for_other = [0u8; 8192];
+    let (one, other) = notation::cut(inputs, b'/');
+    let case = Case {
+        number,
+        vocabulary: notation::decode(vocabulary, &mut for_vocabulary),
+        one: notation::decode(one, &mut for_one),
+        other: notation::decode(other, &mut for_other),
+    };
+    call(rt, asked, case)
+}
+
+fn call(rt: &impl Print, asked: Asked, case: Case) -> io::Result<()> {
+    match asked {
+        Asked::Vocabulary => say::vocabulary(rt, case.one),
+        Asked::Term => say::term(rt, case.vocabulary, case.one),
+        Asked::Match => match_line::matched(rt, case),
+        Asked::Part => say::bytes(
+            rt,
+            matcher::part(case.vocabulary, case.one, case.other, case.number),
+        ),
+        Asked::Report(detail) => text_line::printed(rt, detail, case.one),
+        Asked::Answer(detail) => text_line::answered(rt, detail, case.one),
+        Asked::Slice(asked) => slice_line::called(rt, asked, case),
     }
-    if key == b't' {
-        return say::term(rt, vocabulary, one);
-    }
-    if key == b'm' {
-        return match_line::matched(rt, vocabulary, one, other, number);
-    }
-    if key == b'p' {
-        return say::bytes(rt, matcher::part(vocabulary, one, other, number));
-    }
-    if of_report(key) {
-        return report_line::printed(rt, key, one);
-    }
-    if desk_line::asked(key) {
-        return desk_line::answered(rt, key, one);
-    }
-    slice_line::called(rt, key, vocabulary, one, other, number)
 }

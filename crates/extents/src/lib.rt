@@ -1,7 +1,7 @@
 // What stands at an offset of some bytes, and where a term ends, by its bytes alone.
 #![tactic(auto)]
 
-ghost use Rattle.std.specs.Prelude.{◌≡◌, ◌+◌, ◌<◌, ◌≤◌, min, length, drop};
+ghost use Rattle.std.specs.Prelude.{◌≡◌, ◌+◌, ◌<◌, ◌≤◌, length, drop};
 ghost use Rattle.std.specs.Int.Count.{ones};
 ghost use Rattle.wire.specs.EntryCut.{due_size, entry_size};
 ghost use Rattle.maps.specs.Reading.{map_at};
@@ -9,33 +9,19 @@ ghost use Rattle.extents.specs.Bytes.{term_byte, Small};
 ghost use Rattle.extents.specs.Extents.{term_size};
 ghost use Rattle.extents.specs.Nodes.{NodeEnds};
 
-fn least(a: usize, b: usize) -> usize
-    ensures { result ≡ min a b }
-{
-    if a < b { a } else { b }
-}
-
-fn wide(b: u8) -> usize
-    ensures { Small result b }
-{
-    b as usize
-}
-
-// The byte at an offset, 255 where it is missing.
+// The byte at an offset, 255 where it is missing. Kept: the number and not an Option, since the contract cites `term_byte`, on which
+// the walks above rest, and a missing byte is no word there.
 pub fn byte(bytes: &[u8], at: usize) -> usize
     ensures { Small result (term_byte bytes.now at) }
 {
-    if bytes.len() <= at {
-        return 255;
-    }
-    wide(bytes[at])
+    bytes.get(at).map_or(255, |b| usize::from(*b))
 }
 
 // The map at an offset, 0 where a byte of it is missing.
 pub fn map(bytes: &[u8], at: usize) -> usize
     ensures { Small result (map_at bytes.now at) }
 {
-    wide(maps::read(bytes, at))
+    usize::from(maps::read(bytes, at))
 }
 
 // A word with its map, or a byte of 128 or more: the offset behind it, and the map, which has a bit for each term below. It is 0
@@ -52,15 +38,17 @@ fn node_at(bytes: &[u8], at: usize) -> Node
     ensures { NodeEnds bytes.now at result.end result.map }
 {
     let next = at + 1;
-    if bytes[at] < 128 {
-        if next < bytes.len() {
-            let map = maps::read(bytes, next);
-            let end = next + maps::BYTES;
-            return Node { end, map };
-        }
+    if bytes[at] < 128 && next < bytes.len() {
+        return Node {
+            end: next + maps::BYTES,
+            map: maps::read(bytes, next),
+        };
     }
     Node { end: next, map: 0 }
 }
+
+// Below this the bits of the terms that are due can move up by a map.
+const ROOM: u64 = 1 << 56;
 
 // The terms that are due, a bit for each, without the next one: the lowest bit falls.
 fn passed(due: u64) -> u64
@@ -76,6 +64,7 @@ fn pass_terms(bytes: &[u8], from: usize, terms: u64) -> usize
     requires { from ≤ length bytes.now }
     ensures { result ≡ from + due_size (drop from bytes.now) (ones terms) }
 {
+    // Kept: a node takes one byte or two, and those below it more, so no iterator counts the offset, which is the answer.
     let mut at = from;
     let mut due = terms;
     while due != 0 {
@@ -99,6 +88,7 @@ fn pass_terms(bytes: &[u8], from: usize, terms: u64) -> usize
 fn front_size(bytes: &[u8]) -> usize
     ensures { result ≡ due_size bytes.now 1 }
 {
+    // Kept: a node takes one byte or two, so no iterator counts the offset, which is the answer.
     let mut at = 0;
     let mut due = 1u64;
     while at < bytes.len() {
@@ -110,13 +100,13 @@ fn front_size(bytes: &[u8]) -> usize
         at = node.end;
         due = passed(due);
         if map != 0 {
+            let below = map as u64;
             if due % 256 == 0 {
-                due = due + (map as u64);
+                due += below;
+            } else if due < ROOM {
+                due = due * 256 + below;
             } else {
-                if 72057594037927936 <= due {
-                    return pass_terms(bytes, pass_terms(bytes, at, map as u64), due);
-                }
-                due = due * 256 + (map as u64);
+                return pass_terms(bytes, pass_terms(bytes, at, below), due);
             }
         }
     }
@@ -127,16 +117,15 @@ fn front_size(bytes: &[u8]) -> usize
 pub fn term_size(bytes: &[u8]) -> usize
     ensures { result ≡ term_size bytes.now }
 {
-    let end = least(bytes.len(), 65536);
-    front_size(&bytes[..end])
+    front_size(&bytes[..bytes.len().min(65536)])
 }
 
 // How many bytes the entry at the front of a listing takes: its kind, and the term behind it.
 pub fn entry_size(listing: &[u8]) -> usize
     ensures { result ≡ entry_size listing.now }
 {
-    if listing.len() == 0 {
-        return 0;
+    match listing {
+        [] => 0,
+        [_, term @ ..] => 1 + front_size(term),
     }
-    1 + front_size(&listing[1..])
 }

@@ -2,164 +2,133 @@
 // word of the pattern must stand in the situation at its own address, and the parts at the addresses of
 // one name must be the same. Every address is sought from the root on. It takes an accepted pattern and
 // a complete situation of its kind, in which at most eight words stand above one another.
-ghost use Rattle.std.specs.Prelude.{◌≡◌, ◌<◌, length};
+ghost use Rattle.std.specs.Prelude.{◌-◌, length};
+ghost use Rattle.std.specs.Iterator.{at_most};
 
-// Where a term begins: its offset and its address, with 1 for the root and three bits for each place. Of
-// each word above it `left` has the written places that are still to come, eight bits a word.
+// The way down to a term: its address, with 1 for the root and three bits for each place. Of each word above
+// it `left` has the written places that are still to come, eight bits a word.
 #[derive(Clone, Copy)]
-struct Spot {
-    at: usize,
+struct Way {
     address: u64,
     left: u64,
 }
 
-fn root() -> Spot {
-    Spot {
-        at: 1,
-        address: 1,
-        left: 0,
+impl Way {
+    // The lowest place to come of the innermost word that has one; address 0 where none has.
+    fn onward(self) -> Way {
+        if self.left == 0 {
+            return Way {
+                address: 0,
+                left: 0,
+            };
+        }
+        let lowest = self.left.trailing_zeros() % 64;
+        let up = lowest / 8;
+        Way {
+            address: (self.address >> (3 * up + 3) << 3) | u64::from(lowest % 8),
+            left: (self.left & (self.left - 1)) >> (8 * up),
+        }
+    }
+
+    // The first written place of the word that stands here.
+    fn below(self, places: u8) -> Way {
+        let inner = Way {
+            address: self.address << 3,
+            left: (self.left << 8) | u64::from(places),
+        };
+        inner.onward()
     }
 }
 
-// A byte, or 255 behind the end.
-fn byte(t: &[u8], at: usize) -> u8 {
-    if at < t.len() { t[at] } else { 255 }
+// Where a term begins: its offset, its first byte and its address.
+#[derive(Clone, Copy)]
+struct Spot {
+    at: usize,
+    token: u8,
+    address: u64,
 }
 
-fn wide(b: u8) -> u64 {
-    b as u64
+// The spots of a term from its root on, one behind the other.
+#[derive(Drop)]
+struct Spots<'a> {
+    term: &'a [u8],
+    at: usize,
+    way: Way,
 }
 
-// The lowest place to come of the innermost word that has one, at an offset; address 0 where none has.
-fn onward(at: usize, address: u64, left: u64) -> Spot
-    ensures { result.at ≡ at }
-{
-    if left == 0 {
-        return Spot {
-            at: at,
-            address: 0,
+impl<'a> Spots<'a> {
+    fn of(term: &'a [u8]) -> Spots<'a> {
+        let root = Way {
+            address: 1,
             left: 0,
         };
-    }
-    let lowest = u64::trailing_zeros(left) % 64;
-    let up = lowest / 8;
-    Spot {
-        at: at,
-        address: (address >> (3 * up + 3) << 3) | (lowest % 8) as u64,
-        left: (left & (left - 1)) >> (8 * up),
-    }
-}
-
-// The spot behind a spot: a word's first written place, or the next place to come above.
-fn next(t: &[u8], spot: Spot) -> Spot
-    requires { spot.at < length t.now }
-    ensures { spot.at < result.at }
-{
-    let at = spot.at;
-    if 127 < byte(t, at) {
-        return onward(at + 1, spot.address, spot.left);
-    }
-    onward(
-        at + 2,
-        spot.address << 3,
-        (spot.left << 8) | wide(byte(t, at + 1)),
-    )
-}
-
-// The first spot of a term that has an address or a name, or the term's end. No spot has address 0, and no
-// situation a name.
-fn sought(t: &[u8], address: u64, name: u8) -> Spot {
-    let mut here = root();
-    while here.at < t.len() {
-        if here.address == address {
-            return here;
-        }
-        if byte(t, here.at) == name {
-            return here;
-        }
-        here = next(t, here);
-    }
-    here
-}
-
-// Where the part at a spot ends: at the next spot that is not below it.
-fn part_end(s: &[u8], spot: Spot) -> usize {
-    let mut here = spot;
-    while here.at < s.len() {
-        here = next(s, here);
-        if here.address / 8 < spot.address {
-            return here.at;
+        Spots {
+            term,
+            at: 1,
+            way: root,
         }
     }
-    here.at
 }
 
-// The bytes from an offset up to an end.
-pub(crate) fn between(bytes: &[u8], from: usize, to: usize) -> &[u8] {
-    if to <= bytes.len() {
-        if from <= to {
-            return &bytes[from..to];
+impl<'a> Iterator for Spots<'a> {
+    type Item = Spot;
+
+    ghost remaining = { λ s. at_most (length s.term.now - s.at) };
+
+    fn next(&mut self) -> Option<Spot> {
+        let token = *self.term.get(self.at)?;
+        let spot = Spot {
+            at: self.at,
+            token,
+            address: self.way.address,
+        };
+        if token < 128 {
+            let places = self.term.get(self.at + 1).copied().unwrap_or(255);
+            self.way = self.way.below(places);
+            self.at += 2;
+        } else {
+            self.way = self.way.onward();
+            self.at += 1;
         }
+        Some(spot)
     }
-    &bytes[0..0]
 }
 
-// The part of a situation at an address.
-fn part(s: &[u8], address: u64) -> &[u8] {
-    let spot = sought(s, address, 255);
-    between(s, spot.at, part_end(s, spot))
+// The first spot of a name in a pattern.
+fn first(p: &[u8], name: u8) -> Option<Spot> {
+    Spots::of(p).find(|spot| spot.token == name)
 }
 
-fn same(one: &[u8], other: &[u8]) -> bool {
-    if one.len() != other.len() {
-        return false;
-    }
-    let mut i = 0;
-    while i < one.len() {
-        if one[i] != other[i] {
-            return false;
-        }
-        i += 1;
-    }
-    true
+// The offset and the bytes of a situation's part at an address: it ends at the next spot that is not below it.
+fn part(s: &[u8], address: u64) -> Option<(usize, &[u8])> {
+    let mut spots = Spots::of(s);
+    let from = spots.find(|spot| spot.address == address)?.at;
+    let behind = spots.find(|spot| spot.address / 8 < address);
+    let to = behind.map_or(s.len(), |spot| spot.at);
+    Some((from, s.get(from..to)?))
 }
 
 // Whether the word at a spot of the pattern stands in the situation at its address, or the name there has the
 // part of its first occurrence.
 fn agrees(p: &[u8], s: &[u8], spot: Spot) -> bool {
-    let token = byte(p, spot.at);
-    if token < 128 {
-        return byte(s, sought(s, spot.address, 255).at) == token;
+    let Some((_, here)) = part(s, spot.address) else {
+        return false;
+    };
+    if spot.token < 128 {
+        return here.first() == Some(&spot.token);
     }
-    same(part(s, spot.address), part(s, sought(p, 0, token).address))
+    let original = first(p, spot.token).and_then(|spot| part(s, spot.address));
+    original.is_some_and(|(_, bytes)| bytes == here)
 }
 
 // Whether the situation fits the pattern.
 pub(crate) fn fits(p: &[u8], s: &[u8]) -> bool {
-    let mut here = root();
-    while here.at < p.len() {
-        if !agrees(p, s, here) {
-            return false;
-        }
-        here = next(p, here);
-    }
-    true
+    Spots::of(p).all(|spot| agrees(p, s, spot))
 }
 
-// The byte of the name that an index of match's table is for.
-fn name(i: usize) -> u8 {
-    (128 + i / 2 % 64) as u8
-}
-
-// What a yes puts at an index of match's table: the offset of a name's part or its length, and 0 for a name
-// that does not stand in the pattern.
-pub(crate) fn entry(p: &[u8], s: &[u8], i: usize) -> usize {
-    let spot = sought(p, 0, name(i));
-    if p.len() <= spot.at {
-        return 0;
-    }
-    if i % 2 == 0 {
-        return sought(s, spot.address, 255).at;
-    }
-    part(s, spot.address).len()
+// The offset and the length that a yes puts into match's table for a name: both 0 for one that does not stand in
+// the pattern.
+pub(crate) fn span(p: &[u8], s: &[u8], name: u8) -> (usize, usize) {
+    let part = first(p, name).and_then(|spot| part(s, spot.address));
+    part.map_or((0, 0), |(at, bytes)| (at, bytes.len()))
 }

@@ -3,14 +3,17 @@
 // map, a name, or 255. An alphabet has two bytes a token; a name and 255 are the first of them alone.
 ghost use Rattle.std.specs.Prelude.{◌≤◌};
 
-use crate::{addresses, say};
-use matcher::MatchAnswer;
-use reader::TermAnswer;
+use crate::addresses;
+use matcher::MatchRefusal;
 use std::io;
+use std::ops::Add;
+
+// What match's table holds everywhere before it is lent.
+const LENT: u16 = 60000;
 
 // What a family came to: how many yes, no and differences, and of all the tables that a yes filled the sum of
 // the offsets and the sum of the lengths.
-#[derive(Drop)]
+#[derive(Clone, Copy, Default)]
 struct Tally {
     yes: usize,
     no: usize,
@@ -19,282 +22,208 @@ struct Tally {
     lengths: usize,
 }
 
-// The first n bytes of an array.
+impl Add for Tally {
+    type Output = Tally;
+
+    fn add(self, other: Tally) -> Tally {
+        Tally {
+            yes: self.yes.saturating_add(other.yes),
+            no: self.no.saturating_add(other.no),
+            differences: self.differences.saturating_add(other.differences),
+            offsets: self.offsets.saturating_add(other.offsets),
+            lengths: self.lengths.saturating_add(other.lengths),
+        }
+    }
+}
+
+impl Tally {
+    // Counts a pair on which both matchers say yes, with the spans that match's table has.
+    fn with_spans(table: &[u16; 128]) -> Tally {
+        let (spans, _) = table.as_chunks::<2>();
+        spans.iter().fold(
+            Tally {
+                yes: 1,
+                ..Tally::default()
+            },
+            |tally, span| tally.and_span(span),
+        )
+    }
+
+    fn and_span(self, span: &[u16; 2]) -> Tally {
+        let [offset, length] = *span;
+        Tally {
+            offsets: self.offsets.saturating_add(usize::from(offset)),
+            lengths: self.lengths.saturating_add(usize::from(length)),
+            ..self
+        }
+    }
+}
+
+// The bytes of a term that has at most 16.
 #[derive(Clone, Copy)]
 struct Term {
     bytes: [u8; 16],
-    n: usize,
+    len: usize,
+    ghost within: { len ≤ 16 },
 }
 
-// Adds a token of an alphabet to a term.
-fn longer(term: Term, alphabet: &[u8], token: usize) -> Term {
-    let mut bytes = term.bytes;
-    let n = term.n;
-    if alphabet.len() / 2 <= token {
-        return term;
+impl Term {
+    fn bytes(&self) -> &[u8] {
+        &self.bytes[..self.len]
     }
-    if 14 < n {
-        return term;
-    }
-    bytes[n] = alphabet[2 * token];
-    bytes[n + 1] = alphabet[2 * token + 1];
-    Term {
-        bytes: bytes,
-        n: n + size(bytes[n]),
+
+    // Adds a token, if there is room for two bytes more.
+    fn push(&mut self, token: [u8; 2]) {
+        if self.len <= 14 {
+            let [first, map] = token;
+            let n = self.len;
+            self.bytes[n] = first;
+            self.bytes[n + 1] = map;
+            self.len = n + size(first);
+        }
     }
 }
 
 // How many bytes the token that begins with a byte has.
-fn size(byte: u8) -> usize
+fn size(first: u8) -> usize
     ensures { result ≤ 2 }
 {
-    if 127 < byte { 1 } else { 2 }
+    if 127 < first { 1 } else { 2 }
 }
 
-// A kind, and behind it the tokens that the digits of a number stand for, the lowest first: digit 1 is for the
-// first token of the alphabet, and there is no digit 0, so each row of tokens has one number.
-fn spelled(alphabet: &[u8], kind: u8, number: usize) -> Term {
-    let base = alphabet.len() / 2;
-    let mut term = Term {
-        bytes: [kind; 16],
-        n: 1,
-    };
-    let mut rest = number;
-    while 0 < rest {
-        if base == 0 {
-            return term;
-        }
-        term = longer(term, alphabet, (rest - 1) % base);
-        rest = (rest - 1) / base;
+// The tokens of which a family's terms are made, and the most of them that a term has.
+#[derive(Clone, Copy)]
+pub(crate) struct Terms<'a> {
+    pub(crate) kind: u8,
+    pub(crate) alphabet: &'a [u8],
+    pub(crate) most: u32,
+}
+
+impl<'a> Terms<'a> {
+    // How many rows of up to so many tokens there are.
+    fn rows(&self) -> usize {
+        let (tokens, _) = self.alphabet.as_chunks::<2>();
+        (0..self.most).fold(
+            0usize,
+            |rows, _| rows.saturating_add(1).saturating_mul(tokens.len()),
+        )
     }
-    term
+
+    // A kind, and behind it the tokens that the digits of a number stand for, the lowest first: digit 1 is for the
+    // first token of the alphabet, and there is no digit 0, so each row of tokens has one number from 1 on.
+    // Kept: the loop is over a number's digits, so what is left of it shrinks by a division, which no iterator counts.
+    fn spelled(&self, number: usize) -> Term {
+        let (tokens, _) = self.alphabet.as_chunks::<2>();
+        let mut term = Term {
+            bytes: [self.kind; 16],
+            len: 1,
+        };
+        let mut rest = number;
+        while 0 < rest && 0 < tokens.len() {
+            term.push(tokens[(rest - 1) % tokens.len()]);
+            rest = (rest - 1) / tokens.len();
+        }
+        term
+    }
 }
 
 // Whether a term is accepted.
-fn accepted(vocabulary: &[u8], term: Term) -> bool {
-    let bytes = term.bytes;
-    match reader::check_term(vocabulary, addresses::between(&bytes, 0, term.n)) {
-        TermAnswer::Accepted(_, _, _, _) => true,
-        TermAnswer::Vocabulary(_) => false,
-        TermAnswer::Term(_) => false,
-    }
+fn accepted(vocabulary: &[u8], term: &[u8]) -> bool {
+    reader::check_term(vocabulary, term).is_ok()
 }
 
-// How many of the terms of the first so many numbers are accepted.
-fn count(vocabulary: &[u8], kind: u8, alphabet: &[u8], most: usize) -> usize {
-    let mut n = 0;
-    let mut number = 0;
-    while number < most {
-        number += 1;
-        if accepted(vocabulary, spelled(alphabet, kind, number)) {
-            n = plus(n, 1);
-        }
-    }
-    n
+// How many of the terms are accepted.
+fn count(vocabulary: &[u8], terms: Terms) -> usize {
+    (1..=terms.rows())
+        .filter(|number| accepted(vocabulary, terms.spelled(*number).bytes()))
+        .count()
 }
 
-fn plus(a: usize, b: usize) -> usize {
-    if 1000000000 < a {
-        return a;
-    }
-    if 1000000000 < b {
-        return a;
-    }
-    a + b
-}
-
-fn add(one: Tally, other: Tally) -> Tally {
-    Tally {
-        yes: plus(one.yes, other.yes),
-        no: plus(one.no, other.no),
-        differences: plus(one.differences, other.differences),
-        offsets: plus(one.offsets, other.offsets),
-        lengths: plus(one.lengths, other.lengths),
-    }
-}
-
-fn nothing() -> Tally {
-    Tally {
-        yes: 0,
-        no: 0,
-        differences: 0,
-        offsets: 0,
-        lengths: 0,
-    }
-}
-
-fn number(n: u16) -> usize {
-    n as usize
-}
-
-// The sum of every second entry of a table, from its first or its second on.
-fn sum(table: &[u16; 128], from: usize) -> usize {
-    let mut total = 0;
-    let mut i = from;
-    while i < 128 {
-        total = plus(total, number(table[i]));
-        i += 2;
-    }
-    total
-}
-
-fn same_answer(answer: MatchAnswer, fits: bool) -> bool {
+fn same_answer(answer: Result<bool, MatchRefusal>, fits: bool) -> bool {
     match answer {
-        MatchAnswer::Yes => fits,
-        MatchAnswer::No => !fits,
-        MatchAnswer::Inputs(_) => false,
-        MatchAnswer::TableLength => false,
+        Ok(yes) => yes == fits,
+        Err(_) => false,
     }
 }
 
-fn different() -> Tally {
-    Tally {
-        yes: 0,
-        no: 0,
-        differences: 1,
-        offsets: 0,
-        lengths: 0,
-    }
-}
-
-// What the second matcher has at an index of the table: a no leaves what was lent.
-fn expected(p: &[u8], s: &[u8], fits: bool, i: usize) -> usize {
-    if fits {
-        addresses::entry(p, s, i)
-    } else {
-        60000
-    }
-}
-
+// Whether match's table is as the second matcher has it: a no leaves what was lent.
 fn same_table(p: &[u8], s: &[u8], fits: bool, table: &[u16; 128]) -> bool {
-    let mut i = 0;
-    while i < 128 {
-        if number(table[i]) != expected(p, s, fits, i) {
-            return false;
-        }
-        i += 1;
-    }
-    true
-}
-
-fn counted(same_answer: bool, same_table: bool, fits: bool, table: &[u16; 128]) -> Tally {
-    if !same_answer {
-        return different();
-    }
-    if !same_table {
-        return different();
-    }
     if !fits {
-        return Tally {
-            yes: 0,
-            no: 1,
-            differences: 0,
-            offsets: 0,
-            lengths: 0,
-        };
+        return table.iter().all(|entry| *entry == LENT);
     }
-    Tally {
-        yes: 1,
-        no: 0,
-        differences: 0,
-        offsets: sum(table, 0),
-        lengths: sum(table, 1),
-    }
+    let (spans, _) = table.as_chunks::<2>();
+    spans.iter().zip(128..192).all(|(span, name)| (usize::from(span[0]), usize::from(span[1]))
+        == addresses::span(p, s, name))
 }
 
-// Asks both matchers, with a table that holds 60,000 everywhere. They differ where one says yes and the other
-// does not, or an entry of the table differs.
+// Asks both matchers. They differ where one says yes and the other does not, or an entry of the table differs.
 fn compare(vocabulary: &[u8], p: &[u8], s: &[u8]) -> Tally {
-    let mut table = [60000u16; 128];
+    let mut table = [LENT; 128];
     let answer = matcher::match_pattern(vocabulary, p, s, &mut table);
     let fits = addresses::fits(p, s);
-    counted(
-        same_answer(answer, fits),
-        same_table(p, s, fits, &table),
-        fits,
-        &table,
-    )
-}
-
-// Compares on a pattern with a term, if it is accepted.
-fn compare_one(vocabulary: &[u8], pattern: Term, situation: Term) -> Tally {
-    if !accepted(vocabulary, situation) {
-        return nothing();
+    if !same_answer(answer, fits) || !same_table(p, s, fits, &table) {
+        return Tally {
+            differences: 1,
+            ..Tally::default()
+        };
     }
-    let one = pattern.bytes;
-    let other = situation.bytes;
-    compare(
-        vocabulary,
-        addresses::between(&one, 0, pattern.n),
-        addresses::between(&other, 0, situation.n),
-    )
-}
-
-// Compares on a pattern, if it is accepted, with each situation of the first so many numbers.
-fn compare_each(vocabulary: &[u8], kind: u8, pattern: Term, words: &[u8], most: usize) -> Tally {
-    let mut tally = nothing();
-    if !accepted(vocabulary, pattern) {
-        return tally;
+    if fits {
+        return Tally::with_spans(&table);
     }
-    let mut number = 0;
-    while number < most {
-        number += 1;
-        tally = add(
-            tally,
-            compare_one(vocabulary, pattern, spelled(words, kind, number)),
-        );
+    Tally {
+        no: 1,
+        ..Tally::default()
     }
-    tally
 }
 
-// Compares on each pattern of the first p numbers with each situation of the first s.
-fn compare_all(
-    vocabulary: &[u8],
-    kind: u8,
-    tokens: &[u8],
-    p: usize,
-    words: &[u8],
-    s: usize,
-) -> Tally {
-    let mut tally = nothing();
-    let mut number = 0;
-    while number < p {
-        number += 1;
-        tally = add(
-            tally,
-            compare_each(vocabulary, kind, spelled(tokens, kind, number), words, s),
-        );
+// A family: its patterns, and its situations, whose maps are the words' place maps.
+#[derive(Clone, Copy)]
+pub(crate) struct Family<'a> {
+    pub(crate) label: &'a str,
+    pub(crate) vocabulary: &'a [u8],
+    pub(crate) patterns: Terms<'a>,
+    pub(crate) situations: Terms<'a>,
+}
+
+impl<'a> Family<'a> {
+    // Compares on a pattern, if it is accepted, with each accepted situation.
+    fn compare_each(&self, pattern: Term) -> Tally {
+        if !accepted(self.vocabulary, pattern.bytes()) {
+            return Tally::default();
+        }
+        (1..=self.situations.rows())
+            .map(|number| self.situations.spelled(number))
+            .filter(|situation| accepted(self.vocabulary, situation.bytes()))
+            .fold(Tally::default(), |tally, situation| {
+                tally + compare(self.vocabulary, pattern.bytes(), situation.bytes())
+            })
     }
-    tally
-}
 
-fn say_tally(rt: &impl Print, tally: Tally) -> io::Result<()> {
-    say::count(
-        rt,
-        plus(plus(tally.yes, tally.no), tally.differences),
-        say::CASES,
-    )?;
-    say::count(rt, tally.yes, say::YES)?;
-    say::count(rt, tally.no, say::NO)?;
-    say::count(rt, tally.differences, say::DIFFERENCES)?;
-    say::count(rt, tally.offsets, say::LENGTHS)?;
-    say::count(rt, tally.lengths, say::END)
-}
+    // Compares on each pattern.
+    fn compare_all(&self) -> Tally {
+        (1..=self.patterns.rows())
+            .map(|number| self.patterns.spelled(number))
+            .fold(
+                Tally::default(),
+                |tally, pattern| tally + self.compare_each(pattern),
+            )
+    }
 
-// Runs a family and prints its line. Patterns are those of the first p numbers in the first alphabet, situations
-// those of the first s in the second, whose maps are the words' place maps.
-pub(crate) fn family(
-    rt: &impl Print,
-    label: usize,
-    vocabulary: &[u8],
-    kind: u8,
-    tokens: &[u8],
-    p: usize,
-    words: &[u8],
-    s: usize,
-) -> io::Result<()> {
-    say::text(rt, label)?;
-    say::count(rt, count(vocabulary, kind, tokens, p), say::PATTERNS)?;
-    say::count(rt, count(vocabulary, kind, words, s), say::SITUATIONS)?;
-    say_tally(rt, compare_all(vocabulary, kind, tokens, p, words, s))
+    // Runs the family and prints its line.
+    pub(crate) fn run(&self, rt: &impl Print) -> io::Result<()> {
+        let label = self.label;
+        let patterns = count(self.vocabulary, self.patterns);
+        let situations = count(self.vocabulary, self.situations);
+        print!(rt; "family, {label}: {patterns} patterns, {situations} situations, ")?;
+        let Tally {
+            yes,
+            no,
+            differences,
+            offsets,
+            lengths,
+        } = self.compare_all();
+        let cases = yes.saturating_add(no).saturating_add(differences);
+        print!(rt; "{cases} cases, {yes} yes, {no} no, {differences} differences, ")?;
+        println!(rt; "offsets {offsets}, lengths {lengths}")
+    }
 }

@@ -5,7 +5,6 @@
 mod addresses;
 mod family;
 mod family_cases;
-mod say;
 
 use std::io;
 

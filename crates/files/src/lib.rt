@@ -5,15 +5,16 @@ ghost use Rattle.std.specs.Prelude.{◌≡◌};
 ghost use Rattle.paragraphs.specs.Paragraphs.{places_table};
 ghost use Rattle.files.specs.Puts.{PutsFile};
 
+use clauses::Glossary;
+use pages::Page;
+
 // How many places each word has.
 fn places_of(records: &[u8; 960]) -> [u8; 96]
     ensures { result ≡ places_table records.now }
 {
     let mut places = [0u8; 96];
-    let mut f: usize = 0;
-    while f < 96 {
-        places[f] = records[10 * f + 1];
-        f += 1;
+    for (f, place) in places.iter_mut().enumerate() {
+        *place = records[10 * f + 1];
     }
     places
 }
@@ -21,49 +22,22 @@ fn places_of(records: &[u8; 960]) -> [u8; 96]
 // Puts the answer for a text of m paragraphs, which stand from an offset of the text on; the tables are those of their vocabulary. Where
 // they are others, nothing is promised.
 pub fn put_file(
-    text: &[u8],
+    glossary: &Glossary<'_>,
     from: usize,
     kinds: &[u16; 16],
     k: usize,
-    words: &[u16; 96],
-    n: usize,
-    records: &[u8; 960],
     m: usize,
-    page: &mut [u8; 1048576],
-) -> usize
-    ensures { PutsFile text.now from kinds.now k words.now n records.now m page.old page.new result }
+    page: &mut Page,
+)
+    ensures { PutsFile glossary.now.text.now from kinds.now k glossary.now.words.now glossary.now.n glossary.now.records.now m page.old.bytes page.old.end page.new.bytes page.new.end }
 {
-    let places = places_of(records);
+    let places = places_of(glossary.records);
     let mut vocabulary = [0u8; 962];
-    let size = encoder::encode(k, n, records, &mut vocabulary);
-    let a = paragraphs::put(
-        text,
-        from,
-        kinds,
-        k,
-        words,
-        n,
-        records,
-        &places,
-        &vocabulary[0..size],
-        m,
-        page,
-    );
-    let b = tails::put_tails(
-        text,
-        from,
-        kinds,
-        k,
-        words,
-        n,
-        records,
-        &places,
-        &vocabulary[0..size],
-        m,
-        page,
-        a,
-    );
-    let c = pages::put(b"# end of ", page, b);
-    let d = pages::put_number(m as u64, page, c);
-    pages::put(b" patterns\n", page, d)
+    let size = encoder::encode(k, glossary.n, glossary.records, &mut vocabulary);
+    let vocabulary = &vocabulary[..size];
+    paragraphs::put(glossary, from, kinds, k, &places, vocabulary, m, page);
+    tails::put_tails(glossary, from, kinds, k, &places, vocabulary, m, page);
+    page.put(b"# end of ");
+    page.put_number(m as u64);
+    page.put(b" patterns\n");
 }

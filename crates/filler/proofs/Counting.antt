@@ -16,6 +16,7 @@ use native.Mathlib.Omega.{arith}
 use lib.Dec.{ltb}
 use lib.ListN.{length, get_or, drop, length-append, drop_of_length-le}
 use borrow.Author.Tests.{lt-ltb, le-ltb}
+use Rattle.std.specs.Prelude.{Some, None}
 use Rattle.terms.proofs.Bools.{or_left, or_right, or_neither}
 use Rattle.wire.specs.Map.{map_bytes}
 use Rattle.wire.specs.TermBytes.{deepest}
@@ -86,19 +87,19 @@ module _ {p starts depths : List ℕ} {reach : ℕ} (a : Measurable p starts dep
   abbrev x : FillInputs
   x = a.ready.inputs
 
-  pub too_long : 4096 < length (filled_bytes x) → 4097 ≡ measured a
+  pub too_long : 4096 < length (filled_bytes x) → None ≡ measured a
   too_long h = sym (cond_true (large x) _ _ (or_left _ _ (lt-ltb 4096 (length (filled_bytes x)) h)))
 
-  pub too_deep_lem : 32 < deepest (filled_term x) → 4097 ≡ measured a
+  pub too_deep_lem : 32 < deepest (filled_term x) → None ≡ measured a
   too_deep_lem h = sym (cond_true (large x) _ _ (or_right (ltb 4096 (length (filled_bytes x))) _ (lt-ltb 32 (deepest (filled_term x)) h)))
 
-  pub fitting : length (filled_bytes x) ≤ 4096 → deepest (filled_term x) ≤ 32 → length (filled_bytes x) ≡ measured a
+  pub fitting : length (filled_bytes x) ≤ 4096 → deepest (filled_term x) ≤ 32 → Some (length (filled_bytes x)) ≡ measured a
   fitting h k =
       sym (cond_false (large x) _ _ (or_neither _ _ (le-ltb 4096 (length (filled_bytes x)) h) (le-ltb 32 (deepest (filled_term x)) k)))
 
   module _ {n i : ℕ} (m : Counted a.ready n i) (k : length p ≤ i) where
-    pub counted-over : 4096 < n → 4097 ≡ measured a
+    pub counted-over : 4096 < n → None ≡ measured a
     counted-over h = too_long (omega (arith, counted-all a.ready m k))
 
-    pub counted-whole : n ≤ 4096 → deepest (filled_term x) ≤ 32 → n ≡ measured a
-    counted-whole h d = counted-all a.ready m k ∙ fitting (omega (arith, counted-all a.ready m k)) d
+    pub counted-whole : n ≤ 4096 → deepest (filled_term x) ≤ 32 → Some n ≡ measured a
+    counted-whole h d = ap Some (counted-all a.ready m k) ∙ fitting (omega (arith, counted-all a.ready m k)) d

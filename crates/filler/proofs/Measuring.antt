@@ -19,6 +19,7 @@ use lib.Dec.{ltb}
 use lib.ListN.{length, get_or, drop, set, replicate, length-set, drop_of_length-le}
 use lib.Seq.{get_or-set_same, get_or-set_other}
 use borrow.Author.Tests.{ltb-true, ltb-false}
+use Rattle.std.specs.Prelude.{Some, None}
 use Rattle.wire.specs.Map.{map_bytes, flags, ones}
 use Rattle.wire.specs.TermBytes.{deepest}
 use Rattle.wire.specs.Filled.{FillInputs, filled_term}
@@ -97,10 +98,10 @@ module _ {p starts depths : List ℕ} {reach : ℕ} (a : Measurable p starts dep
 
   module _ {due : List ℕ} {depth left n i : ℕ} (m : Measuring a due depth left n i) where
     -- Behind the last byte.
-    pub measuring_long : length p ≤ i → 4096 < n → 4097 ≡ measured a
+    pub measuring_long : length p ≤ i → 4096 < n → None ≡ measured a
     measuring_long k h = counted-over a m.counted k h
 
-    pub measuring_all : length p ≤ i → n ≤ 4096 → n ≡ measured a
+    pub measuring_all : length p ≤ i → n ≤ 4096 → Some n ≡ measured a
     measuring_all k h =
         let e = ap (λ l. levels_in given (dues due depth left) (nodes_in 0 l)) (drop_of_length-le p {i = i} k) in
         counted-whole a m.counted k h (omega (arith, m.deep))
@@ -191,10 +192,10 @@ module _ {p starts depths : List ℕ} {reach : ℕ} (a : Measurable p starts dep
         name : ns ≡ name_node (c - 128) ∷ nodes_in 0 (drop (i + 1) p)
         name = pass_name p i inside low high
 
-        pub measuring_large : 4096 < size → 4097 ≡ measured a
+        pub measuring_large : 4096 < size → None ≡ measured a
         measuring_large h = too_long a (counted-large a.ready m.counted inside low high h)
 
-        pub measuring_deep : 32 < depth + get_or depths (c - 128) 0 → 4097 ≡ measured a
+        pub measuring_deep : 32 < depth + get_or depths (c - 128) 0 → None ≡ measured a
         measuring_deep h = too_deep_lem a (omega (arith, m.deep, levels-node some _ (i + 1) name given))
 
         pub measuring_name : size ≤ 4096 → depth + get_or depths (c - 128) 0 ≤ 32 → Measuring a due depth (left - 1) (n + size) (i + 1)

@@ -4,15 +4,11 @@
 --   filled_reach                   the result is no more levels deeper than the pattern than a value has below its root
 --   measurable_reach               what measuring rests on, with that bound
 --   Reaching                       the loop that looks for the deepest value: the first i are looked at
---   reaching_none, reaching_more   it begins, and a turn
---   reaching_all                   behind the last
 --
-use mathlib.Core.Path.{◌≡◌}
 use mathlib.Core.List.{List}
-use Prim.Native.Nat.{ℕ, suc, ◌+◌, ◌-◌, ◌<◌, ◌≤◌, max}
+use Prim.Native.Nat.{ℕ, suc, ◌+◌, ◌-◌, ◌<◌, ◌≤◌}
 use native.Mathlib.Omega.{arith}
 use lib.ListN.{get_or}
-use borrow.Author.Count.{below_more}
 use Rattle.terms.specs.Lists.{All}
 use Rattle.terms.specs.Term.{Term, any, var, app, Terms, nil, cons, as_term, names, names_all}
 use Rattle.terms.specs.Filling.{Binding, value_of}
@@ -71,16 +67,3 @@ pub record Reaching (depths : List ℕ) (most i : ℕ) : Type 0 where
   pub some : 0 < most
   pub low : most < 256
   pub each : (n : ℕ) → n < i → get_or depths n 0 ≤ most
-
-pub reaching_none : (depths : List ℕ) → Reaching depths 1 0
-reaching_none depths = record { some = omega arith; low = omega arith; each = λ n h. absurd (omega arith) }
-
-pub reaching_more : {depths : List ℕ} {most most' i : ℕ} → Reaching depths most i → (most' ≡ max most (get_or depths i 0)) × (most' < 256) → Reaching depths most' (i + 1)
-reaching_more {depths} {most} {most'} {i} r e = record {
-  some = omega (arith, r.some, e.0);
-  low = e.1;
-  each = below_more (λ n. get_or depths n 0 ≤ most') i (λ n h. omega (arith, r.each n h, e.0)) (omega (arith, e.0));
-}
-
-pub reaching_all : {depths : List ℕ} {most i : ℕ} → Reaching depths most i → 64 ≤ i → MostLevels depths most
-reaching_all r k = record { some = r.some; low = r.low; each = λ n low. r.each n (omega arith) }

@@ -4,17 +4,17 @@
 --   Known p b starts depths deep       the same, and the pattern's deepest level is so deep
 --   FillsRead                          reply and slice are those of filling the pattern
 --   Measurable p starts depths reach   the same, of some filling file, and the result is no deeper than reach
---   measured a                         the length of the result with its kind byte; 4,097 where the result passes a limit
+--   measured a                         the length of the result with its kind byte; nothing where the result passes a limit
 --   MostLevels depths r                no value has more levels than r, which is at least 1
 --   Writable p b starts room           the same as Ready, with some depths, and the result has so much room
 --   WritesResult                       the result stands at the front of the lent slice, and what is behind it stays
 --   Puttable b from to out at          b has bytes between these offsets, and out has room for them at the offset `at`
 --   PutsValue                          those bytes stand there, and all others are as before
 --
-use Rattle.std.specs.Prelude.{◌≡◌, cond, List, ◌++◌, ℕ, suc, ◌+◌, ◌-◌, ◌<◌, ◌≤◌, length, get_or, take, drop}
+use Rattle.std.specs.Prelude.{◌≡◌, cond, List, ◌++◌, Option, Some, None, ℕ, ◌+◌, ◌-◌, ◌<◌, ◌≤◌, length, get_or, take, drop}
 use Rattle.slices.specs.Written.{Written}
 use Rattle.wire.specs.Reply.{Reply}
-use Rattle.wire.specs.TermBytes.{name_count, deepest, most_bytes}
+use Rattle.wire.specs.TermBytes.{name_count, deepest}
 use Rattle.wire.specs.Filled.{FillInputs, HoldsFillInputs, filled_term, filled_bytes}
 use Rattle.wire.specs.Effect.{HasEffect}
 use Rattle.wire.specs.FillComputed.{fillable, ValuesIn, large, filled_with}
@@ -38,8 +38,8 @@ pub record Measurable (p starts depths : List ℕ) (reach : ℕ) : Type 0 where
   pub ready : Ready p filling starts depths
   pub within : deepest (filled_term ready.inputs) ≤ reach
 
-abbrev pub measured : {p starts depths : List ℕ} {reach : ℕ} → Measurable p starts depths reach → ℕ
-measured a = cond (large a.ready.inputs) (suc most_bytes) (length (filled_bytes a.ready.inputs))
+abbrev pub measured : {p starts depths : List ℕ} {reach : ℕ} → Measurable p starts depths reach → Option ℕ
+measured a = cond (large a.ready.inputs) None (Some (length (filled_bytes a.ready.inputs)))
 
 pub record MostLevels (depths : List ℕ) (r : ℕ) : Type 0 where
   pub some : 0 < r

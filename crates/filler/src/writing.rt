@@ -24,6 +24,7 @@ pub(crate) fn write(p: &[u8], b: &[u8], starts: &[usize; 65], out: &mut [u8])
     out[0] = p[0];
     let mut n: usize = 1;
     let mut i: usize = 1;
+    // Kept: a step passes a word with its map or one byte, so no iterator counts it.
     while i < p.len() {
         let at = n;
         let c = p[i];
@@ -35,7 +36,7 @@ pub(crate) fn write(p: &[u8], b: &[u8], starts: &[usize; 65], out: &mut [u8])
         } else {
             i += 1;
             if c < 192 {
-                let name = (c as usize) % 64;
+                let name = usize::from(c) % 64;
                 let from = starts[name];
                 let to = starts[name + 1];
                 put_value(b, from, to, out, at);

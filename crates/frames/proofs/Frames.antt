@@ -63,8 +63,8 @@ passed_framed x some near =
     rw e (record { run = f.run ∙ (let one = lowest_falls low bits in omega arith); kinds = f.kinds; written = f.written; places = f.places })
 
 -- Neither the difference nor the sum that `passed` makes wraps.
-pub before-fits : (x y : ℕ) → 0 < run_in x → y < 2 ^ 64 → (y + 1) % 2 ^ 64 ≡ x → y ≡ x - 1
-before-fits x y some fits e = let bits = run_bits x some in omega arith
+pub before-fits : (x : ℕ) → 0 < run_in x → x < 2 ^ 64 → (x + 18446744073709551615) % 2 ^ 64 ≡ x - 1
+before-fits x some fits = let bits = run_bits x some in omega arith
 
 pub passed-fits : (x : ℕ) → places_in x < 256 → (bit_and x (x - 1) + 256) % 2 ^ 64 ≡ bit_and x (x - 1) + 256
 passed-fits x map = let less = and_le_l x (x - 1) in omega arith

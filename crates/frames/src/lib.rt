@@ -1,5 +1,6 @@
 // The places of a word that are due, packed into a number: those that follow each other in a run, a bit for each, the
 // offset in the vocabulary of the first one's kind, and the written map and the place map of those behind the run.
+// Kept: one number a level and no struct of four, which is for speed (docs/SPEED.md, "What was done").
 #![tactic(auto)]
 
 ghost use Rattle.std.specs.Prelude.{◌≡◌, ◌-◌, ◌%◌, ◌<◌, ◌≤◌};
@@ -23,7 +24,7 @@ pub fn written(frame: u64) -> u64
 pub fn passed(frame: u64) -> u64
     ensures { 0 < run_in frame → kinds_in frame < 131072 → places_in frame < 256 → Behind frame result }
 {
-    std::num::wrapping_add_u64(frame & std::num::wrapping_sub_u64(frame, 1), 256)
+    (frame & frame.wrapping_sub(1)).wrapping_add(256)
 }
 
 // The frame with the lowest place of its maps taken off them: it is a run of its own if it is written.
@@ -44,8 +45,8 @@ pub fn advanced(frame: u64) -> u64
 pub fn full(map: u8, offset: u16) -> u64
     ensures { WordFrame result map map offset }
 {
-    let kinds = (offset as u64) + (maps::NODE as u64);
-    (map as u64) + 256 * kinds
+    let kinds = u64::from(offset) + maps::NODE as u64;
+    u64::from(map) + 256 * kinds
 }
 
 // Its places at a written map.
@@ -55,6 +56,6 @@ pub fn of_word(written: u8, map: u8, offset: u16) -> u64
     if written == map {
         return full(map, offset);
     }
-    let kinds = (offset as u64) + (maps::NODE as u64);
-    256 * (kinds + 1048576 * ((written as u64) + 256 * (map as u64)))
+    let kinds = u64::from(offset) + maps::NODE as u64;
+    256 * (kinds + 1048576 * (u64::from(written) + 256 * u64::from(map)))
 }

@@ -8,7 +8,7 @@
 --
 use mathlib.Core.Path.{◌≡◌, refl, sym, ap, ◌∙◌}
 use mathlib.Core.List.{List, [], ◌∷◌, ◌++◌}
-use Prim.Native.Nat.{ℕ, zero, suc, ◌+◌, ◌-◌, ◌<◌, ◌≤◌}
+use Prim.Native.Nat.{ℕ, zero, suc, ◌+◌, ◌<◌, ◌≤◌}
 use native.Mathlib.Omega.{arith}
 use lib.ListN.{length, take, drop, set, length-append, take-append-drop}
 use lib.Seq.{length-take-le, take_at, drop-append-le}
@@ -17,7 +17,7 @@ use Rattle.slices.specs.Written.{Written}
 use Rattle.slices.proofs.Writing.{part, back, written-copied}
 use Rattle.gatherings.specs.Gathering.{Sized, row_in, Appends, Keeps}
 
-module _ (pattern : List ℕ) (n : ℕ) (book : List ℕ) (at : ℕ) (long : n ≤ length pattern) (some : 1 ≤ at) (room : at + n ≤ length book) {ys : List ℕ} (is : ys ≡ copied (take (n - 0) pattern) (part at book)) where
+module _ (pattern : List ℕ) (n : ℕ) (book : List ℕ) (at : ℕ) (long : n ≤ length pattern) (some : 1 ≤ at) (room : at + n ≤ length book) {ys : List ℕ} (is : ys ≡ copied (take n pattern) (part at book)) where
   abbrev both : List ℕ
   both = take at book ++ take n pattern
 
@@ -37,9 +37,8 @@ module _ (pattern : List ℕ) (n : ℕ) (book : List ℕ) (at : ℕ) (long : n �
   written : Written both book (at + length (take n pattern)) (back at book ys)
   written =
       let r = room in
-      let whole : n - 0 ≡ n = omega arith in
       written-copied stood (omega (arith, front-size)) (take n pattern) (omega (arith, front-size, length-take-le n pattern long))
-      (is ∙ ap (λ (i : ℕ). copied (take i pattern) (part at book)) whole)
+      is
 
   pub appended : Appends pattern n book at (back at book ys)
   appended =

@@ -26,7 +26,8 @@ use Rattle.gatherings.specs.Courses.{Courses}
 use Rattle.gatherings.specs.Gathering.{patterns_in, Gathers, OneTo, ReadsOne, Sized, row_in, Keeps, GathersRow, Seals}
 use Rattle.gatherings.specs.declared.Gathered.{Gathered}
 use Rattle.gatherings.specs.declared.One.{One}
-use Rattle.gatherings.specs.declared.One.TheVariants.{Read, Nothing}
+use Rattle.faults.specs.declared.Fault.{Fault}
+use Rattle.std.specs.Prelude.{Result, Ok, Err}
 use Rattle.gatherings.proofs.Appending.{sealed}
 
 row_none : (book : List ℕ) → row_in 1 book ≡ []
@@ -89,23 +90,30 @@ module _ (b : List ℕ) (from : ℕ) (ks : List ℕ) (k : ℕ) (ws : List ℕ) (
         end qs [] many counted bytes = (omega arith, λ few. sym (bytes few ∙ append-nil (row_in size book)))
         end qs (q ∷ others) many counted bytes = absurd (omega arith)
 
-    module _ (more : i < m) (o : List ℕ) {one : One} (read : ReadsOne b at ks k ws n r o one) where
+    module _ (more : i < m) (o : List ℕ) where
       -- A paragraph that stands there is read.
-      pub going-stuck : one ≡ Nothing → GathersRow b from ks k ws n r m s book (record { count = count; size = size })
-      going-stuck none = record {
+      pub going-stuck : (one : Result One Fault) → ((x : One) → one ≡ Ok x → ⊥) → ReadsOne b at ks k ws n r o one → GathersRow b from ks k ws n r m s book (record { count = count; size = size })
+      going-stuck (Ok x) none read = absurd (none x refl)
+      going-stuck (Err x) none read = record {
         sized = h.sized;
         gathers = λ qs many course.
             let rest = h.goes qs many course in
-            never rest.others rest.many rest.course (subst (ReadsOne b at ks k ws n r o) none read);
+            never rest.others rest.many rest.course;
       }
         where
-          never : {A : Type 0} (others : List Paragraph) → length others ≡ m - i → StandFrom at others → ReadsOne b at ks k ws n r o Nothing → A
-          never [] many course reads = absurd (omega arith)
-          never (q ∷ others) many course reads = absurd (reads q course.0 course.1)
+          never : {A : Type 0} (others : List Paragraph) → length others ≡ m - i → StandFrom at others → A
+          never [] many course = absurd (omega arith)
+          never (q ∷ others) many course = absurd (read q course.0 course.1)
 
-      module _ {kind bytes e : ℕ} (is : one ≡ Read kind bytes e) where
-        abbrev reads : ReadsOne b at ks k ws n r o (Read kind bytes e)
-        reads = subst (ReadsOne b at ks k ws n r o) is read
+      module _ {x : One} (reads : ReadsOne b at ks k ws n r o (Ok x)) where
+        abbrev kind : ℕ
+        kind = x.kind
+
+        abbrev bytes : ℕ
+        bytes = x.size
+
+        abbrev e : ℕ
+        e = x.at
 
         pub going-short : bytes ≤ most_bytes
         going-short = reads.0

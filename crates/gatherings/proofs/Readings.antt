@@ -21,33 +21,29 @@ use Rattle.texts.specs.QuestionReading.{read_questions}
 use Rattle.texts.specs.Tabled.{names_in, tabled_vocabulary}
 use Rattle.texts.specs.Answering.{as_paragraph}
 use Rattle.texts.proofs.Course.{paragraph_phrase, paragraph_questions, paragraph_read}
-use Rattle.clauses.specs.declared.Fault.{Fault}
-use Rattle.clauses.specs.Reading.{fault_of}
+use Rattle.faults.specs.declared.Fault.{Fault}
+use Rattle.faults.specs.Reasons.{fault_of}
 use Rattle.phrases.specs.declared.Phrase as phrases-phrase
-use Rattle.phrases.specs.declared.PhraseAnswer.{PhraseAnswer}
-use Rattle.phrases.specs.declared.PhraseAnswer.TheVariants.{Read as IsRead, Bad as NotRead}
-use Rattle.phrases.specs.Phrases.{PhraseTo, ReadsPhrase, PhrasePromise}
-use Rattle.questions.specs.declared.QuestionAnswer.{QuestionAnswer}
-use Rattle.questions.specs.declared.QuestionAnswer.TheVariants.{Read as ReadUpTo, Bad as Refused}
-use Rattle.questions.specs.Asking.{ReadsTo, QuestionsPromise}
+use Rattle.std.specs.Prelude.{Ok, Err}
+use Rattle.phrases.specs.Phrases.{PhraseAnswer, PhraseTo, ReadsPhrase, PhrasePromise}
+use Rattle.questions.specs.Asking.{QuestionAnswer, ReadsTo, QuestionsPromise}
 use Rattle.gatherings.specs.Courses.{Readable}
 use Rattle.gatherings.specs.Gathering.{paragraph_at, OneTo, ReadsOne}
-use Rattle.gatherings.specs.declared.One.TheVariants.{Read, Nothing}
 
 -- ---- what reading a pattern answers
 
 module _ (W : Vocabulary) (b o v : List ℕ) (y : Parsed Phrase) (a : PhraseAnswer) (h : ReadsPhrase W b o v y a) where
-  pub phrase-bad : {x : Fault} → a ≡ NotRead x → y ≡ bad (fault_of x)
-  phrase-bad e = go y (subst (ReadsPhrase W b o v y) e h)
+  pub phrase-bad : {x : Fault} → a ≡ Err x → y ≡ bad (fault_of x)
+  phrase-bad {x} e = go y (subst (ReadsPhrase W b o v y) e h)
     where
-      go : {x : Fault} → (y : Parsed Phrase) → ReadsPhrase W b o v y (NotRead x) → y ≡ bad (fault_of x)
+      go : (y : Parsed Phrase) → ReadsPhrase W b o v y (Err x) → y ≡ bad (fault_of x)
       go (parsed p r) k = absurd k
       go (bad f) k = ap bad k
 
-  pub phrase-read : {x : phrases-phrase.Phrase} → a ≡ IsRead x → (p : Phrase) × (r : List Lexeme) × (y ≡ parsed p r) × PhraseTo W b o v p r x
+  pub phrase-read : {x : phrases-phrase.Phrase} → a ≡ Ok x → (p : Phrase) × (r : List Lexeme) × (y ≡ parsed p r) × PhraseTo W b o v p r x
   phrase-read e = go y (subst (ReadsPhrase W b o v y) e h)
     where
-      go : {x : phrases-phrase.Phrase} → (y : Parsed Phrase) → ReadsPhrase W b o v y (IsRead x) →
+      go : {x : phrases-phrase.Phrase} → (y : Parsed Phrase) → ReadsPhrase W b o v y (Ok x) →
           (p : Phrase) × (r : List Lexeme) × (y ≡ parsed p r) × PhraseTo W b o v p r x
       go (parsed p r) k = (p, r, refl, k)
       go (bad f) k = absurd k
@@ -55,17 +51,17 @@ module _ (W : Vocabulary) (b o v : List ℕ) (y : Parsed Phrase) (a : PhraseAnsw
 -- ---- what reading questions answers
 
 module _ {A : Type 0} (b : List ℕ) (y : Parsed A) (a : QuestionAnswer) (h : ReadsTo b y a) where
-  pub reads-bad : {x : Fault} → a ≡ Refused x → y ≡ bad (fault_of x)
-  reads-bad e = go y (subst (ReadsTo b y) e h)
+  pub reads-bad : {x : Fault} → a ≡ Err x → y ≡ bad (fault_of x)
+  reads-bad {x} e = go y (subst (ReadsTo b y) e h)
     where
-      go : {x : Fault} → (y : Parsed A) → ReadsTo b y (Refused x) → y ≡ bad (fault_of x)
+      go : (y : Parsed A) → ReadsTo b y (Err x) → y ≡ bad (fault_of x)
       go (parsed q r) k = absurd k
       go (bad f) k = ap bad k
 
-  pub reads-well : {e : ℕ} → a ≡ ReadUpTo e → (q : A) × (r : List Lexeme) × (y ≡ parsed q r) × (r ≡ lexemes_from b e) × (e ≤ length b)
+  pub reads-well : {e : ℕ} → a ≡ Ok e → (q : A) × (r : List Lexeme) × (y ≡ parsed q r) × (r ≡ lexemes_from b e) × (e ≤ length b)
   reads-well e = go y (subst (ReadsTo b y) e h)
     where
-      go : {e : ℕ} → (y : Parsed A) → ReadsTo b y (ReadUpTo e) → (q : A) × (r : List Lexeme) × (y ≡ parsed q r) × (r ≡ lexemes_from b e) × (e ≤ length b)
+      go : {e : ℕ} → (y : Parsed A) → ReadsTo b y (Ok e) → (q : A) × (r : List Lexeme) × (y ≡ parsed q r) × (r ≡ lexemes_from b e) × (e ≤ length b)
       go (parsed q r) k = (q, r, refl, k.0, k.1)
       go (bad f) k = absurd k
 
@@ -84,16 +80,16 @@ module _ (b : List ℕ) (at : ℕ) (ks : List ℕ) (k : ℕ) (ws : List ℕ) (n 
   abbrev l : List Lexeme
   l = lexemes_from b at
 
-  faulty : {f : _} → paragraph_at b at ks k ws n r ≡ bad f → ReadsOne b at ks k ws n r o Nothing
-  faulty e q m read = let z : ◌≡◌ {A = ℕ} 0 1 = cc in omega arith
+  faulty : {f : _} (x : Fault) → paragraph_at b at ks k ws n r ≡ bad f → ReadsOne b at ks k ws n r o (Err x)
+  faulty x e q m read = let z : ◌≡◌ {A = ℕ} 0 1 = cc in omega arith
 
-  pub one_none : {x : Fault} → a ≡ NotRead x → ReadsOne b at ks k ws n r o Nothing
+  pub one_none : {x : Fault} → a ≡ Err x → ReadsOne b at ks k ws n r o (Err x)
   one_none {x} e =
-      faulty
+      faulty x
       (paragraph_phrase kinds_named words_named W l (fault_of x)
       (phrase-bad W b o v (read_phrase kinds_named words_named W l) a (says fits.short fits.inside fits.kinds fits.words) e))
 
-  module _ {x : phrases-phrase.Phrase} (e : a ≡ IsRead x) (c : QuestionAnswer) (asks : QuestionsPromise b x.at x.label x.kind ws n r c) where
+  module _ {x : phrases-phrase.Phrase} (e : a ≡ Ok x) (c : QuestionAnswer) (asks : QuestionsPromise b x.at x.label x.kind ws n r c) where
     abbrev phrase : (p : Phrase) × (m : List Lexeme) × (read_phrase kinds_named words_named W l ≡ parsed p m) × PhraseTo W b o v p m x
     phrase = phrase-read W b o v (read_phrase kinds_named words_named W l) a (says fits.short fits.inside fits.kinds fits.words) e
 
@@ -112,11 +108,11 @@ module _ (b : List ℕ) (at : ℕ) (ks : List ℕ) (k : ℕ) (ws : List ℕ) (n 
     asked : ReadsTo b questions c
     asked = asks fits.short phrase.3.inside fits.words k p phrase.3.label phrase.3.kind
 
-    pub one-refused : {f : Fault} → c ≡ Refused f → ReadsOne b at ks k ws n r o Nothing
+    pub one-refused : {f : Fault} → c ≡ Err f → ReadsOne b at ks k ws n r o (Err f)
     one-refused {f} is =
-        faulty (paragraph_questions kinds_named words_named W l between p (fault_of f) first (reads-bad b questions c asked is))
+        faulty f (paragraph_questions kinds_named words_named W l between p (fault_of f) first (reads-bad b questions c asked is))
 
-    pub one-read : {i : ℕ} → c ≡ ReadUpTo i → ReadsOne b at ks k ws n r o (Read x.kind x.size i)
+    pub one-read : {i : ℕ} → c ≡ Ok i → ReadsOne b at ks k ws n r o (Ok (record { kind = x.kind; size = x.size; at = i }))
     one-read {i} is =
         let well = reads-well b questions c asked is in
         let whole = paragraph_read kinds_named words_named W l between well.1 p well.0 first well.2 in

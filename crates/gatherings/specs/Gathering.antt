@@ -6,7 +6,7 @@
 --   paragraph_at, OneTo, ReadsOne, Sized, row_in, Appends, Keeps, GathersRow, Seals     what its parts promise each other; no public
 --                              contract cites them
 --
-use Rattle.std.specs.Prelude.{◌≡◌, List, ◌++◌, ℕ, ◌+◌, ◌*◌, ◌<◌, ◌≤◌, length, take, drop, set}
+use Rattle.std.specs.Prelude.{◌≡◌, List, ◌++◌, ℕ, ◌+◌, ◌*◌, ◌<◌, ◌≤◌, length, take, drop, set, Result, Ok, Err}
 use Rattle.terms.specs.Term.{Term}
 use Rattle.wire.specs.TermBytes.{encode_term, most_bytes}
 use Rattle.wire.specs.BookBytes.{most_patterns, patterns_bytes, encode_book}
@@ -16,10 +16,10 @@ use Rattle.texts.specs.Faults.{Parsed, parsed}
 use Rattle.texts.specs.Together.{of_kind}
 use Rattle.texts.specs.Tabled.{names_in, tabled_vocabulary}
 use Rattle.texts.specs.Answering.{read_paragraph}
+use Rattle.faults.specs.declared.Fault.{Fault}
 use Rattle.gatherings.specs.Courses.{Readable, Courses}
 use Rattle.gatherings.specs.declared.Gathered.{Gathered}
 use Rattle.gatherings.specs.declared.One.{One}
-use Rattle.gatherings.specs.declared.One.TheVariants.{Read, Nothing}
 
 abbrev pub most_book : ℕ
 most_book = 1 + most_bytes * most_patterns
@@ -47,11 +47,11 @@ pub record OneTo (b : List ℕ) (k n : ℕ) (r o : List ℕ) (q : Paragraph) (m 
   pub bytes : take size o ≡ encode_term (tabled_vocabulary k n r) q.phrase.kind q.phrase.term
   pub behind : m ≡ lexemes_from b e
 
-abbrev pub ReadsOne : List ℕ → ℕ → List ℕ → ℕ → List ℕ → ℕ → List ℕ → List ℕ → One → Type 0
-ReadsOne b at ks k ws n r o (Read kind size e) =
-    (size ≤ most_bytes) × (e ≤ length b) ×
-    ((q : Paragraph) (m : List Lexeme) → paragraph_at b at ks k ws n r ≡ parsed q m → OneTo b k n r o q m kind size e)
-ReadsOne b at ks k ws n r o Nothing = (q : Paragraph) (m : List Lexeme) → paragraph_at b at ks k ws n r ≡ parsed q m → ⊥
+abbrev pub ReadsOne : List ℕ → ℕ → List ℕ → ℕ → List ℕ → ℕ → List ℕ → List ℕ → Result One Fault → Type 0
+ReadsOne b at ks k ws n r o (Ok x) =
+    (x.size ≤ most_bytes) × (x.at ≤ length b) ×
+    ((q : Paragraph) (m : List Lexeme) → paragraph_at b at ks k ws n r ≡ parsed q m → OneTo b k n r o q m x.kind x.size x.at)
+ReadsOne b at ks k ws n r o (Err x) = (q : Paragraph) (m : List Lexeme) → paragraph_at b at ks k ws n r ≡ parsed q m → ⊥
 
 -- A book has its count byte, and at most the longest patterns.
 pub record Sized (count size : ℕ) : Type 0 where

@@ -5,21 +5,22 @@ ghost use Rattle.std.specs.Prelude.{◌≡◌, true, false, ◌+◌, ◌<◌, �
 ghost use Rattle.gatherings.specs.Courses.{Readable};
 ghost use Rattle.gatherings.specs.Gathering.{most_book, ReadsOne, Sized, Appends, Keeps, GathersRow, Seals, Gathers};
 
-use phrases::PhraseAnswer;
-use questions::QuestionAnswer;
+use clauses::Glossary;
+use faults::Fault;
 
 // How many patterns there are, and the size of their book.
-#[derive(Drop)]
+#[derive(Clone, Copy)]
 pub struct Gathered {
     pub count: usize,
     pub size: usize,
 }
 
 // The kind and the number of bytes of a paragraph's pattern, and the offset behind the paragraph.
-#[derive(Drop)]
-enum One {
-    Read(usize, usize, usize),
-    Nothing,
+#[derive(Clone, Copy)]
+struct One {
+    kind: usize,
+    size: usize,
+    at: usize,
 }
 
 // Whether a text may be read from an offset on, by the names of k kinds and n words.
@@ -27,58 +28,39 @@ pub fn readable(text: &[u8], at: usize, k: usize, n: usize) -> bool
     ensures readable { result ≡ true → Readable text.now at k n }
     ensures fact { result ≡ false → Readable text.now at k n → ⊥ }
 {
-    if 65535 < text.len() {
-        return false;
-    }
-    if text.len() < at {
-        return false;
-    }
-    if 16 < k {
-        return false;
-    }
-    n <= 96
+    text.len() <= 65535 && at <= text.len() && k <= 16 && n <= 96
 }
 
 // Reads a paragraph, and writes its pattern to the front of out.
 fn read_one(
-    text: &[u8],
+    glossary: &Glossary<'_>,
     at: usize,
     kinds: &[u16; 16],
     k: usize,
-    words: &[u16; 96],
-    n: usize,
-    records: &[u8; 960],
     out: &mut [u8; 4096],
-) -> One
-    requires { Readable text.now at k n }
-    ensures { ReadsOne text.now at kinds.now k words.now n records.now out.new result }
+) -> Result<One, Fault>
+    requires { Readable glossary.now.text.now at k glossary.now.n }
+    ensures { ReadsOne glossary.now.text.now at kinds.now k glossary.now.words.now glossary.now.n glossary.now.records.now out.new result }
 {
     let mut variables = [0u16; 64];
-    match phrases::read_phrase(text, at, kinds, k, words, n, records, out, &mut variables) {
-        PhraseAnswer::Bad(_) => One::Nothing,
-        PhraseAnswer::Read(p) => {
-            let label = p.label;
-            let kind = p.kind;
-            let size = p.size;
-            let behind = p.at;
-            match questions::read_questions(text, behind, label, kind, words, n, records) {
-                QuestionAnswer::Bad(_) => One::Nothing,
-                QuestionAnswer::Read(e) => One::Read(kind, size, e),
-            }
-        }
-    }
+    let p = phrases::read_phrase(glossary, at, kinds, k, out, &mut variables)?;
+    let behind = questions::read_questions(glossary, p.at, p.label, p.kind)?;
+    Ok(One {
+        kind: p.kind,
+        size: p.size,
+        at: behind,
+    })
 }
 
 // Puts the first n bytes of a pattern at an offset of the book.
-fn append(pattern: &[u8], n: usize, book: &mut [u8], at: usize)
-    requires pattern_len { length pattern.now ≡ 4096 }
+fn append(pattern: &[u8; 4096], n: usize, book: &mut [u8], at: usize)
     requires book_len { length book.old ≡ most_book }
     requires n_bound { n ≤ 4096 }
     requires le_at { 1 ≤ at }
     requires n_bound_2 { at + n ≤ most_book }
     ensures { Appends pattern.now n book.old at book.new }
 {
-    slices::copy(&pattern[0..n], &mut book[at..]);
+    slices::copy(&pattern[..n], &mut book[at..]);
 }
 
 // Puts a pattern of kind s behind those that were gathered, where they are fewer than 64, and counts it.
@@ -88,71 +70,55 @@ fn keep(
     pattern: &[u8; 4096],
     n: usize,
     book: &mut [u8; 262145],
-    count: usize,
-    size: usize,
+    so_far: Gathered,
 ) -> Gathered
-    requires sized { Sized count size }
+    requires sized { Sized so_far.count so_far.size }
     requires n_bound { n ≤ 4096 }
-    requires count_bound { count < 18446744073709551615 }
-    ensures { Keeps kind s pattern.now n book.old count size book.new result }
+    requires count_bound { so_far.count < usize.MAX }
+    ensures { Keeps kind s pattern.now n book.old so_far.count so_far.size book.new result }
 {
     if kind != s {
-        return Gathered { count, size };
+        return so_far;
     }
-    if 64 <= count {
-        return Gathered {
-            count: count + 1,
-            size,
-        };
+    let count = so_far.count + 1;
+    if 64 < count {
+        return Gathered { count, ..so_far };
     }
-    append(pattern, n, book, size);
+    append(pattern, n, book, so_far.size);
     Gathered {
-        count: count + 1,
-        size: size + n,
+        count,
+        size: so_far.size + n,
     }
 }
 
 // Gathers the patterns of kind s among m paragraphs behind the book's first byte.
 fn gather_all(
-    text: &[u8],
+    glossary: &Glossary<'_>,
     from: usize,
     kinds: &[u16; 16],
     k: usize,
-    words: &[u16; 96],
-    n: usize,
-    records: &[u8; 960],
     m: usize,
     s: usize,
     book: &mut [u8; 262145],
 ) -> Gathered
-    requires { Readable text.now from k n }
-    ensures { GathersRow text.now from kinds.now k words.now n records.now m s book.new result }
+    requires { Readable glossary.now.text.now from k glossary.now.n }
+    ensures { GathersRow glossary.now.text.now from kinds.now k glossary.now.words.now glossary.now.n glossary.now.records.now m s book.new result }
 {
     let mut out = [0u8; 4096];
-    let mut i = 0;
     let mut at = from;
-    let mut count = 0;
-    let mut size = 1;
-    while i < m {
-        match read_one(text, at, kinds, k, words, n, records, &mut out) {
-            One::Nothing => {
-                return Gathered { count, size };
-            }
-            One::Read(kind, bytes, behind) => {
-                let g = keep(kind, s, &out, bytes, book, count, size);
-                count = g.count;
-                size = g.size;
-                at = behind;
-                i += 1;
-            }
-        }
+    let mut gathered = Gathered { count: 0, size: 1 };
+    for _ in 0..m {
+        let Ok(one) = read_one(glossary, at, kinds, k, &mut out) else {
+            return gathered;
+        };
+        gathered = keep(one.kind, s, &out, one.size, book, gathered);
+        at = one.at;
     }
-    Gathered { count, size }
+    gathered
 }
 
 // Writes how many patterns a book has, where they are not too many.
-fn seal(count: usize, book: &mut [u8])
-    requires { length book.old ≡ most_book }
+fn seal(count: usize, book: &mut [u8; 262145])
     ensures { Seals count book.old book.new }
 {
     if count <= 64 {
@@ -160,28 +126,24 @@ fn seal(count: usize, book: &mut [u8])
     }
 }
 
-// Gathers the patterns of kind s among the m paragraphs that stand from an offset of the text on, by the offsets of the names of k kinds
-// and n words and the words' records: how many they are, and the size of their book at the front of `book`, where they are at most
-// 64. Where a text has more than 65,535 bytes, an offset or a count is out of range, or other paragraphs stand there, the answer means
-// nothing.
+// Gathers the patterns of kind s among the m paragraphs that stand from an offset of the text on, by its glossary and the offsets of the
+// names of k kinds: how many they are, and the size of their book at the front of `book`, where they are at most 64. Where a
+// text has more than 65,535 bytes, an offset or a count is out of range, or other paragraphs stand there, the answer means nothing.
 pub fn gather(
-    text: &[u8],
+    glossary: &Glossary<'_>,
     from: usize,
     kinds: &[u16; 16],
     k: usize,
-    words: &[u16; 96],
-    n: usize,
-    records: &[u8; 960],
     m: usize,
     s: usize,
     book: &mut [u8; 262145],
 ) -> Gathered
-    ensures { Gathers text.now from kinds.now k words.now n records.now m s book.new result }
+    ensures { Gathers glossary.now.text.now from kinds.now k glossary.now.words.now glossary.now.n glossary.now.records.now m s book.new result }
 {
-    if !readable(text, from, k, n) {
+    if !readable(glossary.text, from, k, glossary.n) {
         return Gathered { count: 0, size: 0 };
     }
-    let g = gather_all(text, from, kinds, k, words, n, records, m, s, book);
+    let g = gather_all(glossary, from, kinds, k, m, s, book);
     seal(g.count, book);
     g
 }

@@ -3,16 +3,20 @@
 --   never_accepted         a refusal is no acceptance
 --   judged-refused         where reading the two refuses, judging them refuses so
 --   Taken, taken           both are read, and the situation has no gap
+--   first-apart, first-same    two first bytes compared
 --   judged-other, judged-whole    the reply where both are read, by the kinds
 --
 use mathlib.Core.Path.{◌≡◌, refl, sym, ap, ◌∙◌}
-use mathlib.Core.Bool.{cond}
+use mathlib.Core.Bool.{Bool, true, false, cond, not, true≢false, false≢true}
 use mathlib.Core.List.{List, []}
-use mathlib.Core.Option.{Option, some, none}
+use mathlib.Core.Option as M
+use mathlib.Core.Option.{some, none}
+use Rattle.std.specs.Prelude.{Option, Some, None, slice_get, option_map}
+use Rattle.std.specs.Option.{option_eq}
 use Prim.Native.Nat.{ℕ, ◌<◌}
 use lib.Dec.{eqb}
 use lib.ListN.{length, get_or}
-use borrow.Author.Tests.{eq-eqb, ne_eqb}
+use borrow.Author.Tests.{eqb-true, eq-eqb, ne_eqb}
 use Rattle.wire.specs.Reply.{Reply, accepted, refused, Kinded}
 use Rattle.wire.specs.Vocabulary.{Vocabulary, InOrder}
 use Rattle.wire.specs.TermBytes.{HoldsTerm}
@@ -48,7 +52,7 @@ module _ (why : InputsRefusal) (p s : List ℕ) where
   abbrev a : Reply
   a = inputs_refused why
 
-  by_gap : (W : Vocabulary) (k j : Kinded) (o : Option ℕ) → a ≡ cond (no_gap o) (accepted []) (refused 16 2 (gap_or (length s) o)) →
+  by_gap : (W : Vocabulary) (k j : Kinded) (o : M.Option ℕ) → a ≡ cond (no_gap o) (accepted []) (refused 16 2 (gap_or (length s) o)) →
       a ≡ clear_reply (judged_situation W k (situation_of k.kind j o))
   by_gap W k j none e = absurd (never_accepted why [] e)
   by_gap W k j (some q) e = e
@@ -82,7 +86,7 @@ pub record Taken (v p s : List ℕ) : Type 0 where
 
 module _ (v p s : List ℕ) (lentV : (i : ℕ) → get_or v i 0 < 256) (lentP : (i : ℕ) → get_or p i 0 < 256) (lentS : (i : ℕ) → get_or s i 0 < 256) where
   taken_whole : (W : Vocabulary) → read_vocabulary v ≡ accept W → (k j : Kinded) → checked_term W p ≡ accept k → checked_term W s ≡ accept j →
-      (o : Option ℕ) → first_gap W j.term ≡ o → accepted [] ≡ cond (no_gap o) (accepted []) (refused 16 2 (gap_or (length s) o)) → Taken v p s
+      (o : M.Option ℕ) → first_gap W j.term ≡ o → accepted [] ≡ cond (no_gap o) (accepted []) (refused 16 2 (gap_or (length s) o)) → Taken v p s
   taken_whole W ev k j ep es (some q) h e = absurd (not_accepted 16 2 q [] (sym e))
   taken_whole W ev k j ep es none h e =
       let in_order : InOrder W = ((vocabularies_inverse v W (bytes_of v lentV)).0 ev).in_order in
@@ -116,23 +120,41 @@ module _ (v p s : List ℕ) (lentV : (i : ℕ) → get_or v i 0 < 256) (lentP : 
   pub taken : accepted [] ≡ pair_reply v p s → Taken v p s
   taken e = taken_under (read_vocabulary v) refl e
 
+-- What a comparison of what stands in front of two slices says.
+pub first-apart : {T : Type 0} (byte : T → ℕ) (o q : Option T) → true ≡ not (option_eq (λ x y. eqb (byte x) (byte y)) o q) → option_map byte o ≡ option_map byte q → ⊥
+first-apart byte None None e h = true≢false e
+first-apart byte None (Some y) e h = cc
+first-apart byte (Some x) None e h = cc
+first-apart byte (Some x) (Some y) e h = true≢false (e ∙ ap not (eq-eqb (byte x) (byte y) cc))
+
+pub first-same : {T : Type 0} (byte : T → ℕ) (o q : Option T) → false ≡ not (option_eq (λ x y. eqb (byte x) (byte y)) o q) → option_map byte o ≡ option_map byte q
+first-same byte None None e = refl
+first-same byte None (Some y) e = absurd (false≢true e)
+first-same byte (Some x) None e = absurd (false≢true e)
+first-same byte (Some x) (Some y) e = ap Some (go (eqb (byte x) (byte y)) refl e)
+  where
+    go : (b : Bool) → eqb (byte x) (byte y) ≡ b → false ≡ not b → byte x ≡ byte y
+    go true h e = eqb-true (byte x) (byte y) h
+    go false h e = absurd (false≢true e)
+
 module _ {v p s : List ℕ} (x : Taken v p s) where
-  kind-situation : get_or s 0 0 ≡ x.situation.kind
-  kind-situation = ap (λ l. get_or l 0 0) x.situation_held.written
+  kind-situation : slice_get s 0 ≡ Some x.situation.kind
+  kind-situation = ap (λ l. slice_get l 0) x.situation_held.written
 
-  kind-pattern : get_or p 0 0 ≡ x.pattern.kind
-  kind-pattern = ap (λ l. get_or l 0 0) x.pattern_held.written
+  kind-pattern : slice_get p 0 ≡ Some x.pattern.kind
+  kind-pattern = ap (λ l. slice_get l 0) x.pattern_held.written
 
-  pub judged-other : (get_or s 0 0 ≡ get_or p 0 0 → ⊥) → refused 17 2 0 ≡ clear_reply (judged v p s)
+  pub judged-other : (slice_get s 0 ≡ slice_get p 0 → ⊥) → refused 17 2 0 ≡ clear_reply (judged v p s)
   judged-other d =
       ap (λ r. clear_reply (judged_situation x.vocabulary x.pattern r))
       (sym (cond_false (eqb x.situation.kind x.pattern.kind) (accept (ground x.situation.term)) (refuse 17 0)
-      (ne_eqb x.situation.kind x.pattern.kind (λ e. d (kind-situation ∙ e ∙ sym kind-pattern)))))
+      (ne_eqb x.situation.kind x.pattern.kind (λ e. d (kind-situation ∙ ap Some e ∙ sym kind-pattern)))))
       ∙ ap clear_reply x.same
 
-  pub judged-whole : get_or s 0 0 ≡ get_or p 0 0 → accepted [] ≡ clear_reply (judged v p s)
+  pub judged-whole : slice_get s 0 ≡ slice_get p 0 → accepted [] ≡ clear_reply (judged v p s)
   judged-whole e =
+      let same : Some x.situation.kind ≡ Some x.pattern.kind = sym kind-situation ∙ e ∙ kind-pattern in
       ap (λ r. clear_reply (judged_situation x.vocabulary x.pattern r))
       (sym (cond_true (eqb x.situation.kind x.pattern.kind) (accept (ground x.situation.term)) (refuse 17 0)
-      (eq-eqb x.situation.kind x.pattern.kind (sym kind-situation ∙ e ∙ kind-pattern))))
+      (eq-eqb x.situation.kind x.pattern.kind cc)))
       ∙ ap clear_reply x.same

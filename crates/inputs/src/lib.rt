@@ -1,36 +1,19 @@
 // Document 01's judging of the inputs of match.
 #![tactic(auto)]
 
-ghost use Rattle.std.specs.Prelude.{◌≡◌, get_or};
 ghost use Rattle.inputs.specs.Judged.{InputsJudged};
 
-use reader::{PairAnswer, TermRefusal};
+use reader::{PairRefusal, TermRefusal};
 use signature::VocabularyRefusal;
 
 // Why the inputs of match are refused: document 01, lines 1 to 5 and 7 to 17.
-#[derive(Drop)]
+#[derive(Clone, Copy)]
 pub enum InputsRefusal {
     Vocabulary(VocabularyRefusal),
     Pattern(TermRefusal),
     Situation(TermRefusal),
     Incomplete(usize),
     KindsDiffer,
-}
-
-#[derive(Drop)]
-pub enum InputsAnswer {
-    Clear,
-    Refused(InputsRefusal),
-}
-
-// The kind that stands in front of a term, 0 where nothing does.
-fn kind(t: &[u8]) -> u8
-    ensures { result ≡ get_or t.now 0 0 }
-{
-    if t.len() == 0 {
-        return 0;
-    }
-    t[0]
 }
 
 // Judges the inputs of match: a vocabulary, a pattern and a complete situation of the pattern's kind, in this order. The spans
@@ -41,19 +24,19 @@ pub fn judge(
     situation: &[u8],
     spans: &[u16; 128],
     agreed: bool,
-) -> InputsAnswer
+) -> Result<(), InputsRefusal>
     ensures { InputsJudged vocabulary.now pattern.now situation.now spans.now agreed result }
 {
     match reader::read_pair(vocabulary, pattern, situation, spans, agreed) {
-        PairAnswer::Vocabulary(why) => InputsAnswer::Refused(InputsRefusal::Vocabulary(why)),
-        PairAnswer::First(why) => InputsAnswer::Refused(InputsRefusal::Pattern(why)),
-        PairAnswer::Second(why) => InputsAnswer::Refused(InputsRefusal::Situation(why)),
-        PairAnswer::Incomplete(q) => InputsAnswer::Refused(InputsRefusal::Incomplete(q)),
-        PairAnswer::Read => {
-            if kind(situation) != kind(pattern) {
-                return InputsAnswer::Refused(InputsRefusal::KindsDiffer);
+        Err(PairRefusal::Vocabulary(why)) => Err(InputsRefusal::Vocabulary(why)),
+        Err(PairRefusal::First(why)) => Err(InputsRefusal::Pattern(why)),
+        Err(PairRefusal::Second(why)) => Err(InputsRefusal::Situation(why)),
+        Err(PairRefusal::Incomplete(q)) => Err(InputsRefusal::Incomplete(q)),
+        Ok(()) => {
+            if situation.first() != pattern.first() {
+                return Err(InputsRefusal::KindsDiffer);
             }
-            InputsAnswer::Clear
+            Ok(())
         }
     }
 }

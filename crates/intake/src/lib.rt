@@ -3,27 +3,22 @@
 
 ghost use Rattle.intake.specs.Input.{Comes, Within};
 
+use std::io;
 use std::io::Read;
 
-// How many bytes came, or that some could not be read.
-#[derive(Drop)]
-pub enum Taken {
-    Bytes(usize),
-    Failed,
-}
-
-// Reads until the buffer is full or the input ends. A read that fails is not the end, whatever came before it.
-pub fn take<R: Read>(input: &mut R, buffer: &mut [u8]) -> Taken
+// Reads until the buffer is full or the input ends, and gives how many bytes came. A read that fails is not the end, whatever
+// came before it.
+pub fn take<R: Read>(input: &mut R, buffer: &mut [u8]) -> io::Result<usize>
     ensures within { Within buffer.new result }
     ensures comes { Comes (R.remaining input.old) (R.remaining input.new) buffer.new result }
 {
     let mut n = 0;
+    // Kept: a read brings as many bytes as it likes, so no iterator counts them, and the count is the answer.
     while n < buffer.len() {
-        match input.read(&mut buffer[n..]) {
-            Ok(0) => return Taken::Bytes(n),
-            Ok(more) => n += more,
-            Err(_) => return Taken::Failed,
+        match input.read(&mut buffer[n..])? {
+            0 => break,
+            more => n += more,
         }
     }
-    Taken::Bytes(n)
+    Ok(n)
 }

@@ -1,16 +1,16 @@
 -- Tabling: one table of each word's siblings, from the chains and the tally.
 --
---   Cleared               the counts of a table below an index are 0, its words are 255
---   cleared_none, cleared_turn, cleared_all   how that begins, goes on and ends
+--   cleared               a table with no word: the counts are 0, the words are 255
 --   SiblingsTo            the words below h have their siblings
 --   siblings_none, siblings_turn, siblings-all   how that begins, goes on and ends
 --
 use mathlib.Core.Path.{◌≡◌, sym, ap, ◌∙◌, subst}
-use mathlib.Core.List.{List, []}
+use mathlib.Core.List.{List, [], ◌++◌, append-nil}
 use Prim.Native.Nat.{ℕ, ◌+◌, ◌-◌, ◌<◌, ◌≤◌}
 use native.Mathlib.Decide.{ℕ_discrete}
 use native.Mathlib.Omega.{arith}
-use lib.ListN.{length, get_or, set, replicate, length-set, length-replicate, get_or-replicate}
+use lib.ListN.{length, get_or, set, replicate, length-set, length-append, length-replicate, get_or-append, get_or-replicate}
+use Rattle.std.proofs.lemmas.List.{get_or-append-add}
 use lib.Seq.{get_or-set_same, get_or-set_other}
 use Rattle.wire.specs.Vocabulary.{most_words}
 use Rattle.kinds.specs.Kinds.{kind_in, lowest, others_in, Tallied, Chained, SiblingTable}
@@ -18,43 +18,28 @@ use Rattle.kinds.proofs.Others.{siblings-here}
 
 -- ---- no word
 
-pub record Cleared (table : List ℕ) (i : ℕ) : Type 0 where
-  pub size : length table ≡ 384
-  pub from : 256 ≤ i
-  pub words : (j : ℕ) → j < 256 → get_or table j 0 ≡ 255
-  pub counts : (j : ℕ) → 256 ≤ j → j < i → get_or table j 0 ≡ 0
+abbrev words : List ℕ
+words = replicate 256 255
 
-pub cleared_none : Cleared (replicate 384 255) 256
-cleared_none = record {
-  size = length-replicate {A = ℕ} 384 255;
-  from = omega arith;
-  words = λ j k. get_or-replicate 384 j 255 0 (omega arith);
-  counts = λ j a b. absurd (omega arith);
+-- The counts of a table are 0, its words are 255.
+pub cleared : {ys : List ℕ} → ys ≡ replicate 128 0 → SiblingTable 0 [] (words ++ (ys ++ []))
+cleared {ys} e = record {
+  size = length-append words (ys ++ []) ∙ ap (λ n. length words + n) (ap length (append-nil ys ∙ e) ∙ length-replicate {A = ℕ} 128 0) ∙ ap (λ n. n + 128) (length-replicate {A = ℕ} 256 255);
+  next = λ h k. absurd (omega arith);
+  first = λ h k. absurd (omega arith);
+  many = λ h k. absurd (omega arith);
+  none = λ h a b. (word h (omega arith), (word (128 + h) (omega arith), count h b));
 }
+  where
+    word : (i : ℕ) → i < 256 → get_or (words ++ (ys ++ [])) i 0 ≡ 255
+    word i k = get_or-append words (ys ++ []) 0 i (omega (arith, length-replicate {A = ℕ} 256 255)) ∙ get_or-replicate 256 i 255 0 k
 
-module _ {table : List ℕ} {i : ℕ} (c : Cleared table i) where
-  pub cleared_turn : i < 384 → Cleared (set table i 0) (i + 1)
-  cleared_turn inside =
-      let low = c.from in
-      let size = c.size in
-      record {
-        size = length-set table i 0 ∙ c.size;
-        from = omega arith;
-        words = λ j k. get_or-set_other table i j 0 0 (λ e. omega arith) ∙ c.words j k;
-        counts = λ j a b. elim (ℕ_discrete j i) [ yes e ↦ here j e | no e ↦ get_or-set_other table i j 0 0 e ∙ c.counts j a (omega arith) ];
-      }
-    where
-      here : (j : ℕ) → j ≡ i → get_or (set table i 0) j 0 ≡ 0
-      here j e = ap (λ k. get_or (set table i 0) k 0) e ∙ get_or-set_same table i 0 0 (omega (arith, c.size))
-
-  pub cleared_all : 384 ≤ i → SiblingTable 0 [] table
-  cleared_all done = record {
-    size = c.size;
-    next = λ h k. absurd (omega arith);
-    first = λ h k. absurd (omega arith);
-    many = λ h k. absurd (omega arith);
-    none = λ h a b. (c.words h (omega arith), (c.words (128 + h) (omega arith), c.counts (256 + h) (omega arith) (omega arith)));
-  }
+    count : (i : ℕ) → i < 128 → get_or (words ++ (ys ++ [])) (256 + i) 0 ≡ 0
+    count i k =
+        ap (λ n. get_or (words ++ (ys ++ [])) (n + i) 0) (sym (length-replicate {A = ℕ} 256 255))
+        ∙ get_or-append-add words (ys ++ []) i 0
+        ∙ ap (λ l. get_or l i 0) (append-nil ys ∙ e)
+        ∙ get_or-replicate 128 i 0 0 k
 
 -- ---- word by word
 

@@ -2,9 +2,10 @@
 use mathlib.Core.Path.{◌≡◌, refl, sym, ap, ◌∙◌}
 use mathlib.Core.Bool.{Bool, true, false}
 use mathlib.Core.List.{List, [], ◌∷◌}
-use Prim.Native.Nat.{ℕ, ◌+◌, ◌<◌, ◌≤◌}
+use Prim.Native.Nat.{ℕ, ◌+◌, ◌%◌, ◌<◌, ◌≤◌}
 use native.Mathlib.Omega.{arith}
-use lib.ListN.{length, get_or, set, replicate, length-set, get_or-replicate}
+use lib.ListN.{length, get_or, set, replicate, take, length-set, get_or-replicate}
+use Rattle.std.proofs.lemmas.List.{get_or-take}
 use lib.Seq.{get_or-set_same, get_or-set_other}
 use borrow.Author.Tests.{eqb-true, eqb-false}
 use Rattle.terms.specs.Lists.{range, keep}
@@ -55,3 +56,7 @@ module _ {results counts : List ℕ} {h : ℕ} (t : Tallied h results counts) (k
     size = length-set counts k (get_or counts k 0 + 1) ∙ t.size;
     each = λ j small. next-each j small (has_kind results j h) refl ∙ sym (many-next results j h);
   }
+
+-- A word's kind, as it is read in the front of the table.
+pub kind_front : (n : ℕ) (results : List ℕ) (h : ℕ) → h < n → {k : ℕ} → k ≡ get_or (take n results) h 0 % most_kinds → k ≡ kind_in results h
+kind_front n results h low e = e ∙ ap (λ x. x % most_kinds) (get_or-take n results h 0 low)

@@ -2,8 +2,6 @@
 // An input that cannot be read, or a text that cannot be written whole, is told in a line on the error output.
 #![tactic(auto)]
 
-use intake::Taken;
-
 // Tells in a line what went wrong. Where that cannot be written either, nothing is left to be done.
 fn complain(rt: &impl Eprint, what: &str) {
     let _ = eprintln!(rt; "leftovers: {what}");
@@ -11,13 +9,13 @@ fn complain(rt: &impl Eprint, what: &str) {
 
 fn main(rt: HostRuntime) {
     let mut bytes = [0u8; 65536];
-    let Taken::Bytes(n) = intake::take(&mut rt.stdin(), &mut bytes) else {
+    let Ok(n) = intake::take(&mut rt.stdin(), &mut bytes) else {
         complain(&rt, "the input could not be read");
         return;
     };
     let mut text = [0u8; 524288];
-    let k = report::print(&bytes[0..n], &mut text);
-    if !outlet::deliver(&rt, &text[0..k]) {
+    let k = report::print(&bytes[..n], &mut text);
+    if !outlet::deliver(&rt, &text[..k]) {
         complain(&rt, "the output could not be written whole");
     }
 }

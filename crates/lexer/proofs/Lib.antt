@@ -1,4 +1,3 @@
 -- The proofs that tokens are read as the definitions of texts say.
-pub mod Turns
 pub mod Tokens
-pub mod Looking
+pub mod Places

@@ -31,11 +31,11 @@ use Rattle.lexicon.specs.declared.Stage.{Stage}
 use Rattle.lexicon.specs.declared.Stage.TheVariants.{AtStart}
 use Rattle.lexicon.specs.declared.Stepped.{Stepped}
 use Rattle.lexicon.specs.declared.Stepped.TheVariants.{On, Over, Fails}
-use Rattle.lexicon.specs.declared.LexiconAnswer.{LexiconAnswer}
-use Rattle.lexicon.specs.declared.LexiconAnswer.TheVariants.{Bad}
+use Rattle.std.specs.Prelude.{Err}
+use Rattle.faults.specs.declared.Reason.{Reason}
 use Rattle.lexicon.specs.Rows.{Tables}
 use Rattle.lexicon.specs.Stages.{phase_of, declaring, StepPromise}
-use Rattle.lexicon.specs.Answers.{KindsKnown, ended_of, LexiconPromise}
+use Rattle.lexicon.specs.Answers.{LexiconAnswer, KindsKnown, ended_of, LexiconPromise}
 use Rattle.lexicon.proofs.Whys.{names-length}
 use Rattle.texts.proofs.Fronts.{start, behind_front, front_of, front, behind-inside, end-inside, end-behind}
 use Rattle.lexicon.proofs.Rows.{rows_of, words-rows}
@@ -135,7 +135,7 @@ module _ {b kinds : List ℕ} {k at : ℕ} {p : Stage} {c n : ℕ} {words record
           same = sym (here _ h.same ∙ ap (read_rows K (declaring b p' c' n' words' records')) (behind-inside b end inside));
         }
 
-      pub reading_fails : {why : ℕ} → StepPromise b K p c n s words records words' records' (Fails why) → LexiconPromise b kinds words' records' (Bad why s)
+      pub reading_fails : {why : Reason} → StepPromise b K p c n s words records words' records' (Fails why) → LexiconPromise b kinds words' records' (Err (record { why = why; at = s }))
       reading_fails {why} h = record { same = here _ h.same; fits = tt }
 
       pub reading_over : StepPromise b K p c n s words records words' records' Over → {r : LexiconAnswer} → r ≡ ended_of k n at s →

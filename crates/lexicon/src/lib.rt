@@ -8,12 +8,15 @@ ghost use Rattle.texts.specs.Lexicon.{most_places};
 ghost use Rattle.texts.specs.LexiconReading.{name_why, kind_name_why, place_why};
 ghost use Rattle.texts.specs.Tabled.{names_in};
 ghost use Rattle.texts.specs.Files.{most_text};
+ghost use Rattle.faults.specs.Reasons.{number_of, reason_of};
 ghost use Rattle.lexicon.specs.Rows.{count_last, begun, placed, Tables};
-ghost use Rattle.lexicon.specs.Stages.{on_turn, start_turn, word_turn, behind_word_turn, behind_place_turn, turn_of, stepped_of, stepped_kind, WordPromise, PlacePromise, StepPromise};
+ghost use Rattle.lexicon.specs.Stages.{on_turn, start_turn, word_turn, behind_word_turn, behind_place_turn, turn_of, stepped_of, KindPromise, WordPromise, PlacePromise, StepPromise};
 ghost use Rattle.lexicon.specs.Answers.{KindsKnown, ended_of, LexiconPromise};
 
+use faults::Reason;
+
 // What may come next.
-#[derive(Drop)]
+#[derive(Clone, Copy)]
 enum Stage {
     AtStart,
     // Behind `kind`: its name.
@@ -29,56 +32,53 @@ enum Stage {
     BehindPlaces,
 }
 
-// Why the token at an offset is no name that may stand behind the first n of a table; 0 where it is.
+// Why the token at an offset is no name that may stand behind the first n of a table; None where it is.
 fn name_why(
     text: &[u8],
     at: usize,
     table: &[u16],
     n: usize,
-    due: usize,
-    twice: usize,
-    many: usize,
+    due: Reason,
+    twice: Reason,
+    many: Reason,
     most: usize,
-) -> usize
+) -> Option<Reason>
     requires { n ≤ length table.now }
-    ensures { result ≡ name_why due twice many most (names_in text.now (take n table.now)) (token_at text.now at) }
+    ensures { reason_of result ≡ name_why (number_of due) (number_of twice) (number_of many) most (names_in text.now (take n table.now)) (token_at text.now at) }
 {
     if !lexer::is_identifier(text, at) {
-        return due;
+        return Some(due);
     }
     if 32 < lexer::end(text, at) - at {
-        return 3;
+        return Some(Reason::LongName);
     }
     if lexer::find(text, at, table, n) < n {
-        return twice;
+        return Some(twice);
     }
-    if n < most {
-        return 0;
-    }
-    many
+    if n < most { None } else { Some(many) }
 }
 
-// Why the token at an offset is no kind of a place behind so many others; 0 where it is.
-fn place_why(text: &[u8], at: usize, kinds: &[u16; 16], k: usize, places: usize) -> usize
+// Why the token at an offset is no kind of a place behind so many others; None where it is.
+fn place_why(text: &[u8], at: usize, kinds: &[u16; 16], k: usize, places: usize) -> Option<Reason>
     requires { k ≤ most_kinds }
-    ensures { result ≡ place_why (names_in text.now (take k kinds.now)) places (token_at text.now at) }
+    ensures { reason_of result ≡ place_why (names_in text.now (take k kinds.now)) places (token_at text.now at) }
 {
     if !lexer::is_identifier(text, at) {
-        return 9;
+        return Some(Reason::PlaceDue);
     }
     if 32 < lexer::end(text, at) - at {
-        return 3;
+        return Some(Reason::LongName);
     }
     if lexer::find(text, at, kinds, k) < k {
         if places < 8 {
-            return 0;
+            return None;
         }
-        return 11;
+        return Some(Reason::ManyPlaces);
     }
     if k < 16 {
-        return 10;
+        return Some(Reason::NotDeclared);
     }
-    28
+    Some(Reason::KindBeyond)
 }
 
 // Gathers the names of the kinds, the tokens behind each `kind`, and says how many they are. One that may not follow those
@@ -90,12 +90,14 @@ fn read_names(text: &[u8], kinds: &mut [u16; 16]) -> usize
     *kinds = [0u16; 16];
     let mut k = 0;
     let mut at = 0;
+    // Kept: a step passes a token with the blanks before it, so no iterator counts it, and a name's offset is what is stored.
     while at < text.len() {
         let s = lexer::start(text, at);
         at = lexer::end(text, s);
         if lexer::is_word(text, s, b"kind") {
             let name = lexer::start(text, at);
-            if name_why(text, name, kinds, k, 2, 4, 5, 16) == 0 {
+            let (due, twice, many) = (Reason::KindNameDue, Reason::KindTwice, Reason::ManyKinds);
+            if name_why(text, name, kinds, k, due, twice, many, 16).is_none() {
                 kinds[k] = name as u16;
                 k += 1;
             }
@@ -105,11 +107,12 @@ fn read_names(text: &[u8], kinds: &mut [u16; 16]) -> usize
 }
 
 // What a token leads to, where it is not stored: to another stage, to the end of the vocabulary, or it is wrong.
-#[derive(Drop)]
+// Kept: the vocabulary's end is neither a stage nor a fault, so an Option in a Result would say less than the three names.
+#[derive(Clone, Copy)]
 enum Turn {
     To(Stage),
     Ends,
-    Wrong(usize),
+    Wrong(Reason),
 }
 
 // Where a declaration may end: another begins, or the patterns do.
@@ -129,7 +132,7 @@ fn start_turn(text: &[u8], at: usize) -> Turn
     if lexer::is_word(text, at, b"kind") {
         return Turn::To(Stage::AtKind);
     }
-    Turn::Wrong(1)
+    Turn::Wrong(Reason::KindDue)
 }
 
 // Another word behind the mark, or the end of the declaration.
@@ -162,7 +165,7 @@ fn behind_place_turn(text: &[u8], at: usize) -> Turn
     if lexer::is_mark(text, at, b')') {
         return Turn::To(Stage::BehindPlaces);
     }
-    Turn::Wrong(12)
+    Turn::Wrong(Reason::PlaceEnd)
 }
 
 // What the token at an offset leads to in a stage; one that is to be stored is not looked at.
@@ -182,24 +185,27 @@ fn turn_at(text: &[u8], at: usize, stage: Stage) -> Turn
 }
 
 // Behind a token: the stage and the numbers of kinds and words, or the vocabulary is over, or the token is at fault.
-#[derive(Drop)]
+// Kept: as with Turn, the end of the vocabulary is a third case.
+#[derive(Clone, Copy)]
 enum Stepped {
     On(Stage, usize, usize),
     Over,
-    Fails(usize),
+    Fails(Reason),
 }
 
-// The numbers of kinds and words, and the offset behind the last token; or why and where the text is no vocabulary.
-#[derive(Drop)]
-pub enum LexiconAnswer {
-    Read(usize, usize, usize),
-    Bad(usize, usize),
+// A vocabulary that was read: how many kinds and words it has, and the offset behind its last token.
+#[derive(Clone, Copy)]
+pub struct Counts {
+    pub kinds: usize,
+    pub words: usize,
+    pub at: usize,
 }
 
-fn wide(b: u8) -> usize
-    ensures { result ≡ b }
-{
-    b as usize
+// Why a text begins with no vocabulary, and the offset at which that stands.
+#[derive(Clone, Copy)]
+pub struct Refusal {
+    pub why: Reason,
+    pub at: usize,
 }
 
 // How many places the last of n words has.
@@ -208,9 +214,10 @@ fn places_last(records: &[u8; 960], n: usize) -> usize
     ensures { result ≡ count_last n records.now }
 {
     if n == 0 {
-        return 0;
+        0
+    } else {
+        usize::from(records[10 * (n - 1) + 1])
     }
-    wide(records[10 * (n - 1) + 1])
 }
 
 // Stores the name of a word and begins its record, without places.
@@ -229,19 +236,16 @@ fn last_kind(c: usize) -> u8
     requires { c ≤ most_kinds }
     ensures { result ≡ c - 1 }
 {
-    if c == 0 {
-        return 0;
-    }
-    (c - 1) as u8
+    c.saturating_sub(1) as u8
 }
 
 // The token at an offset is the name of a kind, behind the first c.
 fn step_kind(text: &[u8], at: usize, kinds: &[u16; 16], c: usize, n: usize) -> Stepped
     requires { c ≤ most_kinds }
-    ensures { result ≡ stepped_kind c n (kind_name_why (names_in text.now (take c kinds.now)) (token_at text.now at)) }
+    ensures { KindPromise c n (kind_name_why (names_in text.now (take c kinds.now)) (token_at text.now at)) result }
 {
-    let why = name_why(text, at, kinds, c, 2, 4, 5, 16);
-    if why != 0 {
+    let (due, twice, many) = (Reason::KindNameDue, Reason::KindTwice, Reason::ManyKinds);
+    if let Some(why) = name_why(text, at, kinds, c, due, twice, many, 16) {
         return Stepped::Fails(why);
     }
     Stepped::On(Stage::BehindKind, c + 1, n)
@@ -260,8 +264,8 @@ fn step_word(
     requires tables { Tables n words.old records.old }
     ensures { WordPromise text.now c n at words.old records.old words.new records.new result }
 {
-    let why = name_why(text, at, words, n, 6, 7, 8, 96);
-    if why != 0 {
+    let (due, twice, many) = (Reason::WordDue, Reason::WordTwice, Reason::ManyWords);
+    if let Some(why) = name_why(text, at, words, n, due, twice, many, 96) {
         return Stepped::Fails(why);
     }
     begin_word(last_kind(c), at, words, records, n);
@@ -297,8 +301,7 @@ fn step_place(
     ensures { PlacePromise text.now (names_in text.now (take k kinds.now)) c n at words.now records.old records.new result }
 {
     let m = places_last(records, n);
-    let why = place_why(text, at, kinds, k, m);
-    if why != 0 {
+    if let Some(why) = place_why(text, at, kinds, k, m) {
         return Stepped::Fails(why);
     }
     let kind = lexer::find(text, at, kinds, k) as u8;
@@ -310,8 +313,7 @@ fn step_place(
 fn step_mark(text: &[u8], at: usize, stage: Stage, c: usize, n: usize) -> Stepped
     ensures { result ≡ stepped_of c n (turn_of (token_at text.now at) stage) }
 {
-    let turn = turn_at(text, at, stage);
-    match turn {
+    match turn_at(text, at, stage) {
         Turn::To(next) => Stepped::On(next, c, n),
         Turn::Ends => Stepped::Over,
         Turn::Wrong(why) => Stepped::Fails(why),
@@ -343,13 +345,20 @@ fn step(
 }
 
 // The vocabulary ends before the token at an offset, behind the one that ends at another; it has a word at least.
-fn ended(k: usize, n: usize, end: usize, at: usize) -> LexiconAnswer
+fn ended(k: usize, n: usize, end: usize, at: usize) -> Result<Counts, Refusal>
     ensures { result ≡ ended_of k n end at }
 {
     if n == 0 {
-        return LexiconAnswer::Bad(13, at);
+        return Err(Refusal {
+            why: Reason::NoWords,
+            at,
+        });
     }
-    LexiconAnswer::Read(k, n, end)
+    Ok(Counts {
+        kinds: k,
+        words: n,
+        at: end,
+    })
 }
 
 // Tables without words.
@@ -367,7 +376,7 @@ fn read_rows(
     k: usize,
     words: &mut [u16; 96],
     records: &mut [u8; 960],
-) -> LexiconAnswer
+) -> Result<Counts, Refusal>
     requires text_len_bound { length text.now ≤ most_text }
     requires kinds_known { KindsKnown text.now kinds.now k }
     ensures { LexiconPromise text.now kinds.now words.new records.new result }
@@ -377,10 +386,10 @@ fn read_rows(
     let mut stage = Stage::AtStart;
     let mut c = 0;
     let mut n = 0;
+    // Kept: each token says whether another is read, so no iterator counts them.
     loop {
         let s = lexer::start(text, at);
-        let stepped = step(text, s, kinds, k, stage, c, n, words, records);
-        match stepped {
+        match step(text, s, kinds, k, stage, c, n, words, records) {
             Stepped::On(next, begun, stored) => {
                 at = lexer::end(text, s);
                 stage = next;
@@ -388,7 +397,7 @@ fn read_rows(
                 n = stored;
             }
             Stepped::Over => return ended(k, n, at, s),
-            Stepped::Fails(why) => return LexiconAnswer::Bad(why, s),
+            Stepped::Fails(why) => return Err(Refusal { why, at: s }),
         }
     }
 }
@@ -400,11 +409,14 @@ pub fn read_lexicon(
     kinds: &mut [u16; 16],
     words: &mut [u16; 96],
     records: &mut [u8; 960],
-) -> LexiconAnswer
+) -> Result<Counts, Refusal>
     ensures { length text.now ≤ most_text → LexiconPromise text.now kinds.new words.new records.new result }
 {
     if 65535 < text.len() {
-        return LexiconAnswer::Bad(0, 0);
+        return Err(Refusal {
+            why: Reason::LongText,
+            at: 0,
+        });
     }
     let k = read_names(text, kinds);
     read_rows(text, kinds, k, words, records)

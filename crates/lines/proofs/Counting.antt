@@ -1,66 +1,65 @@
--- Counting: the loops that count bytes of a text, and the one that finds where its last line begins.
+-- Counting: what the definitions of texts count by recursion, as std counts it.
 --
---   tally-more, tally-same, tally-end    a byte counts, it does not, and there is none: for any count of bytes
---   newlines-few, columns-few, line-few  no more is counted than there are bytes
---   follows-low, follows_high            the test of a byte that begins no character
---   start_turn_lem, start-end                the beginning of the last line, byte by byte
+--   line_place              the size of a line: the place of the first end of a line
+--   newlines_count, columns_count      how many ends of lines, and how many characters
+--   columns-few, line-few   no more is counted than there are bytes
+--   start_none, start_behind            where the last line begins: at the beginning, or behind the last end of a line
 --
-use mathlib.Core.Path.{◌≡◌, refl, sym, ap, ap₂, ◌∙◌}
-use mathlib.Core.Bool.{Bool, true, false, not, ◌||◌, cond}
-use mathlib.Core.List.{List, [], ◌∷◌}
-use Prim.Native.Nat.{ℕ, suc, ◌+◌, ◌<◌, ◌≤◌}
-use native.Mathlib.Numerals.{add-one}
-use native.Mathlib.Omega.{arith}
-use lib.Dec.{eqb, ltb}
-use lib.ListN.{length, get_or, drop, drop_of_length-le}
-use borrow.Author.Tests.{ne_eqb, ltb-true, ltb-false, lt-ltb, le-ltb}
-use Rattle.wire.proofs.Cond.{choice}
-use Rattle.texts.specs.Complaints.{newlines, columns, follows, line_start_from, line_size}
-use Rattle.lexer.proofs.Turns.{here}
+use Rattle.std.proofs.Common.{◌≡◌, ℕ, ◌+◌, ◌<◌, ◌≤◌, ◌≢◌, suc, length-drop, sym, Bool, true, false, not, cond, eqb, List, [], ◌∷◌, length, get_or, drop, count_by, All, refl, ap, ◌∙◌, subst, zero, add-one, arith}
+use Rattle.std.specs.List.{position_or_len}
+use Rattle.std.proofs.lemmas.List.{get_or-drop}
+use Rattle.std.proofs.lemmas.List.Elements.{All-head, All-tail, All-from_get_or}
+use Rattle.std.proofs.lemmas.List.Recursion.{is_position_or_len, is_count_by}
+use Rattle.std.proofs.lemmas.List.Sums.{prefix_len-le-length, count_by-le-length}
+use borrow.Author.Tests.{eq-eqb, ne_eqb}
+use Rattle.texts.specs.Complaints.{newlines, columns, follows, line_start_from, line_start, line_size}
 
-module _ (f : List ℕ → ℕ) (l : List ℕ) (i n : ℕ) {m : ℕ} (inv : n + f (drop i l) ≡ m) where
-  pub tally-more : i < length l → f (get_or l i 0 ∷ drop (i + 1) l) ≡ suc (f (drop (i + 1) l)) → n + 1 + f (drop (i + 1) l) ≡ m
-  tally-more h e = let k = ap f (here l i h) in omega arith
+one_more : (n : ℕ) → suc n ≡ 1 + n
+one_more n = omega arith
 
-  pub tally-same : i < length l → f (get_or l i 0 ∷ drop (i + 1) l) ≡ f (drop (i + 1) l) → n + f (drop (i + 1) l) ≡ m
-  tally-same h e = let k = ap f (here l i h) in omega arith
+pub line_place : (l : List ℕ) → line_size l ≡ position_or_len (λ b. eqb b 10) l
+line_place = is_position_or_len line_size (λ b. eqb b 10) refl (λ b l. ap (cond (eqb b 10) 0) (one_more (line_size l)))
 
-  pub tally-end : length l ≤ i → f [] ≡ 0 → n ≡ m
-  tally-end h e = let k = ap f (drop_of_length-le l h) in omega arith
+pub newlines_count : (l : List ℕ) → newlines l ≡ count_by (λ b. eqb b 10) l
+newlines_count = is_count_by newlines (λ b. eqb b 10) refl (λ b l. ap (λ n. cond (eqb b 10) n (newlines l)) (one_more (newlines l)))
 
-few : (f : List ℕ → ℕ) → f [] ≤ 0 → ((b : ℕ) (l : List ℕ) → f (b ∷ l) ≤ suc (f l)) → (l : List ℕ) → f l ≤ length l
-few f none more [] = none
-few f none more (b ∷ l) = let h = few f none more l in omega (arith, more b l)
+turned : (t : Bool) (n : ℕ) → cond t n (suc n) ≡ cond (not t) (1 + n) n
+turned true n = refl
+turned false n = one_more n
 
-pub newlines-few : (l : List ℕ) → newlines l ≤ length l
-newlines-few =
-    few newlines (omega arith) (λ b l. choice (λ n. n ≤ suc (newlines l)) (eqb b 10) (suc (newlines l)) (newlines l) (λ e. omega arith) (λ e. omega arith))
+pub columns_count : (l : List ℕ) → columns l ≡ count_by (λ b. not (follows b)) l
+columns_count = is_count_by columns (λ b. not (follows b)) refl (λ b l. turned (follows b) (columns l))
 
 pub columns-few : (l : List ℕ) → columns l ≤ length l
-columns-few =
-    few columns (omega arith) (λ b l. choice (λ n. n ≤ suc (columns l)) (follows b) (columns l) (suc (columns l)) (λ e. omega arith) (λ e. omega arith))
+columns-few l = omega (arith, columns_count l, count_by-le-length (λ b. not (follows b)) l)
 
 pub line-few : (l : List ℕ) → line_size l ≤ length l
-line-few =
-    few line_size (omega arith) (λ b l. choice (λ n. n ≤ suc (line_size l)) (eqb b 10) 0 (suc (line_size l)) (λ e. omega arith) (λ e. omega arith))
+line-few l = omega (arith, line_place l, prefix_len-le-length (λ b. not (eqb b 10)) l)
 
-module _ (l : List ℕ) (i s : ℕ) {m : ℕ} (inv : line_start_from i s (drop i l) ≡ m) where
-  pub start_turn_lem : i < length l → (t : ℕ) → cond (eqb (get_or l i 0) 10) (i + 1) s ≡ t → line_start_from (i + 1) t (drop (i + 1) l) ≡ m
-  start_turn_lem h t e =
-      ap₂ (λ j u. line_start_from j u (drop (i + 1) l)) (add-one i) (sym e ∙ ap (λ j. cond (eqb (get_or l i 0) 10) j s) (add-one i))
-      ∙ sym (ap (line_start_from i s) (here l i h)) ∙ inv
+start_kept : (l : List ℕ) (at s : ℕ) → All (λ b. b ≢ 10) l → line_start_from at s l ≡ s
+start_kept [] at s h = refl
+start_kept (b ∷ l) at s h =
+    ap (λ t. line_start_from (suc at) (cond t (suc at) s) l) (ne_eqb b 10 (All-head (λ x. x ≢ 10) b l h))
+    ∙ start_kept l (suc at) s (All-tail (λ x. x ≢ 10) b l h)
 
-  pub start-end : length l ≤ i → s ≡ m
-  start-end h = sym (ap (line_start_from i s) (drop_of_length-le l h)) ∙ inv
+pub start_none : (l : List ℕ) → All (λ b. b ≢ 10) l → line_start l ≡ 0
+start_none l = start_kept l 0 0
 
-pub follows-low : (b : ℕ) → b < 128 → eqb b 13 ≡ follows b
-follows-low b h = sym (ap (λ t. not (t || ltb 191 b) || eqb b 13) (lt-ltb b 128 h))
+start_found : (l : List ℕ) (i at s : ℕ) → i < length l → get_or l i 0 ≡ 10 → All (λ b. b ≢ 10) (drop (suc i) l) → line_start_from at s l ≡ at + suc i
+start_found [] i at s h e none = absurd (omega arith)
+start_found (b ∷ l) zero at s h e none =
+    ap (λ t. line_start_from (suc at) (cond t (suc at) s) l) (eq-eqb b 10 e)
+    ∙ start_kept l (suc at) (suc at) none
+    ∙ (let k : suc at ≡ at + suc zero = omega arith in k)
+start_found (b ∷ l) (suc i) at s h e none =
+    start_found l i (suc at) (cond (eqb b 10) (suc at) s) (omega arith) e none
+    ∙ (let k : suc at + suc i ≡ at + suc (suc i) = omega arith in k)
 
-pub follows_high : (b : ℕ) → 128 ≤ b → ltb b 192 ≡ follows b
-follows_high b h = go (ltb b 192) refl
-  where
-    go : (t : Bool) → ltb b 192 ≡ t → t ≡ follows b
-    go true e = let m = ltb-true b 192 e in sym (ap₂ (λ p q. not (p || q) || eqb b 13) (le-ltb b 128 h) (le-ltb 191 b (omega arith)))
-    go false e =
-        let m = ltb-false b 192 e in
-        sym (ap₂ (λ p q. not (p || q) || eqb b 13) (le-ltb b 128 h) (lt-ltb 191 b (omega arith)) ∙ ne_eqb b 13 (λ f. omega arith))
+rest_from_reads : (P : ℕ → Type 0) (l : List ℕ) (i : ℕ) → ((k : ℕ) → i ≤ k → k < length l → P (get_or l k 0)) → All P (drop i l)
+rest_from_reads P l i reads =
+    All-from_get_or P (drop i l) 0 (λ k h. subst P (sym (get_or-drop i l k 0)) (reads (i + k) (omega arith) (let e = length-drop i l in omega arith)))
+
+pub start_behind : (l : List ℕ) (i : ℕ) → i < length l → get_or l i 0 ≡ 10 → ((k : ℕ) → i + 1 ≤ k → k < length l → get_or l k 0 ≢ 10) → line_start l ≡ i + 1
+start_behind l i h e none =
+    start_found l i 0 0 h e (subst (λ n. All (λ b. b ≢ 10) (drop n l)) (add-one i) (rest_from_reads (λ b. b ≢ 10) l (i + 1) none))
+    ∙ (let k : 0 + suc i ≡ i + 1 = omega arith in k)

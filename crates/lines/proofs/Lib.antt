@@ -1,3 +1,3 @@
--- The laws behind the proofs of lines. Counts over a text, and texts kept as lines.
+-- The laws behind the proofs of lines. Counts over a text, and the line of a number.
 pub mod Counting
 pub mod Lines

@@ -1,7 +1,7 @@
 -- Writing: a map is put as the byte at its offset.
 use mathlib.Core.Path.{◌≡◌, sym, ap, ◌∙◌}
 use mathlib.Core.List.{List, ◌∷◌, ◌++◌}
-use Prim.Native.Nat.{ℕ, ◌+◌, ◌≤◌}
+use Prim.Native.Nat.{ℕ, ◌+◌}
 use native.Mathlib.Numerals.{add-one}
 use native.Mathlib.Omega.{arith}
 use lib.Dec.{leb}
@@ -19,6 +19,3 @@ map-set l at m =
     set_split l at m (omega (arith, leb-true (at + map_bytes) (length l) e))
     ∙ ap (λ i. take at l ++ (m ∷ drop i l)) (sym (add-one at)))
     (λ e. set_out l at m (omega (arith, leb-false (at + map_bytes) (length l) e)))
-
-pub no_room : (l : List ℕ) (at m : ℕ) → length l ≤ at → l ≡ map_put m l at
-no_room l at m h = sym (set_out l at m h) ∙ map-set l at m

@@ -16,26 +16,21 @@ pub const NODE: usize = 1 + BYTES;
 pub fn read(bytes: &[u8], at: usize) -> u8
     ensures { result ≡ map_at bytes.now at }
 {
-    if bytes.len() <= at {
-        return 0;
-    }
-    let map = bytes[at];
-    map
+    bytes.get(at).copied().unwrap_or(0)
 }
 
 // How many bits of a map stand. A word has so many places.
 pub fn count(map: u8) -> u32
     ensures { result ≡ ones (flags map) }
 {
-    u8::count_ones(map)
+    map.count_ones()
 }
 
 // Writes a map at an offset. Where a byte of it has no room the bytes are left as they were.
 pub fn write(map: u8, bytes: &mut [u8], at: usize)
     ensures { bytes.new ≡ map_put map bytes.old at }
 {
-    if bytes.len() <= at {
-        return;
+    if at < bytes.len() {
+        bytes[at] = map;
     }
-    bytes[at] = map;
 }

@@ -1,32 +1,21 @@
 // For each subterm of a pattern its size and the number of its entries, noted once.
 #![tactic(auto)]
 
-ghost use Rattle.std.specs.Prelude.{◌≡◌, ◌+◌, ◌*◌, ◌≤◌, ◌<◌, min, length, set};
+ghost use Rattle.std.specs.Prelude.{◌≡◌, ◌+◌, ◌*◌, ◌≤◌, ◌<◌, length, set};
 ghost use Rattle.wire.specs.TermBytes.{most_bytes};
 ghost use Rattle.extents.specs.Bytes.{Small};
 ghost use Rattle.marks.specs.Marking.{mark_scale, sibling_at, head_size, bits_below, mark_term, marked};
 ghost use Rattle.marks.specs.Inside.{most_entries, Notes};
 
-fn least(a: usize, b: usize) -> usize
-    ensures { result ≡ min a b }
-{
-    if a < b { a } else { b }
-}
-
-fn wide(b: u8) -> usize
-    ensures { Small result b }
-{
-    b as usize
-}
-
 // How many other words the result kind of the word f has; 0 for what is no word.
 fn sibling_count(f: usize, siblings: &[u8; 384]) -> usize
     ensures { Small result (sibling_at siblings.now f) }
 {
-    if 127 < f {
-        return 0;
+    if f < 128 {
+        siblings[256 + f] as usize
+    } else {
+        0
     }
-    wide(siblings[256 + f])
 }
 
 // How far the notes have come: the offset behind a term, and its entries.
@@ -51,13 +40,11 @@ fn note(size: usize, entries: usize, at: usize, marks: &mut [u32])
 fn head(term: &[u8], at: usize) -> usize
     ensures { result ≡ head_size term.now at }
 {
-    if term.len() <= at {
-        return 0;
+    match term.get(at) {
+        None => 0,
+        Some(b) if *b < 128 => maps::NODE,
+        Some(_) => 1,
     }
-    if 127 < extents::byte(term, at) {
-        return 1;
-    }
-    maps::NODE
 }
 
 // The map of the word at an offset; no bit where no word stands there.
@@ -92,13 +79,14 @@ fn mark_term(
     let mut entries = sibling_count(extents::byte(term, word), siblings);
     let mut bits = map_below(term, word);
     let mut at = word + head(term, word);
+    // Kept: the places of a map are passed until none is left, so no index is counted.
     while bits != 0 {
         let bit = bits % 2;
-        bits = bits / 2;
+        bits /= 2;
         if bit == 1 {
             let here = mark_term(term, at, siblings, left - 1, marks);
             at = here.at;
-            entries = entries + here.entries;
+            entries += here.entries;
         }
     }
     note(at - word, entries, word, marks);
@@ -111,6 +99,6 @@ fn mark_term(
 pub fn mark(term: &[u8], siblings: &[u8; 384], marks: &mut [u32])
     ensures { marks.new ≡ marked siblings.now term.now marks.old }
 {
-    let end = least(term.len(), 4096);
+    let end = term.len().min(4096);
     let _ = mark_term(&term[..end], 0, siblings, 32, marks);
 }

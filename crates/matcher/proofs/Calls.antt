@@ -2,10 +2,10 @@
 --
 --   Lent v p s                            the lent inputs are bytes
 --   Found v p s spans a                   what finding the spans ensures of its answer and the table of spans
---   not_refused, differs                  the answer, where some answers are ruled out
+--   passed_on                             the refusal that is passed on
 --   found-long                            the table of spans has 128 numbers
 --   Ensured                               what match ensures of a reply
---   match_refused, match_length, match_yes, match_no    it does so of each answer
+--   match_refused, match_length, match_answers    it does so of each answer
 --   part-inside, found_inside             part's span lies in the situation
 --   Stands                                what part ensures of where its answer stands
 --   part-above, part-found                it does so of each answer
@@ -13,18 +13,19 @@
 use mathlib.Core.Path.{◌≡◌, refl, sym, ap, ap₂, ◌∙◌, subst, subst₂}
 use mathlib.Core.Bool.{Bool, true, false, cond, ◌&&◌}
 use mathlib.Core.List.{List, [], ◌++◌, append-nil}
-use mathlib.Core.Logic.{◌⊎◌, inl, inr}
+use mathlib.Core.Logic.{inr}
 use mathlib.Core.Option.{Option, some, none}
 use Prim.Native.Nat.{ℕ, ◌+◌, ◌-◌, ◌*◌, ◌<◌, ◌≤◌}
 use native.Mathlib.Omega.{arith}
 use lib.Dec.{ltb}
-use lib.ListN.{length, get_or, take, drop, replicate, length-drop, length-append, get_or-replicate}
-use lib.Seq.{length-take-le}
+use lib.ListN.{length, get_or, take, drop, replicate, length-drop, length-append}
+use lib.Seq.{length-take-le, take_all}
 use borrow.Author.Tests.{ne_eqb, eq-eqb}
 use Rattle.terms.specs.Lists.{occurs}
 use Rattle.terms.specs.Term.{Ground, names, as_term}
 use Rattle.terms.specs.Filling.{Filling}
 use Rattle.terms.specs.Matcher.{matcher}
+use Rattle.std.specs.Prelude.{Result, Ok, Err, IsErrAnd}
 use Rattle.wire.specs.Reply.{Reply, accepted, refused}
 use Rattle.wire.specs.TermBytes.{name_count, encode_at}
 use Rattle.wire.specs.Matching.{Inputs, HoldsInputs, table_length, Span, no_span, or_no_span, span, span_from, span_in, yes, no, cut_out, MatchPromise, PartPromise}
@@ -39,30 +40,24 @@ use Rattle.wire.proofs.PartTable.{part_is_table, blank_part}
 use Rattle.inputs.specs.Answers.{inputs_refused}
 use Rattle.inputs.specs.declared.InputsRefusal.{InputsRefusal}
 use Rattle.spans.specs.Answers.{spans_numbers}
-use Rattle.spans.specs.declared.SpansAnswer.{SpansAnswer}
-use Rattle.spans.specs.declared.SpansAnswer.TheVariants.{Fits, Differs, Refused}
 use Rattle.spans.proofs.Answers.{not_accepted}
-pub use Rattle.spans.proofs.Finding.{Lent}
+pub use Rattle.spans.proofs.Finding.{Lent, lent_bytes}
+use Rattle.matcher.specs.Answers.{match_numbers}
+use Rattle.matcher.specs.declared.MatchRefusal.{MatchRefusal}
+use Rattle.matcher.specs.declared.MatchRefusal.TheVariants as M
 use Rattle.matcher.specs.Places.{part_at}
 
 abbrev blank : List ℕ
 blank = replicate 128 0
 
 -- What finding the spans ensures of its answer and the table of spans.
-abbrev pub Found : List ℕ → List ℕ → List ℕ → List ℕ → SpansAnswer → Type 0
+abbrev pub Found : List ℕ → List ℕ → List ℕ → List ℕ → Result Bool InputsRefusal → Type 0
 Found v p s spans a = HasEffect (matched v p s blank) (spans_numbers a) spans
 
--- ---- the answer, where some answers are ruled out
-
-pub not_refused : (a : SpansAnswer) → ((why : InputsRefusal) → a ≡ Refused why → ⊥) → (a ≡ Fits) ⊎ (a ≡ Differs)
-not_refused Fits k = inl refl
-not_refused Differs k = inr refl
-not_refused (Refused why) k = absurd (k why refl)
-
-pub differs : (a : SpansAnswer) → ((why : InputsRefusal) → a ≡ Refused why → ⊥) → (a ≡ Fits → ⊥) → a ≡ Differs
-differs Fits k l = absurd (l refl)
-differs Differs k l = refl
-differs (Refused why) k l = absurd (k why refl)
+-- A refusal that is passed on.
+pub passed_on : (r : Result Bool MatchRefusal) (why : InputsRefusal) → IsErrAnd r (λ e. e ≡ M.Inputs why) → r ≡ Err (M.Inputs why)
+passed_on (Ok fits) why h = absurd h
+passed_on (Err e) why h = ap Err h
 
 module _ {v p s : List ℕ} (lent : Lent v p s) where
   pub found-long : {spans : List ℕ} → spans ≡ (matched v p s blank).after → length spans ≡ 128
@@ -99,9 +94,9 @@ module _ {v p s : List ℕ} (lent : Lent v p s) where
         HasEffect (verdict before x (matcher x.pattern x.situation)) r after → HasEffect (matched_with before (clear x)) r after
     judged-here long x {r} h = subst (λ b. HasEffect (cleared x b) r after) (sym (eq-eqb (length before) table_length long)) h
 
-    module _ {spans : List ℕ} (a : SpansAnswer) (found : Found v p s spans a) where
-      pub match_refused : (why : InputsRefusal) → a ≡ Refused why → after ≡ before → Ensured (inputs_refused why)
-      match_refused why e t = promised (go (judged v p s) (sym (ap spans_numbers e) ∙ found.reply))
+    module _ {spans : List ℕ} where
+      pub match_refused : (why : InputsRefusal) → Found v p s spans (Err why) → after ≡ before → Ensured (inputs_refused why)
+      match_refused why found t = promised (go (judged v p s) found.reply)
         where
           answered : (x : Inputs) (o : Option Filling) → inputs_refused why ≡ (verdict blank x o).reply → ⊥
           answered x (some f) e = not_accepted why _ e
@@ -111,8 +106,8 @@ module _ {v p s : List ℕ} (lent : Lent v p s) where
           go (clear x) e = absurd (answered x (matcher x.pattern x.situation) e)
           go (refusal n i q) e = record { reply = e; after = t }
 
-      pub match_length : (a ≡ Fits) ⊎ (a ≡ Differs) → (length before ≡ table_length → ⊥) → after ≡ before → Ensured (refused 19 3 0)
-      match_length answer short t = promised (either answer)
+      pub match_length : (fits : Bool) → Found v p s spans (Ok fits) → (length before ≡ table_length → ⊥) → after ≡ before → Ensured (refused 19 3 0)
+      match_length fits found short t = promised (either fits found)
         where
           go : (l : List ℕ) (j : Judged) → accepted l ≡ (matched_with blank j).reply → HasEffect (matched_with before j) (refused 19 3 0) after
           go l (refusal n i q) e = absurd (W.not_accepted n i q l (sym e))
@@ -120,13 +115,13 @@ module _ {v p s : List ℕ} (lent : Lent v p s) where
               subst (λ b. HasEffect (cleared x b) (refused 19 3 0) after) (sym (ne_eqb (length before) table_length short))
               (record { reply = refl; after = t })
 
-          either : (a ≡ Fits) ⊎ (a ≡ Differs) → HasEffect (matched v p s before) (refused 19 3 0) after
-          either (inl e) = go _ (judged v p s) (sym (ap spans_numbers e) ∙ found.reply)
-          either (inr e) = go _ (judged v p s) (sym (ap spans_numbers e) ∙ found.reply)
+          either : (fits : Bool) → Found v p s spans (Ok fits) → HasEffect (matched v p s before) (refused 19 3 0) after
+          either true found = go _ (judged v p s) found.reply
+          either false found = go _ (judged v p s) found.reply
 
       module _ (long : length before ≡ table_length) where
-        pub match_yes : a ≡ Fits → after ≡ spans → Ensured yes
-        match_yes fits t = promised (go (judged v p s) (sym (ap spans_numbers fits) ∙ found.reply) (t ∙ found.after))
+        match_yes : Found v p s spans (Ok true) → after ≡ spans → Ensured yes
+        match_yes found t = promised (go (judged v p s) found.reply (t ∙ found.after))
           where
             answer : (x : Inputs) (o : Option Filling) → yes ≡ (verdict blank x o).reply → after ≡ (verdict blank x o).after →
                 HasEffect (verdict before x o) yes after
@@ -137,8 +132,8 @@ module _ {v p s : List ℕ} (lent : Lent v p s) where
             go (refusal n i q) e t = absurd (W.not_accepted n i q _ (sym e))
             go (clear x) e t = judged-here long x (answer x (matcher x.pattern x.situation) e t)
 
-        pub match_no : a ≡ Differs → after ≡ before → Ensured no
-        match_no differ t = promised (go (judged v p s) (sym (ap spans_numbers differ) ∙ found.reply))
+        match_no : Found v p s spans (Ok false) → after ≡ before → Ensured no
+        match_no found t = promised (go (judged v p s) found.reply)
           where
             answer : (x : Inputs) (o : Option Filling) → no ≡ (verdict blank x o).reply → HasEffect (verdict before x o) no after
             answer x (some f) e = absurd (W.no_not_yes e)
@@ -147,6 +142,11 @@ module _ {v p s : List ℕ} (lent : Lent v p s) where
             go : (j : Judged) → no ≡ (matched_with blank j).reply → HasEffect (matched_with before j) no after
             go (refusal n i q) e = absurd (W.not_accepted n i q _ (sym e))
             go (clear x) e = judged-here long x (answer x (matcher x.pattern x.situation) e)
+
+        -- Yes fills the table, and no leaves it.
+        pub match_answers : (fits : Bool) → Found v p s spans (Ok fits) → after ≡ cond fits spans before → Ensured (match_numbers (Ok fits))
+        match_answers true found t = match_yes found t
+        match_answers false found t = match_no found t
 
   -- ---- part
 
@@ -224,9 +224,9 @@ module _ {v p s : List ℕ} (lent : Lent v p s) where
       pub found_inside : from + long ≤ length s
       found_inside = subst Inside here part-inside
 
-      pub part-found : Stands from (take (from + long - from) (drop from s))
+      pub part-found : Stands from (take long (take (length s - from) (drop from s)))
       part-found =
           let inside = found_inside in
-          let cut : from + long - from ≡ long = omega arith in
           let size : length (take long (drop from s)) ≡ long = length-take-le long (drop from s) (omega (arith, length-drop from s)) in
-          subst (λ k. Stands from (take k (drop from s))) (sym cut) (stands (record { offset = from; bytes = long }) here size)
+          let rest : take (length s - from) (drop from s) ≡ drop from s = take_all (length s - from) (drop from s) (omega (arith, length-drop from s)) in
+          subst (λ l. Stands from (take long l)) (sym rest) (stands (record { offset = from; bytes = long }) here size)

@@ -28,11 +28,10 @@ use Rattle.maps.specs.Reading.{map_at}
 use Rattle.extents.proofs.Extents.{front_is}
 use Rattle.extents.specs.Bytes.{term_byte, Small}
 use Rattle.meetings.specs.Passing.{passed, passed_if}
-use Rattle.meetings.specs.Walking.{size_in, entries_in, onward, meet_places, meet_word, meet_term, answer, meeting}
+use Rattle.std.specs.Prelude.{None}
+use Rattle.meetings.specs.Walking.{Walk, reached, size_in, entries_in, onward, meet_places, meet_word, meet_term, answer, meeting}
 use Rattle.marks.specs.Inside.{most_entries}
 use Rattle.meetings.specs.Inside.{NoteAt, farthest, Bounded, Met}
-use Rattle.meetings.specs.declared.Walk.{Walk}
-use Rattle.meetings.specs.declared.Walk.TheVariants.{Parted, Came}
 use Rattle.marks.proofs.Bits.{some_left, first_bit, fewer_bits}
 use Rattle.extents.proofs.Bytes.{word-inside}
 use Rattle.meetings.proofs.Passing.{passed-within}
@@ -57,7 +56,7 @@ module _ (left : ℕ) (e p m : List ℕ) (i j : ℕ) where
   abbrev whole : Walk
   whole = meet_term left e p m i j
 
-  pub meet_none : left ≡ 0 → Parted ≡ whole
+  pub meet_none : left ≡ 0 → None ≡ whole
   unfolding meet_term
   meet_none z = ap (λ k. meet_term k e p m i j) (sym z)
 
@@ -65,18 +64,18 @@ module _ (left : ℕ) (e p m : List ℕ) (i j : ℕ) where
     one_less : whole ≡ meet_term (suc (left - 1)) e p m i j
     one_less = ap (λ k. meet_term k e p m i j) (let z : left ≡ suc (left - 1) = omega arith in z)
 
-    pub meet_open : first_name_byte ≤ term_byte p j → whole ≡ Came (passed e i) 0
+    pub meet_open : first_name_byte ≤ term_byte p j → whole ≡ reached (passed e i) 0
     unfolding meet_term
     meet_open h = one_less ∙ cond_false _ _ _ (le-ltb (term_byte p j) first_name_byte h)
 
     module _ (word : term_byte p j < first_name_byte) where
-      pub meet_name : first_name_byte ≤ term_byte e i → whole ≡ Came (passed e i) (entries_in (get_or m j 0))
+      pub meet_name : first_name_byte ≤ term_byte e i → whole ≡ reached (passed e i) (entries_in (get_or m j 0))
       unfolding meet_term
       meet_name h =
           one_less ∙ cond_true _ _ _ (lt-ltb (term_byte p j) first_name_byte word) ∙ cond_false _ _ _ (le-ltb (term_byte e i) first_name_byte h)
 
       module _ (ours : term_byte e i < first_name_byte) where
-        pub meet_apart : (term_byte e i ≡ term_byte p j → ⊥) → whole ≡ Parted
+        pub meet_apart : (term_byte e i ≡ term_byte p j → ⊥) → whole ≡ None
         unfolding meet_term
         meet_apart h =
             one_less
@@ -94,30 +93,30 @@ module _ (left : ℕ) (e p m : List ℕ) (i j : ℕ) where
 
   -- What is met is right, where the code finds the bytes a and b.
   module _ (in_entry : i ≤ length e + 1) where
-    pub met_none : left ≡ 0 → Met whole (length e) i Parted
+    pub met_none : left ≡ 0 → Met whole (length e) i None
     met_none z = record { same = meet_none z; bounded = tt }
 
     module _ (some : 0 < left) {b : ℕ} (there : Small b (term_byte p j)) where
-      pub met_open : 127 < b → {to : ℕ} → to ≡ passed e i → Met whole (length e) i (Came to 0)
+      pub met_open : 127 < b → {to : ℕ} → to ≡ passed e i → Met whole (length e) i (reached to 0)
       met_open h {to} z =
           let w = passed-within true e i in_entry in
           record {
-            same = ap (λ k. Came k 0) z ∙ sym (meet_open some (omega (arith, there.same)));
+            same = ap (λ k. reached k 0) z ∙ sym (meet_open some (omega (arith, there.same)));
             bounded = (omega arith, omega arith, omega arith);
           }
 
       module _ (word : b ≤ 127) {a : ℕ} (here : Small a (term_byte e i)) where
-        pub met_name : 127 < a → {to x : ℕ} → to ≡ passed e i → NoteAt x (get_or m j 0) → Met whole (length e) i (Came to (x / 8192))
+        pub met_name : 127 < a → {to x : ℕ} → to ≡ passed e i → NoteAt x (get_or m j 0) → Met whole (length e) i (reached to (x / 8192))
         met_name h {to} {x} z k =
             let w = passed-within true e i in_entry in
             let low = k.low in
             record {
-              same = ap₂ (λ n y. Came n (entries_in y)) z k.same ∙ sym (meet_name some (omega (arith, there.same)) (omega (arith, here.same)));
+              same = ap₂ (λ n y. reached n (entries_in y)) z k.same ∙ sym (meet_name some (omega (arith, there.same)) (omega (arith, here.same)));
               bounded = (omega arith, omega arith, omega arith);
             }
 
         module _ (ours : a ≤ 127) where
-          pub met_apart : (a ≡ b → ⊥) → Met whole (length e) i Parted
+          pub met_apart : (a ≡ b → ⊥) → Met whole (length e) i None
           met_apart h = record {
             same = sym (meet_apart some (omega (arith, there.same)) (omega (arith, here.same)) (λ z. h (here.same ∙ z ∙ sym there.same)));
             bounded = tt;
@@ -164,13 +163,13 @@ coming_begins rec e p m levels i j {ours} {theirs} he near so st = record {
   few = omega arith;
 }
 
-none_met : (rec : ℕ → ℕ → Walk) (e m : List ℕ) (k i j n : ℕ) → meet_places rec e m (flags_in k 0) (flags_in k 0) i j n ≡ Came i n
+none_met : (rec : ℕ → ℕ → Walk) (e m : List ℕ) (k i j n : ℕ) → meet_places rec e m (flags_in k 0) (flags_in k 0) i j n ≡ reached i n
 none_met rec e m zero i j n = refl
 none_met rec e m (suc k) i j n = none_met rec e m k i j n
 
 module _ {whole : Walk} {rec : ℕ → ℕ → Walk} {e m : List ℕ} {levels i at from n ours theirs : ℕ}
     (h : Coming whole rec e m levels i at from n ours theirs) where
-  pub coming_all : ours + theirs ≡ 0 → Met whole (length e) i (Came at n)
+  pub coming_all : ours + theirs ≡ 0 → Met whole (length e) i (reached at n)
   coming_all z =
       let a = h.few in
       let b = h.forth in
@@ -285,20 +284,20 @@ module _ {whole : Walk} {rec : ℕ → ℕ → Walk} {e m : List ℕ} {levels i 
         through : whole ≡ onward r next
         through = begun true true (eq-eqb (ours % 2) 1 (omega arith)) standing ∙ ap (λ w. onward w next) (sym met.same)
 
-        pub coming_apart : r ≡ Parted → Met whole (length e) i Parted
+        pub coming_apart : r ≡ None → Met whole (length e) i None
         coming_apart z = record { same = sym (through ∙ ap (λ w. onward w next) z); bounded = tt }
 
-        pub both_fit : length e ≤ most_bytes → {to count : ℕ} → r ≡ Came to count →
+        pub both_fit : length e ≤ most_bytes → {to count : ℕ} → r ≡ reached to count →
             (n + count < 18446744073709551616) × (from + x % 8192 < 18446744073709551616)
         both_fit few {to} {count} z =
-            let w : Bounded (length e) at (Came to count) = subst (Bounded (length e) at) z met.bounded in
+            let w : Bounded (length e) at (reached to count) = subst (Bounded (length e) at) z met.bounded in
             let a = h.few in
             let b = h.inside in
             let l = h.near in (omega arith, omega arith)
 
-        pub coming_both : {to count : ℕ} → r ≡ Came to count → Coming whole rec e m levels i to (from + x % 8192) (n + count) (ours / 2) (theirs / 2)
+        pub coming_both : {to count : ℕ} → r ≡ reached to count → Coming whole rec e m levels i to (from + x % 8192) (n + count) (ours / 2) (theirs / 2)
         coming_both {to} {count} z =
-            let w : Bounded (length e) at (Came to count) = subst (Bounded (length e) at) z met.bounded in
+            let w : Bounded (length e) at (reached to count) = subst (Bounded (length e) at) z met.bounded in
             let a = h.few in
             let b = h.forth in
             let c = more in

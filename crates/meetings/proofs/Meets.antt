@@ -29,10 +29,8 @@ use Rattle.wire.specs.TermBytes.{first_name_byte, whole_byte, written_map, encod
 use Rattle.wire.proofs.Words.{length_symbols, arguments-word, word-in_order}
 use Rattle.extents.specs.Bytes.{term_byte}
 use Rattle.marks.specs.Marking.{mark_scale, entry_count, MarksOf, MarksOfAll}
-use Rattle.meetings.specs.Walking.{size_in, entries_in, onward, meet_places, meet_word, meet_term, answer, meeting, meeting_of, MeetingRight}
-use Rattle.meetings.specs.declared.Meeting.TheVariants.{Apart, Shares}
-use Rattle.meetings.specs.declared.Walk.{Walk}
-use Rattle.meetings.specs.declared.Walk.TheVariants.{Parted, Came}
+use Rattle.std.specs.Prelude.{Some, None}
+use Rattle.meetings.specs.Walking.{Walk, reached, size_in, entries_in, onward, meet_places, meet_word, meet_term, answer, meeting, meeting_of, MeetingRight}
 use Rattle.marks.proofs.Standing.{first_byte, behind, fits, flags-there}
 use Rattle.meetings.proofs.Passing.{passed-term}
 use Rattle.marks.proofs.Marks.{front_of}
@@ -77,10 +75,10 @@ module _ (W : Vocabulary) where
   S = signature W
 
   abbrev walk_of : Term → Term → ℕ → Walk
-  walk_of e p i = cond (disjoint e p) Parted (Came (i + length (encode_at W e)) (length (cut S e p)))
+  walk_of e p i = cond (disjoint e p) None (reached (i + length (encode_at W e)) (length (cut S e p)))
 
   abbrev walk_of_all : Terms → Terms → ℕ → ℕ → Walk
-  walk_of_all es ps i n = cond (disjoint_all es ps) Parted (Came (i + length (encode_all W es)) (n + length (cut_all S es ps)))
+  walk_of_all es ps i n = cond (disjoint_all es ps) None (reached (i + length (encode_all W es)) (n + length (cut_all S es ps)))
 
   module _ (e p : Term) (es ps : Terms) (i n : ℕ) where
     walk-shares : disjoint e p ≡ false →
@@ -90,14 +88,14 @@ module _ (W : Vocabulary) where
         let all = length-append (map (λ c. cons c es) (cut S e p)) (map (cons (both e p)) (cut_all S es ps)) in
         let first = length-map (cut S e p) (λ c. cons c es) in
         let rest = length-map (cut_all S es ps) (cons (both e p)) in
-        ap (λ b. cond (b || disjoint_all es ps) Parted (Came (i + length (encode_at W e) + length (encode_all W es)) (n + length (cut S e p) + length (cut_all S es ps)))) (sym h)
-        ∙ ap₂ (λ x y. cond (disjoint e p || disjoint_all es ps) Parted (Came x y))
+        ap (λ b. cond (b || disjoint_all es ps) None (reached (i + length (encode_at W e) + length (encode_all W es)) (n + length (cut S e p) + length (cut_all S es ps)))) (sym h)
+        ∙ ap₂ (λ x y. cond (disjoint e p || disjoint_all es ps) None (reached x y))
         (let z : i + length (encode_at W e) + length (encode_all W es) ≡ i + length (encode_all W (cons e es)) = omega arith in z)
         (let z : n + length (cut S e p) + length (cut_all S es ps) ≡ n + length (cut_all S (cons e es) (cons p ps)) = omega arith in z)
 
-    walk-parts : disjoint e p ≡ true → Parted ≡ walk_of_all (cons e es) (cons p ps) i n
+    walk-parts : disjoint e p ≡ true → None ≡ walk_of_all (cons e es) (cons p ps) i n
     walk-parts h =
-        ap (λ b. cond (b || disjoint_all es ps) Parted (Came (i + length (encode_all W (cons e es))) (n + length (cut_all S (cons e es) (cons p ps))))) (sym h)
+        ap (λ b. cond (b || disjoint_all es ps) None (reached (i + length (encode_all W (cons e es))) (n + length (cut_all S (cons e es) (cons p ps))))) (sym h)
 
   module _ (in_order : InOrder W) (E P M : List ℕ) (shortE : length E ≤ most_bytes) (shortP : length P ≤ most_bytes) where
     abbrev TermMet : ℕ → Type 0
@@ -176,7 +174,7 @@ module _ (W : Vocabulary) where
               next end k = meet_places (meet_term left E P M) E M (written_flags fs es) (written_flags fs ps) end (j + length (encode_at W p)) (n + k)
 
               go : (b : Bool) → disjoint e p ≡ b →
-                  onward (cond b Parted (Came (i + length (encode_at W e)) (length (cut S e p)))) next ≡ walk_of_all (cons e es) (cons p ps) i n
+                  onward (cond b None (reached (i + length (encode_at W e)) (length (cut S e p)))) next ≡ walk_of_all (cons e es) (cons p ps) i n
               go true d = walk-parts e p es ps i n d
               go false d =
                   more (i + length (encode_at W e)) (j + length (encode_at W p)) (n + length (cut S e p)) r q
@@ -185,7 +183,7 @@ module _ (W : Vocabulary) where
 
       all_met : (fs : List Bool) (es ps : Terms) (ks : List ℕ) → length ks ≡ ones fs → SortedAll S es ks → SortedAll S ps ks → levels_all ps ≤ left →
           PlacesMet fs es ps
-      all_met [] nil nil ks c a b deep i j n r q he hp hm = ap₂ Came (let z : i ≡ i + 0 = omega arith in z) (let z : n ≡ n + 0 = omega arith in z)
+      all_met [] nil nil ks c a b deep i j n r q he hp hm = ap₂ reached (let z : i ≡ i + 0 = omega arith in z) (let z : n ≡ n + 0 = omega arith in z)
       all_met [] nil (cons p ps) [] c a b deep i j n r q he hp hm = absurd b
       all_met [] nil (cons p ps) (k ∷ ks) c a b deep i j n r q he hp hm = absurd a
       all_met [] (cons e es) ps [] c a b deep i j n r q he hp hm = absurd a
@@ -215,8 +213,8 @@ module _ (W : Vocabulary) where
         drop j P ≡ encode_at W (var n) ++ q → meet_term (suc left) E P M i j ≡ walk_of e (var n) i
     name_met left e n s sorted closed i j r q he hp =
         meet_open (suc left) E P M i j (omega arith) (omega (arith, first_byte P j hp))
-        ∙ ap₂ Came (passed-term E i W in_order e s sorted closed shortE r he) (sym (name-shares S e n).1)
-        ∙ ap (λ b. cond b Parted (Came (i + length (encode_at W e)) (length (cut S e (var n))))) (sym (name-shares S e n).0)
+        ∙ ap₂ reached (passed-term E i W in_order e s sorted closed shortE r he) (sym (name-shares S e n).1)
+        ∙ ap (λ b. cond b None (reached (i + length (encode_at W e)) (length (cut S e (var n))))) (sym (name-shares S e n).0)
 
     module _ (left : ℕ) (ih : TermMet left) (h : ℕ) (ps : Terms) (s : ℕ) (sorted : Sorted S (app h ps) s) (deep : levels_all ps ≤ left)
         (i j : ℕ) (q : List ℕ) (hp : drop j P ≡ encode_at W (app h ps) ++ q) (hm : MarksOf W (app h ps) (drop j M)) where
@@ -229,7 +227,7 @@ module _ (W : Vocabulary) where
       var_met : (n : ℕ) (r : List ℕ) → drop i E ≡ encode_at W (var n) ++ r → meet_term (suc left) E P M i j ≡ walk_of (var n) (app h ps) i
       var_met n r he =
           meet_name (suc left) E P M i j (omega arith) low (omega (arith, first_byte E i he))
-          ∙ ap₂ Came (passed-term E i W in_order (var n) s tt refl shortE r he)
+          ∙ ap₂ reached (passed-term E i W in_order (var n) s tt refl shortE r he)
           (entries-there W (app h ps) M j refl (small-there (app h ps) j q hp) hm ∙ sym (length-map (listing S (app h ps)) nameless))
 
       -- Both are words.
@@ -262,13 +260,13 @@ module _ (W : Vocabulary) where
               (ap (λ k. drop k P) (let z : j + 1 + map_bytes ≡ j + 2 = omega arith in z) ∙ behind P j (h ∷ written_map W h ps ∷ []) (encode_all W ps ++ q) hp)
               (subst (MarksOfAll W ps) (drop-drop 2 j M ∙ ap (λ k. drop k M) (let z : j + 2 ≡ j + 1 + map_bytes = omega arith in z)) hm.1)
 
-          go : (b : Bool) → eqb f h ≡ b → meet_term (suc left) E P M i j ≡ cond (not b || disjoint_all es ps) Parted (Came end count)
+          go : (b : Bool) → eqb f h ≡ b → meet_term (suc left) E P M i j ≡ cond (not b || disjoint_all es ps) None (reached end count)
           go true d =
               let same = eqb-true f h d in
               meet_word_lem (suc left) E P M i j (omega arith) low low_e (first_byte E i he ∙ same ∙ sym (first_byte P j hp))
               ∙ ap (λ k. meet_word (meet_term k E P M) E P M i j) (let z : suc left - 1 ≡ left = omega arith in z)
               ∙ below same
-              ∙ ap₂ (λ x y. cond (disjoint_all es ps) Parted (Came x y))
+              ∙ ap₂ (λ x y. cond (disjoint_all es ps) None (reached x y))
               (let z : i + 1 + map_bytes + length (encode_all W es) ≡ end = omega arith in z)
               (let z : 0 + length (cut_all S es ps) ≡ length (cut_all S es ps) = omega arith in z ∙ sym (length-map (cut_all S es ps) (app f)))
           go false d =
@@ -289,7 +287,7 @@ module _ (W : Vocabulary) where
 
 -- ---- an entry and a pattern
 
-answer-of : (b : Bool) (i n : ℕ) → answer (cond b Parted (Came i n)) ≡ cond b Apart (Shares n)
+answer-of : (b : Bool) (i n : ℕ) → answer (cond b None (reached i n)) ≡ cond b None (Some n)
 answer-of true i n = refl
 answer-of false i n = refl
 
@@ -311,19 +309,19 @@ meeting_right W in_order e p s a b deep mostE mostP r q m marks = go e p a b dee
         ∙ answer-of (disjoint e p) (0 + length (encode_at W e)) (length (cut (signature W) e p))
 
     -- The pattern begins with a name or 255.
-    open_met : (x y : ℕ) (l t : List ℕ) → first_name_byte ≤ y → meeting (x ∷ l) (y ∷ t) m ≡ Shares 0
+    open_met : (x y : ℕ) (l t : List ℕ) → first_name_byte ≤ y → meeting (x ∷ l) (y ∷ t) m ≡ Some 0
     open_met x y l t high =
         ap answer (meet_open most_levels (take most_bytes (x ∷ l)) (take most_bytes (y ∷ t)) m 0 0 (omega arith) high)
 
     -- The entry is 255, and the pattern begins with a word.
     any_met : (h : ℕ) (ps : Terms) → Sorted (signature W) (app h ps) s → length (encode_at W (app h ps)) < most_bytes → MarksOf W (app h ps) m →
-        meeting (whole_byte ∷ r) (encode_at W (app h ps) ++ q) m ≡ Shares (length (cut (signature W) any (app h ps)))
+        meeting (whole_byte ∷ r) (encode_at W (app h ps) ++ q) m ≡ Some (length (cut (signature W) any (app h ps)))
     any_met h ps b most marks =
         let known : h < length W.words = rw (length_symbols W) at b.0 in
         ap answer
         (meet_name most_levels (take most_bytes (whole_byte ∷ r)) (take most_bytes (encode_at W (app h ps) ++ q)) m 0 0 (omega arith)
         (omega (arith, in_order.few_words, known)) (omega arith))
-        ∙ ap Shares
+        ∙ ap Some
         (entries-there W (app h ps) m 0 refl (omega arith) marks
         ∙ sym (length-map (listing (signature W) (app h ps)) nameless))
 

@@ -5,12 +5,11 @@
 --   Walks             where a walk over an entry and a pattern stands, with so many levels left
 --   Bounded, Met      what is met is right, and has come no further than the entry goes
 --
-use Rattle.std.specs.Prelude.{◌≡◌, List, ℕ, ◌+◌, ◌-◌, ◌*◌, ◌<◌, ◌≤◌, length}
+use Rattle.std.specs.Prelude.{◌≡◌, Some, None, List, ℕ, ◌+◌, ◌-◌, ◌*◌, ◌<◌, ◌≤◌, length}
 use Rattle.wire.specs.Map.{map_bits}
 use Rattle.wire.specs.TermBytes.{most_bytes, most_levels}
 use Rattle.marks.specs.Inside.{most_entries}
-use Rattle.meetings.specs.declared.Walk.{Walk}
-use Rattle.meetings.specs.declared.Walk.TheVariants.{Parted, Came}
+use Rattle.meetings.specs.Walking.{Walk}
 
 pub record NoteAt (r v : ℕ) : Type 0 where
   pub same : r ≡ v
@@ -27,8 +26,8 @@ pub record Walks (entry : List ℕ) (i : ℕ) (pattern : List ℕ) (j left : ℕ
   pub near : j + farthest * left ≤ farthest * most_levels
 
 abbrev pub Bounded : ℕ → ℕ → Walk → Type 0
-Bounded size i Parted = Unit {0}
-Bounded size i (Came end n) = (i ≤ end) × (end ≤ size + 1) × (n ≤ most_entries * (1 + map_bits * (end - i)))
+Bounded size i None = Unit {0}
+Bounded size i (Some w) = (i ≤ w.at) × (w.at ≤ size + 1) × (w.entries ≤ most_entries * (1 + map_bits * (w.at - i)))
 
 pub record Met (whole : Walk) (size i : ℕ) (r : Walk) : Type 0 where
   pub same : r ≡ whole

@@ -1,81 +1,82 @@
 // Whether an entry and a pattern share a situation, and by how many entries the entry is then replaced.
 #![tactic(auto)]
 
-ghost use Rattle.std.specs.Prelude.{◌≡◌, ◌+◌, ◌≤◌, ◌<◌, min, eqb, length, get_or};
+ghost use Rattle.std.specs.Prelude.{◌≡◌, ◌+◌, ◌≤◌, ◌<◌, eqb, length, get_or};
 ghost use Rattle.meetings.specs.Passing.{passed_if};
 ghost use Rattle.meetings.specs.Walking.{meet_term, meet_word, meeting};
 ghost use Rattle.meetings.specs.Inside.{NoteAt, Walks, Met};
-
-// An entry and a pattern share no situation, or they do and the entry is replaced by so many.
-#[derive(Drop)]
-pub enum Meeting {
-    Apart,
-    Shares(usize),
-}
-
-fn least(a: usize, b: usize) -> usize
-    ensures { result ≡ min a b }
-{
-    if a < b { a } else { b }
-}
 
 // The offset behind the term at an offset, where a bit says that a term is due there.
 fn pass(bytes: &[u8], at: usize, bit: usize) -> usize
     requires { at ≤ length bytes.now + 1 }
     ensures { result ≡ passed_if (eqb bit 1) bytes.now at }
 {
-    if bit != 1 {
-        return at;
+    if bit == 1 && at < bytes.len() {
+        return at + extents::term_size(&bytes[at..]);
     }
-    if bytes.len() <= at {
-        return at;
-    }
-    at + extents::term_size(&bytes[at..])
+    at
 }
 
 // The note at an offset.
 fn mark_at(marks: &[u32], at: usize) -> usize
     ensures { NoteAt result (get_or marks.now at 0) }
 {
-    if marks.len() <= at {
-        return 0;
-    }
-    marks[at] as usize
+    marks.get(at).map_or(0, |mark| *mark as usize)
 }
 
-// A walk over an entry and a pattern parts, or it has come to an offset of the entry with so many entries.
-#[derive(Drop)]
-enum Walk {
-    Parted,
-    Came(usize, usize),
+// How far a walk over an entry and a pattern has come: the offset in the entry, and so many entries.
+#[derive(Clone, Copy)]
+struct Reached {
+    at: usize,
+    entries: usize,
 }
 
-// Walks over the terms at two offsets, with so many levels left.
+// Walks over the terms at two offsets, with so many levels left; None where they share nothing.
 #[cycle(meet_places_meet_term)]
-fn meet_term(entry: &[u8], i: usize, pattern: &[u8], j: usize, marks: &[u32], left: usize) -> Walk
+fn meet_term(
+    entry: &[u8],
+    i: usize,
+    pattern: &[u8],
+    j: usize,
+    marks: &[u32],
+    left: usize,
+) -> Option<Reached>
     requires { Walks entry.now i pattern.now j left }
     ensures { Met (meet_term left entry.now pattern.now marks.now i j) (length entry.now) i result }
 {
     if left == 0 {
-        return Walk::Parted;
+        return None;
     }
     let p = extents::byte(pattern, j);
     if 127 < p {
-        return Walk::Came(pass(entry, i, 1), 0);
+        return Some(Reached {
+            at: pass(entry, i, 1),
+            entries: 0,
+        });
     }
     let e = extents::byte(entry, i);
     if 127 < e {
-        return Walk::Came(pass(entry, i, 1), mark_at(marks, j) / 8192);
+        return Some(Reached {
+            at: pass(entry, i, 1),
+            entries: mark_at(marks, j) / 8192,
+        });
     }
     if e != p {
-        return Walk::Parted;
+        return None;
     }
     meet_places(entry, i, pattern, j, marks, left - 1)
 }
 
 // Walks over the places of the word that stands at two offsets, the lowest first.
 #[cycle(meet_places_meet_term)]
-fn meet_places(entry: &[u8], i: usize, pattern: &[u8], j: usize, marks: &[u32], left: usize) -> Walk
+fn meet_places(
+    entry: &[u8],
+    i: usize,
+    pattern: &[u8],
+    j: usize,
+    marks: &[u32],
+    left: usize,
+) -> Option<Reached>
     requires walks { Walks entry.now i pattern.now j (left + 1) }
     requires i_in_bounds { i < length entry.now }
     requires j_in_bounds { j < length pattern.now }
@@ -85,43 +86,38 @@ fn meet_places(entry: &[u8], i: usize, pattern: &[u8], j: usize, marks: &[u32], 
     let mut theirs = extents::map(pattern, j + 1);
     let mut at = i + maps::NODE;
     let mut from = j + maps::NODE;
-    let mut n = 0;
+    let mut entries = 0;
+    // Kept: the places of two maps are passed side by side until none is left, so no index is counted.
     while ours + theirs != 0 {
         let here = ours % 2;
         let there = theirs % 2;
-        ours = ours / 2;
-        theirs = theirs / 2;
+        ours /= 2;
+        theirs /= 2;
         if there == 0 {
             at = pass(entry, at, here);
         } else {
             let mark = mark_at(marks, from);
             if here == 0 {
-                n = n + mark / 8192;
-                from = from + mark % 8192;
+                entries += mark / 8192;
+                from += mark % 8192;
             } else {
-                match meet_term(entry, at, pattern, from, marks, left) {
-                    Walk::Parted => return Walk::Parted,
-                    Walk::Came(to, more) => {
-                        at = to;
-                        from = from + mark % 8192;
-                        n = n + more;
-                    }
-                }
+                let below = meet_term(entry, at, pattern, from, marks, left)?;
+                at = below.at;
+                from += mark % 8192;
+                entries += below.entries;
             }
         }
     }
-    Walk::Came(at, n)
+    Some(Reached { at, entries })
 }
 
-// Whether an entry's term shares a situation with a pattern's term, whose marks are given, and if so how many entries replace
-// it. Bytes from the 4,096th on are not looked at.
-pub fn meet(entry: &[u8], pattern: &[u8], marks: &[u32]) -> Meeting
+// By how many entries an entry's term is replaced that shares a situation with a pattern's term, whose marks are given; None where
+// they share none. Bytes from the 4,096th on are not looked at.
+pub fn meet(entry: &[u8], pattern: &[u8], marks: &[u32]) -> Option<usize>
     ensures { result ≡ meeting entry.now pattern.now marks.now }
 {
-    let e = least(entry.len(), 4096);
-    let p = least(pattern.len(), 4096);
-    match meet_term(&entry[..e], 0, &pattern[..p], 0, marks, 32) {
-        Walk::Parted => Meeting::Apart,
-        Walk::Came(_, n) => Meeting::Shares(n),
-    }
+    let e = entry.len().min(4096);
+    let p = pattern.len().min(4096);
+    let end = meet_term(&entry[..e], 0, &pattern[..p], 0, marks, 32)?;
+    Some(end.entries)
 }

@@ -1,4 +1,3 @@
 -- The laws behind the proofs of comparing a bit map of names.
-pub mod Bits
 pub mod Lowest
 pub mod Comparing

@@ -1,91 +1,68 @@
--- Lowest: the lowest bit at which two bytes differ, found from the lowest on.
+-- Lowest: the lowest bit at which two bytes differ is the lowest that stands in what tells them apart, bit by bit.
 --
---   half n a             a halved n times
---   bit_half             bit n of a is the lowest bit of a halved n times
---   Looked               the invariant of the search: the bits below n are the same
---   looked_none, looked_turn, looked_found, looked_last    its beginning, its turn and its two ends
+--   bit_flag      bit n of a byte, as the logic's library has it
+--   apart_some    two different numbers have a bit in which they differ
+--   bits_apart, bits_same    two bits are different or the same, by the bit between them
+--   lowest_bit    the lowest of them
 --
-use mathlib.Core.Path.{◌≡◌, refl, sym, ap, ◌∙◌}
-use mathlib.Core.Bool.{Bool, true, false}
-use Prim.Native.Nat.{ℕ, zero, suc, ◌+◌, ◌/◌, ◌%◌, ◌<◌, ◌≤◌}
-use native.Mathlib.Numerals.{add-one}
-use native.Mathlib.Decide.{ℕ_discrete}
+use mathlib.Core.Path.{◌≡◌, sym, ap, ◌∙◌}
+use mathlib.Core.Bool.{false}
+use mathlib.Core.Logic.{inl, inr}
+use Prim.Native.Nat.{ℕ, zero, suc, ◌+◌, ◌%◌, ◌/◌, ◌<◌}
 use native.Mathlib.Omega.{arith}
 use lib.Dec.{eqb}
 use lib.ListN.{get_or}
-use borrow.Author.Tests.{eqb-true, eqb-false}
+use borrow.Author.Rules.{rules}
+use Rattle.std.proofs.Math.Nat.{eq-zero-or-pos}
+use Rattle.std.specs.Int.Width.{w8}
+use Rattle.std.specs.Int.{bit_at, trailing_zeros}
+use Rattle.std.specs.Int.Bits.{bit_xor, xor_assoc, xor_self, xor_zero_l, xor_zero_r}
+use Rattle.std.proofs.lemmas.Nat.{xor_lt}
+use Rattle.std.proofs.lemmas.Nat.Bits.{bit_at_xor, bit_at-lt, bit_at_lowest, bit_at-suc, bit_at-trailing_zeros}
 use Rattle.wire.specs.Map.{flags_in}
 use Rattle.namemaps.specs.Difference.{bit_in, LowestApart}
 
-abbrev half : ℕ → ℕ → ℕ
-half zero a = a
-half (suc n) a = half n (a / 2)
+bit_flag : (d n m : ℕ) → n < d → get_or (flags_in d m) n false ≡ eqb (bit_at m n) 1
+bit_flag zero n m h = absurd (omega arith)
+bit_flag (suc d) zero m h = ap (λ k. eqb k 1) (sym (bit_at_lowest m))
+bit_flag (suc d) (suc n) m h = bit_flag d n (m / 2) (omega arith) ∙ ap (λ k. eqb k 1) (sym (bit_at-suc m n))
 
-half_last : (n a : ℕ) → half (suc n) a ≡ half n a / 2
-half_last zero a = refl
-half_last (suc n) a = half_last n (a / 2)
+apart_some : (a b : ℕ) → (a ≡ b → ⊥) → 0 < bit_xor a b
+apart_some a b h = elim (eq-zero-or-pos (bit_xor a b)) [
+  | inl e ↦ absurd (h (sym (xor_zero_r a) ∙ ap (bit_xor a) (sym (xor_self b)) ∙ sym (xor_assoc a b b) ∙ ap (λ x. bit_xor x b) e ∙ xor_zero_l b))
+  | inr p ↦ p
+]
 
-bit_half : (d n a : ℕ) → n < d → get_or (flags_in d a) n false ≡ eqb (half n a % 2) 1
-bit_half zero n a h = absurd (omega arith)
-bit_half (suc d) zero a h = refl
-bit_half (suc d) (suc n) a h = bit_half d n (a / 2) (omega arith)
-
--- Two lowest bits are the same exactly where the remainders are.
-odd_same : (x y : ℕ) → x % 2 ≡ y % 2 → eqb (x % 2) 1 ≡ eqb (y % 2) 1
-odd_same x y e = ap (λ k. eqb k 1) e
-
-same_odd : (x y : ℕ) → eqb (x % 2) 1 ≡ eqb (y % 2) 1 → x % 2 ≡ y % 2
-same_odd x y e = go (eqb (x % 2) 1) refl (eqb (y % 2) 1) refl e
-  where
-    go : (b : Bool) → eqb (x % 2) 1 ≡ b → (c : Bool) → eqb (y % 2) 1 ≡ c → b ≡ c → x % 2 ≡ y % 2
-    go true p true q e = eqb-true (x % 2) 1 p ∙ sym (eqb-true (y % 2) 1 q)
-    go true p false q e = let z : ◌≡◌ {A = ℕ} 0 1 = cc in absurd (omega arith)
-    go false p true q e = let z : ◌≡◌ {A = ℕ} 0 1 = cc in absurd (omega arith)
-    go false p false q e =
-        let h : (x % 2 ≡ 1 → ⊥) = eqb-false (x % 2) 1 p in
-        let k : (y % 2 ≡ 1 → ⊥) = eqb-false (y % 2) 1 q in
-        omega arith
-
-pub record Looked (a b x y n : ℕ) : Type 0 where
-  pub first : x ≡ half n a
-  pub other : y ≡ half n b
-  pub few : n ≤ 7
-  pub differ : x ≡ y → ⊥
-  pub lower : (j : ℕ) → j < n → bit_in a j ≡ bit_in b j
-
-pub looked_none : (a b : ℕ) → (a ≡ b → ⊥) → Looked a b a b 0
-looked_none a b h = record { first = refl; other = refl; few = omega arith; differ = h; lower = λ j p. absurd (omega arith) }
-
-module _ {a b x y n : ℕ} (k : Looked a b x y n) where
-  here-first : eqb (x % 2) 1 ≡ bit_in a n
-  here-first = ap (λ z. eqb (z % 2) 1) k.first ∙ sym (bit_half 8 n a (omega (arith, k.few)))
-
-  here-other : eqb (y % 2) 1 ≡ bit_in b n
-  here-other = ap (λ z. eqb (z % 2) 1) k.other ∙ sym (bit_half 8 n b (omega (arith, k.few)))
-
-  pub looked_found : (x % 2 ≡ y % 2 → ⊥) → LowestApart a b n
-  looked_found h = record {
-    below = omega (arith, k.few);
-    differ = λ e. h (same_odd x y (here-first ∙ e ∙ sym here-other));
-    lower = k.lower;
-  }
-
-  pub looked_turn : n < 7 → x % 2 ≡ y % 2 → Looked a b (x / 2) (y / 2) (n + 1)
-  looked_turn room e = record {
-    first = ap (λ z. z / 2) k.first ∙ sym (half_last n a) ∙ ap (λ m. half m a) (sym (add-one n));
-    other = ap (λ z. z / 2) k.other ∙ sym (half_last n b) ∙ ap (λ m. half m b) (sym (add-one n));
-    few = omega arith;
-    differ = λ f. k.differ (omega arith);
-    lower = λ j p. elim (ℕ_discrete j n) [ yes q ↦ here j q | no q ↦ k.lower j (omega arith) ];
-  }
+-- Two bits are the same exactly where their sum is even.
+module _ (a b i : ℕ) (small : i < 8) where
+  pub bits_apart : bit_at (bit_xor a b) i ≡ 1 → bit_in a i ≡ bit_in b i → ⊥
+  bits_apart e same =
+      let one : (bit_at a i + bit_at b i) % 2 ≡ 1 = sym (bit_at_xor a b i) ∙ e in
+      let flags : eqb (bit_at a i) 1 ≡ eqb (bit_at b i) 1 = sym (bit_flag 8 i a small) ∙ same ∙ bit_flag 8 i b small in
+      apart (bit_at a i) (bit_at b i) (bit_at-lt a i) (bit_at-lt b i) one flags
     where
-      here : (j : ℕ) → j ≡ n → bit_in a j ≡ bit_in b j
-      here j q = ap (bit_in a) q ∙ sym here-first ∙ odd_same x y e ∙ here-other ∙ ap (bit_in b) (sym q)
+      apart : (x y : ℕ) → x < 2 → y < 2 → (x + y) % 2 ≡ 1 → eqb x 1 ≡ eqb y 1 → ⊥
+      apart zero zero h k e f = omega arith
+      apart zero (suc zero) h k e f = search rules
+      apart (suc zero) zero h k e f = search rules
+      apart (suc zero) (suc zero) h k e f = omega arith
+      apart (suc (suc x)) y h k e f = omega arith
+      apart zero (suc (suc y)) h k e f = omega arith
+      apart (suc zero) (suc (suc y)) h k e f = omega arith
 
--- At the last bit nothing else is left to differ.
-pub looked_last : {a b x y n : ℕ} → a < 256 → b < 256 → Looked a b x y n → 7 ≤ n → LowestApart a b n
-looked_last {a} {b} {x} {y} {n} p q k h =
-    let seven : n ≡ 7 = omega (arith, k.few) in
-    let u : x ≡ half 7 a = k.first ∙ ap (λ m. half m a) seven in
-    let w : y ≡ half 7 b = k.other ∙ ap (λ m. half m b) seven in
-    looked_found k (λ e. k.differ (omega arith))
+  pub bits_same : bit_at (bit_xor a b) i ≡ 0 → bit_in a i ≡ bit_in b i
+  bits_same e =
+      let none : (bit_at a i + bit_at b i) % 2 ≡ 0 = sym (bit_at_xor a b i) ∙ e in
+      let x = bit_at-lt a i in
+      let y = bit_at-lt b i in
+      let same : bit_at a i ≡ bit_at b i = omega (arith, none, x, y) in
+      bit_flag 8 i a small ∙ ap (λ k. eqb k 1) same ∙ sym (bit_flag 8 i b small)
+
+pub lowest_bit : (a b : ℕ) → a < 256 → b < 256 → (a ≡ b → ⊥) → LowestApart a b (trailing_zeros w8 (bit_xor a b))
+lowest_bit a b p q h =
+    let t = bit_at-trailing_zeros w8 (bit_xor a b) (apart_some a b h) (xor_lt 8 a b p q) in
+    record {
+      below = t.0;
+      differ = bits_apart a b (trailing_zeros w8 (bit_xor a b)) t.0 t.1;
+      lower = λ j k. bits_same a b j (omega (arith, t.0, k)) (t.2 j k);
+    }

@@ -11,7 +11,7 @@ ghost use Rattle.namemaps.specs.Difference.{entry_stands, stands_in, LowestApart
 fn stands(entry: u16) -> u8
     ensures { (result ≡ bit (entry_stands entry)) × (result < 2) }
 {
-    if entry < 256 { 1 } else { 0 }
+    u8::from(entry < 256)
 }
 
 // Half a byte of the map: the four names from the given one on.
@@ -37,11 +37,7 @@ fn byte_from(names: &[u16; 64], n: usize) -> u8
 fn byte_at(map: &[u8], i: usize) -> u8
     ensures { result ≡ byte_at map.now i }
 {
-    if map.len() <= i {
-        return 0;
-    }
-    let byte = map[i];
-    byte
+    map.get(i).copied().unwrap_or(0)
 }
 
 // The lowest bit at which two different bytes differ.
@@ -49,18 +45,7 @@ fn lowest_apart(a: u8, b: u8) -> usize
     requires { a ≡ b → ⊥ }
     ensures { LowestApart a b result }
 {
-    let mut x = a;
-    let mut y = b;
-    let mut n = 0;
-    while n < 7 {
-        if x % 2 != y % 2 {
-            return n;
-        }
-        x = x / 2;
-        y = y / 2;
-        n += 1;
-    }
-    n
+    (a ^ b).trailing_zeros() as usize
 }
 
 // The lowest name at which the bit map at the front of some bytes and a table of names differ, 64 where they are the same.
@@ -68,14 +53,12 @@ fn lowest_apart(a: u8, b: u8) -> usize
 pub fn first_difference(map: &[u8], names: &[u16; 64]) -> usize
     ensures { DifferenceAt map.now names.now result }
 {
-    let mut i = 0;
-    while i < 8 {
+    for i in 0..8 {
         let written = byte_at(map, i);
         let named = byte_from(names, 8 * i);
         if written != named {
             return 8 * i + lowest_apart(written, named);
         }
-        i += 1;
     }
     64
 }

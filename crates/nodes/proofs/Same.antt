@@ -1,31 +1,19 @@
 -- Same: nodes that two lists of bytes share, one by one and by blocks.
 --
---   same_none       none
 --   same-node       one more, whose word and map are the same
 --   same_block      as many more as a part has that is the same
---   longer, differs, one-node    two lists compared, one of which is a node
 --
 use mathlib.Core.Path.{◌≡◌, refl, sym, ap, ◌∙◌}
-use mathlib.Core.Bool.{Bool, true, false, false≢true}
+use mathlib.Core.Bool.{Bool, true, false}
 use mathlib.Core.List.{List}
 use Prim.Native.Nat.{ℕ, zero, suc, ◌+◌, ◌-◌, ◌*◌, ◌<◌, ◌≤◌}
 use native.Mathlib.Omega.{arith}
-use lib.Dec.{eqb, ltb}
+use lib.Dec.{ltb}
 use lib.ListN.{length, get_or, take, drop}
-use lib.Seq.{get_or-take, get_or-drop, ext_get_or}
-use borrow.Author.Tests.{ltb-true, ltb-false, eqb-true, eqb-false}
-use Rattle.slices.specs.Equal.{Equal}
+use lib.Seq.{get_or-take, get_or-drop}
+use borrow.Author.Tests.{ltb-true, ltb-false}
 use Rattle.wire.specs.Map.{map_bytes}
 use Rattle.nodes.specs.Same.{SameNodes}
-
-pub same_none : {a b : List ℕ} → SameNodes a b 0
-same_none = record {
-  nodes = 0;
-  whole = omega arith;
-  inside_first = omega arith;
-  inside_second = omega arith;
-  same = λ k l. absurd (omega arith);
-}
 
 module _ {a b : List ℕ} {n : ℕ} (c : SameNodes a b n) where
   more : (m : ℕ) → n + (1 + map_bytes) * m ≤ length a → n + (1 + map_bytes) * m ≤ length b →
@@ -63,23 +51,3 @@ module _ {a b : List ℕ} {n : ℕ} (c : SameNodes a b n) where
     where
       part : (t : List ℕ) (k : ℕ) → k < (1 + map_bytes) * m → get_or (take (n + (1 + map_bytes) * m - n) (drop n t)) k 0 ≡ get_or t (n + k) 0
       part t k l = get_or-take (n + (1 + map_bytes) * m - n) (drop n t) k 0 (omega arith) ∙ get_or-drop n t k 0
-
--- ---- two lists, one of which is a node
-
-module _ (a b : List ℕ) where
-  pub longer : length a ≡ 1 + map_bytes → (length b ≡ 1 + map_bytes → ⊥) → Equal a b false
-  longer la d = record { yes = λ q. absurd (false≢true q); no = λ q e. d (sym (ap length e) ∙ la) }
-
-  pub differs : (get_or a 0 0 ≡ get_or b 0 0 → ⊥) → Equal a b false
-  differs d = record { yes = λ q. absurd (false≢true q); no = λ q e. d (ap (λ l. get_or l 0 0) e) }
-
-  pub one-node : length a ≡ 1 + map_bytes → length b ≡ 1 + map_bytes → get_or a 0 0 ≡ get_or b 0 0 → Equal a b (eqb (get_or a 1 0) (get_or b 1 0))
-  one-node la lb word = record {
-    yes = λ q. ext_get_or 0 a b (la ∙ sym lb) (λ k l. go (eqb-true (get_or a 1 0) (get_or b 1 0) q) k (omega arith));
-    no = λ q e. eqb-false (get_or a 1 0) (get_or b 1 0) q (ap (λ l. get_or l 1 0) e);
-  }
-    where
-      go : get_or a 1 0 ≡ get_or b 1 0 → (k : ℕ) → k < 1 + map_bytes → get_or a k 0 ≡ get_or b k 0
-      go map zero l = word
-      go map (suc zero) l = map
-      go map (suc (suc k)) l = absurd (omega arith)

@@ -12,12 +12,10 @@ use Prim.Native.Nat.{ℕ, ◌<◌}
 use native.Mathlib.Omega.{arith}
 use lib.Dec.{eqb}
 use lib.ListN.{length}
-use Rattle.terms.specs.Term.{Term, any}
-use Rattle.terms.specs.Inhabited.{HasGround, Empty}
+use Rattle.terms.specs.Term.{any}
 use Rattle.terms.specs.Emptiness.{inhabited, EmptinessExact}
-use Rattle.terms.specs.Productive.{whole_of}
 use Rattle.terms.proofs.Theorems.{emptiness_is_exact}
-use Rattle.wire.specs.Reply.{Reply, accepted, refused}
+use Rattle.wire.specs.Reply.{accepted}
 use Rattle.wire.specs.Vocabulary.{Vocabulary, signature, HoldsVocabulary}
 use Rattle.wire.specs.VocabularyLines.{byte_at}
 use Rattle.wire.specs.Parser.{accept, read_vocabulary}
@@ -27,13 +25,12 @@ use Rattle.wire.proofs.Bytes.{bytes_of}
 use Rattle.wire.proofs.Words.{in_order_well_formed}
 use Rattle.wire.proofs.Theorems.{vocabularies_inverse}
 use Rattle.signature.specs.Answers.{vocabulary_refused}
-use Rattle.signature.specs.Tables.{accepted_in, vocabulary_in}
+use Rattle.signature.specs.Tables.{accepted_in}
 use Rattle.signature.specs.Settled.{settled_numbers, SettledOf, SettledFrom}
 use Rattle.signature.specs.declared.VocabularyRefusal.{VocabularyRefusal}
 use Rattle.signature.specs.declared.VocabularyRefusal.TheVariants.{Head, WordCount, Ends, NoSuchKind, Continues}
-use Rattle.signature.specs.declared.Missing.{Missing}
-use Rattle.signature.specs.declared.SettledAnswer.{SettledAnswer}
-use Rattle.signature.specs.declared.SettledAnswer.TheVariants.{Loaded, Refused}
+use Rattle.std.specs.Prelude.{Option}
+use Rattle.std.specs.Prelude.{Result, Ok, Err}
 use Rattle.takes.specs.Told.{whole_count}
 use Rattle.takes.proofs.Tests.{whole-told}
 use Rattle.texts.specs.Lexemes.{token_at}
@@ -69,12 +66,12 @@ module _ {v : List ℕ} {s : ℕ} where
   too_high h W held few = let most = held.in_order.few_kinds in absurd (omega arith)
 
   module _ (fit : (i : ℕ) → byte_at v i < 256) where
-    module _ {o r m t o' r' m' t' : List ℕ} {a : SettledAnswer} (loaded : SettledFrom v o r m t o' r' m' t' a) where
-      pub refused-told : (why : VocabularyRefusal) → a ≡ Refused why → EmptyTold v s false
+    module _ {o r m t o' r' m' t' : List ℕ} {a : Result (Option ℕ) VocabularyRefusal} (loaded : SettledFrom v o r m t o' r' m' t' a) where
+      pub refused-told : (why : VocabularyRefusal) → a ≡ Err why → EmptyTold v s false
       refused-told why e W held few =
           absurd (refusal why (sym (ap settled_numbers e) ∙ loaded.answer ∙ ap (reply_of 0 (λ W. [])) (held_in v fit W held)))
 
-      pub loaded_told : (k : Missing) → a ≡ Loaded k → {n c : ℕ} → n ≡ byte_at v 1 → c ≡ whole_count n t' k s → EmptyTold v s (eqb c 0)
+      pub loaded_told : (k : Option ℕ) → a ≡ Ok k → {n c : ℕ} → n ≡ byte_at v 1 → c ≡ whole_count n t' k s → EmptyTold v s (eqb c 0)
       loaded_told k e {n} is count W held few =
           let settled : SettledOf W (byte_at v 1) t' k =
           subst (λ (U : Vocabulary). SettledOf U (byte_at v 1) t' k) (ap accepted_in (held_in v fit W held)) (loaded.settles k e).of in

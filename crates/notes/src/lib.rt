@@ -1,25 +1,15 @@
 // What the desk says of a kind that no complete situation has.
 #![tactic(auto)]
 
-ghost use Rattle.std.specs.Prelude.{◌≡◌};
 ghost use Rattle.notes.specs.Notes.{EmptyTold, PutsNote};
 
-use signature::SettledAnswer;
-
-fn wide(b: u8) -> usize
-    ensures { result ≡ b }
-{
-    b as usize
-}
+use pages::Page;
 
 // Whether no complete situation has kind s, under a vocabulary.
 fn is_empty(vocabulary: &[u8], s: usize) -> bool
     ensures { EmptyTold vocabulary.now s result }
 {
-    if vocabulary.len() < 2 {
-        return false;
-    }
-    if 15 < s {
+    if vocabulary.len() < 2 || 15 < s {
         return false;
     }
     let mut offsets = [0u16; 96];
@@ -33,28 +23,18 @@ fn is_empty(vocabulary: &[u8], s: usize) -> bool
         &mut maps,
         &mut settled,
     ) {
-        SettledAnswer::Refused(_) => false,
-        SettledAnswer::Loaded(missing) => {
-            takes::whole(s as u8, wide(vocabulary[1]), &settled, missing) == 0
-        }
+        Err(_) => false,
+        Ok(missing) => takes::whole(s as u8, usize::from(vocabulary[1]), &settled, missing) == 0,
     }
 }
 
 // Puts what is said of kind s, under a vocabulary; nothing where a complete situation has it.
-pub fn put_note(
-    text: &[u8],
-    kinds: &[u16; 16],
-    vocabulary: &[u8],
-    s: usize,
-    page: &mut [u8; 1048576],
-    to: usize,
-) -> usize
-    ensures { PutsNote text.now kinds.now vocabulary.now s page.old to page.new result }
+pub fn put_note(text: &[u8], kinds: &[u16], vocabulary: &[u8], s: usize, page: &mut Page)
+    ensures { PutsNote text.now kinds.now vocabulary.now s page.old.bytes page.old.end page.new.bytes page.new.end }
 {
-    if !is_empty(vocabulary, s) {
-        return to;
+    if is_empty(vocabulary, s) {
+        page.put(b"# kind ");
+        wording::put_name(text, kinds, s, page);
+        page.put(b" has no complete situation\n\n");
     }
-    let a = pages::put(b"# kind ", page, to);
-    let b = wording::put_name(text, kinds, s, page, a);
-    pages::put(b" has no complete situation\n\n", page, b)
 }

@@ -15,13 +15,13 @@ use Rattle.wire.specs.Reply.{Reply, accepted, refused}
 use Rattle.signature.specs.Answers.{vocabulary_refused, vocabulary_numbers}
 use Rattle.signature.specs.declared.VocabularyRefusal.{VocabularyRefusal}
 use Rattle.signature.specs.declared.VocabularyRefusal.TheVariants as W
-use Rattle.signature.specs.declared.VocabularyAnswer.{VocabularyAnswer}
-use Rattle.signature.specs.declared.VocabularyAnswer.TheVariants as C
+use Rattle.std.specs.Prelude.{⊤, Result, Ok, Err}
 use Rattle.reader.specs.Answers.{term_refused_at, term_numbers, filling_refused, book_refused}
 use Rattle.reader.specs.declared.refusal.TermRefusal.{TermRefusal}
 use Rattle.reader.specs.declared.refusal.TermRefusal.TheVariants as T
-use Rattle.reader.specs.declared.TermAnswer.{TermAnswer}
-use Rattle.reader.specs.declared.TermAnswer.TheVariants as A
+use Rattle.reader.specs.declared.CheckedTerm.{CheckedTerm}
+use Rattle.reader.specs.declared.CheckRefusal.{CheckRefusal}
+use Rattle.reader.specs.declared.CheckRefusal.TheVariants as A
 use Rattle.reader.specs.declared.filling.FillingRefusal.{FillingRefusal}
 use Rattle.reader.specs.declared.filling.FillingRefusal.TheVariants as F
 use Rattle.reader.specs.declared.book.BookRefusal.{BookRefusal}
@@ -30,17 +30,18 @@ use Rattle.inputs.specs.Answers.{inputs_refused}
 use Rattle.inputs.specs.declared.InputsRefusal.{InputsRefusal}
 use Rattle.inputs.specs.declared.InputsRefusal.TheVariants as I
 use Rattle.matcher.specs.Answers.{match_numbers}
-use Rattle.matcher.specs.declared.MatchAnswer.{MatchAnswer}
-use Rattle.matcher.specs.declared.MatchAnswer.TheVariants as M
+use Rattle.matcher.specs.declared.MatchRefusal.{MatchRefusal}
+use Rattle.matcher.specs.declared.MatchRefusal.TheVariants as M
 use Rattle.complement.specs.Answers.{list_numbers}
-use Rattle.complement.specs.declared.ListAnswer.{ListAnswer}
-use Rattle.complement.specs.declared.ListAnswer.TheVariants as L
+use Rattle.sizes.specs.declared.Size.{Size}
+use Rattle.complement.specs.declared.ListRefusal.{ListRefusal}
+use Rattle.complement.specs.declared.ListRefusal.TheVariants as L
 use Rattle.books.specs.Answers.{book_list_numbers}
-use Rattle.books.specs.declared.BookListAnswer.{BookListAnswer}
-use Rattle.books.specs.declared.BookListAnswer.TheVariants as K
+use Rattle.books.specs.declared.BookListRefusal.{BookListRefusal}
+use Rattle.books.specs.declared.BookListRefusal.TheVariants as K
 use Rattle.filler.specs.Answers.{fill_numbers}
-use Rattle.filler.specs.declared.FillAnswer.{FillAnswer}
-use Rattle.filler.specs.declared.FillAnswer.TheVariants as G
+use Rattle.filler.specs.declared.FillRefusal.{FillRefusal}
+use Rattle.filler.specs.declared.FillRefusal.TheVariants as G
 use Rattle.numbers.specs.Numbers.{reply_numbers, reply_in}
 
 -- ---- refusals
@@ -86,40 +87,40 @@ module _ (k : ℕ) where
 
 -- ---- answers
 
-pub vocabulary_said : (a : VocabularyAnswer) → reply_in 0 (reply_numbers (vocabulary_numbers a)) ≡ vocabulary_numbers a
-vocabulary_said C.Accepted = refl
-vocabulary_said (C.Refused why) = vocabulary_refused_said 0 why
+pub vocabulary_said : (a : Result ⊤ VocabularyRefusal) → reply_in 0 (reply_numbers (vocabulary_numbers a)) ≡ vocabulary_numbers a
+vocabulary_said (Ok u) = refl
+vocabulary_said (Err why) = vocabulary_refused_said 0 why
 
-pub term_said : (a : TermAnswer) → reply_in 4 (reply_numbers (term_numbers a)) ≡ term_numbers a
-term_said (A.Accepted n d c g) = refl
-term_said (A.Vocabulary why) = vocabulary_refused_said 4 why
-term_said (A.Term why) = term_refused_said 4 1 0 why
+pub term_said : (a : Result CheckedTerm CheckRefusal) → reply_in 4 (reply_numbers (term_numbers a)) ≡ term_numbers a
+term_said (Ok x) = refl
+term_said (Err (A.Vocabulary why)) = vocabulary_refused_said 4 why
+term_said (Err (A.Term why)) = term_refused_said 4 1 0 why
 
-pub match_said : (a : MatchAnswer) → reply_in 1 (reply_numbers (match_numbers a)) ≡ match_numbers a
-match_said M.Yes = refl
-match_said M.No = refl
-match_said (M.Inputs why) = inputs_refused_said 1 why
-match_said M.TableLength = refl
+pub match_said : (a : Result Bool MatchRefusal) → reply_in 1 (reply_numbers (match_numbers a)) ≡ match_numbers a
+match_said (Ok true) = refl
+match_said (Ok false) = refl
+match_said (Err (M.Inputs why)) = inputs_refused_said 1 why
+match_said (Err M.TableLength) = refl
 
-pub list_said : (a : ListAnswer) → reply_in 2 (reply_numbers (list_numbers a)) ≡ list_numbers a
-list_said (L.Listed n m) = refl
-list_said (L.Vocabulary why) = vocabulary_refused_said 2 why
-list_said (L.Pattern why) = term_refused_said 2 1 0 why
-list_said (L.Repeated q) = refl
-list_said (L.NoRoom m) = refl
+pub list_said : (a : Result Size ListRefusal) → reply_in 2 (reply_numbers (list_numbers a)) ≡ list_numbers a
+list_said (Ok size) = refl
+list_said (Err (L.Vocabulary why)) = vocabulary_refused_said 2 why
+list_said (Err (L.Pattern why)) = term_refused_said 2 1 0 why
+list_said (Err (L.Repeated q)) = refl
+list_said (Err (L.NoRoom m)) = refl
 
-pub book_said : (a : BookListAnswer) → reply_in 2 (reply_numbers (book_list_numbers a)) ≡ book_list_numbers a
-book_said (K.Listed n m) = refl
-book_said (K.Vocabulary why) = vocabulary_refused_said 2 why
-book_said (K.Book why) = book_refused_said 2 why
-book_said (K.TooLarge i) = refl
-book_said (K.NoRoom m) = refl
+pub book_said : (a : Result Size BookListRefusal) → reply_in 2 (reply_numbers (book_list_numbers a)) ≡ book_list_numbers a
+book_said (Ok size) = refl
+book_said (Err (K.Vocabulary why)) = vocabulary_refused_said 2 why
+book_said (Err (K.Book why)) = book_refused_said 2 why
+book_said (Err (K.TooLarge i)) = refl
+book_said (Err (K.NoRoom m)) = refl
 
-pub fill_said : (a : FillAnswer) → reply_in 1 (reply_numbers (fill_numbers a)) ≡ fill_numbers a
-fill_said (G.Written m) = refl
-fill_said (G.Inputs why) = filling_refused_said 1 why
-fill_said G.TooLarge = refl
-fill_said (G.NoRoom m) = refl
+pub fill_said : (a : Result ℕ FillRefusal) → reply_in 1 (reply_numbers (fill_numbers a)) ≡ fill_numbers a
+fill_said (Ok m) = refl
+fill_said (Err (G.Inputs why)) = filling_refused_said 1 why
+fill_said (Err G.TooLarge) = refl
+fill_said (Err (G.NoRoom m)) = refl
 
 -- ---- by the first number
 

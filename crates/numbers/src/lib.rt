@@ -14,15 +14,17 @@ ghost use Rattle.books.specs.Answers.{book_list_numbers};
 ghost use Rattle.filler.specs.Answers.{fill_numbers};
 ghost use Rattle.numbers.specs.Numbers.{reply_numbers};
 
-use books::BookListAnswer;
-use complement::ListAnswer;
-use filler::FillAnswer;
+use books::BookListRefusal;
+use complement::ListRefusal;
+use filler::FillRefusal;
 use inputs::InputsRefusal;
-use matcher::MatchAnswer;
-use reader::{BookRefusal, FillingRefusal, TermAnswer, TermRefusal};
-use signature::{VocabularyAnswer, VocabularyRefusal};
+use matcher::MatchRefusal;
+use reader::{BookRefusal, CheckRefusal, CheckedTerm, FillingRefusal, TermRefusal};
+use signature::VocabularyRefusal;
+use sizes::Size;
 
 // How many they are stands here, in `accepted`, `accepted_term` and `refused`, and in `reply_numbers`.
+// Kept: the exported calls write this array for C, so it is no struct of its own, and each answer has a function in place of a From.
 pub type Numbers = [u64; 5];
 
 // The numbers of a reply that accepts, with its values, of which it has up to two.
@@ -36,7 +38,7 @@ pub fn accepted(one: u64, other: u64) -> Numbers
 fn accepted_term(words: u64, deepest: u64, complete: bool, gap: u64) -> Numbers
     ensures { result ≡ reply_numbers (Reply·accepted (words ∷ deepest ∷ bit complete ∷ gap ∷ [])) }
 {
-    [0, words, deepest, complete as u64, gap]
+    [0, words, deepest, u64::from(complete), gap]
 }
 
 // The numbers of a reply that refuses.
@@ -115,74 +117,72 @@ fn book_refused(why: BookRefusal) -> Numbers
 }
 
 // No values.
-pub fn vocabulary_numbers(answer: VocabularyAnswer) -> Numbers
+pub fn vocabulary_numbers(answer: Result<(), VocabularyRefusal>) -> Numbers
     ensures { result ≡ reply_numbers (vocabulary_numbers answer) }
 {
     match answer {
-        VocabularyAnswer::Accepted => accepted(0, 0),
-        VocabularyAnswer::Refused(why) => vocabulary_refused(why),
+        Ok(()) => accepted(0, 0),
+        Err(why) => vocabulary_refused(why),
     }
 }
 
 // The values are the number of words, the deepest level, 1 if the term is complete and 0 if not, and the gap.
-pub fn term_numbers(answer: TermAnswer) -> Numbers
+pub fn term_numbers(answer: Result<CheckedTerm, CheckRefusal>) -> Numbers
     ensures { result ≡ reply_numbers (term_numbers answer) }
 {
     match answer {
-        TermAnswer::Accepted(words, deepest, complete, gap) => {
-            accepted_term(words as u64, deepest as u64, complete, gap as u64)
-        }
-        TermAnswer::Vocabulary(why) => vocabulary_refused(why),
-        TermAnswer::Term(why) => term_refused(1, 0, why),
+        Ok(x) => accepted_term(x.words as u64, x.deepest as u64, x.complete, x.gap as u64),
+        Err(CheckRefusal::Vocabulary(why)) => vocabulary_refused(why),
+        Err(CheckRefusal::Term(why)) => term_refused(1, 0, why),
     }
 }
 
 // The value is 1 for yes and 0 for no.
-pub fn match_numbers(answer: MatchAnswer) -> Numbers
+pub fn match_numbers(answer: Result<bool, MatchRefusal>) -> Numbers
     ensures { result ≡ reply_numbers (match_numbers answer) }
 {
     match answer {
-        MatchAnswer::Yes => accepted(1, 0),
-        MatchAnswer::No => accepted(0, 0),
-        MatchAnswer::Inputs(why) => inputs_refused(why),
-        MatchAnswer::TableLength => refused(19, 3, 0),
+        Ok(true) => accepted(1, 0),
+        Ok(false) => accepted(0, 0),
+        Err(MatchRefusal::Inputs(why)) => inputs_refused(why),
+        Err(MatchRefusal::TableLength) => refused(19, 3, 0),
     }
 }
 
 // The values are the number of entries and of bytes.
-pub fn list_numbers(answer: ListAnswer) -> Numbers
+pub fn list_numbers(answer: Result<Size, ListRefusal>) -> Numbers
     ensures { result ≡ reply_numbers (list_numbers answer) }
 {
     match answer {
-        ListAnswer::Listed(entries, bytes) => accepted(entries as u64, bytes as u64),
-        ListAnswer::Vocabulary(why) => vocabulary_refused(why),
-        ListAnswer::Pattern(why) => term_refused(1, 0, why),
-        ListAnswer::Repeated(q) => refused(18, 1, q as u64),
-        ListAnswer::NoRoom(bytes) => refused(20, 3, bytes as u64),
+        Ok(size) => accepted(size.entries as u64, size.bytes as u64),
+        Err(ListRefusal::Vocabulary(why)) => vocabulary_refused(why),
+        Err(ListRefusal::Pattern(why)) => term_refused(1, 0, why),
+        Err(ListRefusal::Repeated(q)) => refused(18, 1, q as u64),
+        Err(ListRefusal::NoRoom(bytes)) => refused(20, 3, bytes as u64),
     }
 }
 
 // The values are the number of entries and of bytes.
-pub fn book_numbers(answer: BookListAnswer) -> Numbers
+pub fn book_numbers(answer: Result<Size, BookListRefusal>) -> Numbers
     ensures { result ≡ reply_numbers (book_list_numbers answer) }
 {
     match answer {
-        BookListAnswer::Listed(entries, bytes) => accepted(entries as u64, bytes as u64),
-        BookListAnswer::Vocabulary(why) => vocabulary_refused(why),
-        BookListAnswer::Book(why) => book_refused(why),
-        BookListAnswer::TooLarge(i) => refused(26, 5, i as u64),
-        BookListAnswer::NoRoom(bytes) => refused(20, 3, bytes as u64),
+        Ok(listed) => accepted(listed.entries as u64, listed.bytes as u64),
+        Err(BookListRefusal::Vocabulary(why)) => vocabulary_refused(why),
+        Err(BookListRefusal::Book(why)) => book_refused(why),
+        Err(BookListRefusal::TooLarge(i)) => refused(26, 5, i as u64),
+        Err(BookListRefusal::NoRoom(bytes)) => refused(20, 3, bytes as u64),
     }
 }
 
 // The value is the result's length.
-pub fn fill_numbers(answer: FillAnswer) -> Numbers
+pub fn fill_numbers(answer: Result<usize, FillRefusal>) -> Numbers
     ensures { result ≡ reply_numbers (fill_numbers answer) }
 {
     match answer {
-        FillAnswer::Written(bytes) => accepted(bytes as u64, 0),
-        FillAnswer::Inputs(why) => filling_refused(why),
-        FillAnswer::TooLarge => refused(23, 4, 0),
-        FillAnswer::NoRoom(bytes) => refused(20, 3, bytes as u64),
+        Ok(bytes) => accepted(bytes as u64, 0),
+        Err(FillRefusal::Inputs(why)) => filling_refused(why),
+        Err(FillRefusal::TooLarge) => refused(23, 4, 0),
+        Err(FillRefusal::NoRoom(bytes)) => refused(20, 3, bytes as u64),
     }
 }

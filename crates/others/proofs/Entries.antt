@@ -5,6 +5,7 @@
 --   written_on                          bytes are written behind others
 --   listed_none, -both                  no entries, and entries behind others
 --   listed-end, -inside, -length        where they end, and the length stays
+--   full_is                             no room, as a caller hands it on
 --
 use mathlib.Core.Path.{◌≡◌, refl, sym, ap, ap₂, ◌∙◌, subst}
 use mathlib.Core.List.{List, [], ◌∷◌, ◌++◌, append-nil, append_assoc}
@@ -16,6 +17,9 @@ use Rattle.terms.proofs.All.{all_append, all_left, all_right}
 use Rattle.wire.specs.TermBytes.{most_bytes}
 use Rattle.slices.specs.Written.{Written}
 use Rattle.slices.proofs.Writing.{written-length}
+use Rattle.std.specs.Prelude.{Result, Ok, Err}
+use Rattle.std.specs.Result.{IsErr}
+use Rattle.others.specs.declared.Full.{Full}
 use Rattle.others.specs.Listed.{together, FitBehind, Listed}
 
 pub together-append : (x y : List (List ℕ)) → together (x ++ y) ≡ together x ++ together y
@@ -90,3 +94,8 @@ module _ {x : List (List ℕ)} {n m : ℕ} {before mid : List ℕ} (f : Listed x
         subst (λ l. Written l before k after) (append_assoc (take n before) (together x) (together y) ∙ ap (λ l. take n before ++ l) (sym (together-append x y)))
         (written_on (together y) (omega (arith, bytes-length, f.fits.all)) f.written g.written);
   }
+
+-- No room, as a caller hands it on.
+pub full_is : {A : Type 0} (r : Result A Full) → IsErr r → Err (record {}) ≡ r
+full_is (Ok x) h = cc
+full_is (Err e) h = refl

@@ -10,13 +10,13 @@
 --   OthersListed, OthersCut, WritesSiblings   what it does: their entries are written, or do not fit
 --   BytesInside             the bytes written are in the slice
 --
-use Rattle.std.specs.Prelude.{◌≡◌, Bool, true, false, List, ◌∷◌, ◌++◌, map, ℕ, ◌+◌, ◌<◌, ◌≤◌, length, get_or, take}
+use Rattle.std.specs.Prelude.{◌≡◌, Result, Ok, Err, Bool, true, false, List, ◌∷◌, ◌++◌, map, ℕ, ◌+◌, ◌<◌, ◌≤◌, length, get_or, take}
 use Rattle.wire.specs.Map.{write_map}
 use Rattle.wire.specs.Vocabulary.{most_words}
 use Rattle.wire.specs.TermBytes.{most_bytes}
 use Rattle.kinds.specs.Kinds.{others_in, SiblingTable}
-use Rattle.others.specs.declared.Others.{Others}
-use Rattle.others.specs.declared.Others.TheVariants.{Bytes, Full}
+use Rattle.others.specs.declared.Filled.{Filled}
+use Rattle.others.specs.declared.Full.{Full}
 use Rattle.others.specs.Listed.{FitBehind, Listed}
 
 abbrev pub entry_of : List ℕ → List ℕ → ℕ → List ℕ
@@ -64,15 +64,15 @@ pub record OthersListed (ls : List (List ℕ)) (later n : ℕ) (before after : L
   pub listed : Listed ls n end before after
   pub due : todo ≡ later
 
-abbrev pub OthersCut : List (List ℕ) → ℕ → ℕ → List ℕ → List ℕ → Others → Type 0
-OthersCut ls later n before after (Bytes end todo) = OthersListed ls later n before after end todo
-OthersCut ls later n before after Full = FitBehind ls n (length before) → ⊥
+abbrev pub OthersCut : List (List ℕ) → ℕ → ℕ → List ℕ → List ℕ → Result Filled Full → Type 0
+OthersCut ls later n before after (Ok w) = OthersListed ls later n before after w.bytes w.due
+OthersCut ls later n before after (Err e) = FitBehind ls n (length before) → ⊥
 
-abbrev pub WritesSiblings : List ℕ → ℕ → ℕ → List ℕ → List ℕ → ℕ → ℕ → List ℕ → List ℕ → Others → Type 0
+abbrev pub WritesSiblings : List ℕ → ℕ → ℕ → List ℕ → List ℕ → ℕ → ℕ → List ℕ → List ℕ → Result Filled Full → Type 0
 WritesSiblings copy at f siblings tail n todo before after r =
     LengthsAgree at (length copy) (length tail) n (length before) → (o : SiblingsAt f siblings todo) →
     OthersCut (others_of (take at copy) tail (others_in o.words o.results f)) o.later n before after r
 
-abbrev pub BytesInside : ℕ → Others → Type 0
-BytesInside size (Bytes end todo) = end ≤ size
-BytesInside size Full = Unit {0}
+abbrev pub BytesInside : ℕ → Result Filled Full → Type 0
+BytesInside size (Ok w) = w.bytes ≤ size
+BytesInside size (Err e) = Unit {0}

@@ -6,18 +6,16 @@ ghost use Rattle.wire.specs.Map.{map_bytes};
 ghost use Rattle.slices.specs.Written.{Written};
 ghost use Rattle.others.specs.Others.{entry_of, NextWord, Exceeds, LengthsFail, WritesSiblings, BytesInside};
 
-// So many bytes are there now and so many entries are still due, or an entry is too long or has no room.
-#[derive(Drop)]
-pub enum Others {
-    Bytes(usize, usize),
-    Full,
+// So many bytes are there now, and so many entries are still due.
+#[derive(Clone, Copy)]
+pub struct Filled {
+    pub bytes: usize,
+    pub due: usize,
 }
 
-fn wide(b: u8) -> usize
-    ensures { result ≡ b }
-{
-    b as usize
-}
+// An entry is too long or has no room.
+#[derive(Clone, Copy)]
+pub struct Full;
 
 // Writes an entry: the first n bytes of the copy, a word's number, an empty map and the tail.
 fn write_entry(copy: &[u8], n: usize, word: u8, tail: &[u8], out: &mut [u8])
@@ -36,48 +34,30 @@ fn write_entry(copy: &[u8], n: usize, word: u8, tail: &[u8], out: &mut [u8])
 fn first_word(siblings: &[u8; 384], f: usize) -> usize
     ensures { result ≡ get_or siblings.now (128 + f % 128) 0 }
 {
-    wide(siblings[128 + f % 128])
+    siblings[128 + f % 128] as usize
 }
 
-// The next word of the result kind of g, by the table. It is a higher one, whatever the table has.
+// The next word of the result kind of g, by the table, 255 for none. It is a higher one, whatever the table has.
 fn next_word(siblings: &[u8; 384], g: usize) -> usize
     requires { g < 96 }
     ensures { NextWord siblings.now g result }
 {
-    let next = wide(siblings[g]);
-    if next <= g {
-        return 255;
-    }
-    next
+    let next = siblings[g] as usize;
+    if g < next { next } else { 255 }
 }
 
 // Whether no entry is due, or the entry is too long or has no room.
 fn exceeds(todo: usize, size: usize, room: usize) -> bool
     ensures { Exceeds todo size room result }
 {
-    if todo == 0 {
-        return true;
-    }
-    if 4096 < size {
-        return true;
-    }
-    room < size
+    todo == 0 || 4096 < size || room < size
 }
 
 // Whether the copy is too short or too long, the tail too long, or the bytes written are not all in the slice.
 fn out_of_reach(at: usize, copy: usize, tail: usize, n: usize, room: usize) -> bool
     ensures { LengthsFail at copy tail n room result }
 {
-    if copy < at {
-        return true;
-    }
-    if 65536 < copy {
-        return true;
-    }
-    if 65536 < tail {
-        return true;
-    }
-    room < n
+    copy < at || 65536 < copy || 65536 < tail || room < n
 }
 
 // Writes an entry for every other word of the result kind of f, behind the first n bytes: the first bytes of the copy, the word
@@ -91,28 +71,32 @@ pub fn write_others(
     n: usize,
     todo: usize,
     out: &mut [u8],
-) -> Others
+) -> Result<Filled, Full>
     ensures bytes_inside { BytesInside (length out.old) result }
     ensures writes_siblings { WritesSiblings copy.now at f siblings.now tail.now n todo out.old out.new result }
 {
     if out_of_reach(at, copy.len(), tail.len(), n, out.len()) {
-        return Others::Full;
+        return Err(Full);
     }
     let size = at + maps::NODE + tail.len();
     let mut n = n;
     let mut todo = todo;
+    // Kept: the words of a kind are a chain in the table, so the next one is read there and not counted.
     let mut h = first_word(siblings, f);
     while h < 96 {
         let g = h;
         h = next_word(siblings, g);
         if g != f {
             if exceeds(todo, size, out.len() - n) {
-                return Others::Full;
+                return Err(Full);
             }
             write_entry(copy, at, g as u8, tail, &mut out[n..]);
             n += size;
             todo -= 1;
         }
     }
-    Others::Bytes(n, todo)
+    Ok(Filled {
+        bytes: n,
+        due: todo,
+    })
 }

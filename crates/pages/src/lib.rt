@@ -1,38 +1,47 @@
-// The text of an answer, put piece by piece on a page that the caller lends. What has no room makes the page full, and full it
-// stays.
+// The text of an answer, put piece by piece on a page. What has no room makes the page full, and full it stays.
 #![tactic(auto)]
 
-ghost use Rattle.std.specs.Prelude.{◌≡◌, length};
+ghost use Rattle.std.specs.Prelude.{◌≡◌, replicate};
 ghost use Rattle.wire.specs.Text.{decimal};
-ghost use Rattle.pages.specs.Pages.{Adds};
+ghost use Rattle.pages.specs.Pages.{Puts};
 
-// Puts bytes at an offset of a page's bytes.
-fn put_in(bytes: &[u8], page: &mut [u8], at: usize) -> usize
-    requires { length page.old ≡ 1048576 }
-    ensures { Adds page.old at page.new result bytes.now }
-{
-    if 1048576 < at {
-        return 1048577;
-    }
-    if 1048576 - at < bytes.len() {
-        return 1048577;
-    }
-    slices::copy(bytes, &mut page[at..]);
-    at + bytes.len()
+// A text: the first `end` of the bytes. One past the last byte says that the page is full.
+#[derive(Drop)]
+pub struct Page {
+    pub bytes: [u8; 1048576],
+    pub end: usize,
 }
 
-// Puts bytes at an offset, and gives the offset behind them; one past the page's end says that the page is full.
-pub fn put(bytes: &[u8], page: &mut [u8; 1048576], at: usize) -> usize
-    ensures { Adds page.old at page.new result bytes.now }
-{
-    put_in(bytes, page, at)
-}
+impl Page {
+    // A page without text.
+    pub fn new() -> Page
+        ensures bytes { result.bytes ≡ replicate 1048576 0 }
+        ensures end { result.end ≡ 0 }
+    {
+        Page {
+            bytes: [0; 1048576],
+            end: 0,
+        }
+    }
 
-// Puts a number in decimal.
-pub fn put_number(n: u64, page: &mut [u8; 1048576], at: usize) -> usize
-    ensures { Adds page.old at page.new result (decimal n) }
-{
-    let mut digits = [0u8; 20];
-    let k = io::decimal(n, &mut digits);
-    put(&digits[..k], page, at)
+    // Puts bytes behind the text.
+    pub fn put(&mut self, bytes: &[u8])
+        ensures { Puts self.old self.new bytes.now }
+    {
+        if self.end > 1048576 || bytes.len() > 1048576 - self.end {
+            self.end = 1048577;
+            return;
+        }
+        slices::copy(bytes, &mut self.bytes[self.end..]);
+        self.end += bytes.len();
+    }
+
+    // Puts a number in decimal.
+    pub fn put_number(&mut self, n: u64)
+        ensures { Puts self.old self.new (decimal n) }
+    {
+        let mut digits = [0; 20];
+        let k = io::decimal(n, &mut digits);
+        self.put(&digits[..k]);
+    }
 }

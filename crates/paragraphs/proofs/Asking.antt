@@ -1,5 +1,6 @@
 -- Asking: the answers to questions are put one by one.
 --
+--   no_ok                      a result that is no Ok is an Err
 --   name-token, behind_two, label-first     the first tokens of some lexemes
 --   identifier-clear           a name is not (
 --   asked X p l                the questions that stand in l
@@ -38,17 +39,20 @@ use Rattle.texts.proofs.QuestionsExact.{questions-exact}
 use Rattle.texts.proofs.Course.{questions-end, questions-bad, questions-more}
 use Rattle.pages.specs.Pages.{Adds}
 use Rattle.pages.proofs.Pages.{adds_is, adds_then, adds-nothing}
-use Rattle.clauses.specs.declared.Fault as clauses-fault
-use Rattle.clauses.specs.Reading.{fault_of}
-use Rattle.questions.specs.declared.QuestionAnswer.{QuestionAnswer}
-use Rattle.questions.specs.declared.QuestionAnswer.TheVariants.{Read as ReadUpTo, Bad as Refused}
-use Rattle.questions.specs.Asking.{ReadsTo, QuestionPromise}
+use Rattle.std.specs.Prelude.{Result, Ok, Err}
+use Rattle.faults.specs.declared.Fault as faults-fault
+use Rattle.faults.specs.Reasons.{fault_of}
+use Rattle.questions.specs.Asking.{QuestionAnswer, ReadsTo, QuestionPromise}
 use Rattle.verdicts.specs.Putting.{PutsQuestion}
 use Rattle.gatherings.specs.Courses.{Readable}
 use Rattle.paragraphs.specs.Paragraphs.{BehindAsking, About, PutsQuestions}
 use Rattle.paragraphs.proofs.Offsets.{from_lexed, from_closes}
 use Rattle.gatherings.proofs.Readings.{reads-bad, reads-well}
 use Rattle.paragraphs.proofs.Checking.{takes_less}
+
+pub no_ok : {T E : Type 0} (r : Result T E) → ((x : T) → r ≡ Ok x → ⊥) → (y : E) × (r ≡ Err y)
+no_ok (Ok x) never = absurd (never x refl)
+no_ok (Err y) never = (y, refl)
 
 -- ---- tokens
 
@@ -158,7 +162,7 @@ module _ (b : List ℕ) (s label kind : ℕ) (ws : List ℕ) (n : ℕ) (r : List
           ReadsTo b (read_question (names_in b (take n ws)) (tabled_vocabulary k n r) p (lexemes_from b at)) a
       answered = says fits.short h.inside fits.words begins
 
-      pub asks_bad : {x : clauses-fault.Fault} → a ≡ Refused x → {page' : List ℕ} {to' : ℕ} → PutsQuestions b s label kind at₀ ws n r page₀ to₀ page' at to'
+      pub asks_bad : {x : faults-fault.Fault} → a ≡ Err x → {page' : List ℕ} {to' : ℕ} → PutsQuestions b s label kind at₀ ws n r page₀ to₀ page' at to'
       asks_bad {x} is {page'} {to'} = record { inside = h.inside; puts = never }
         where
           never : (X : Lexicon) (p : Phrase) (gs : List Ground) (m : List Lexeme) → About b s label kind ws n r X p →
@@ -172,7 +176,7 @@ module _ (b : List ℕ) (s label kind : ℕ) (ws : List ℕ) (n : ℕ) (r : List
               let one = left.read in
               let z : ◌≡◌ {A = ℕ} 0 1 = cc in absurd (omega arith)
 
-      module _ {e : ℕ} (is : a ≡ ReadUpTo e) where
+      module _ {e : ℕ} (is : a ≡ Ok e) where
         -- A pattern of which nothing matters but its label and kind.
         abbrev some : Phrase
         some = record { label = token_at b label; kind = kind; term = any; variables = [] }

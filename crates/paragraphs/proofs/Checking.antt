@@ -18,23 +18,19 @@ use Rattle.wire.specs.Vocabulary.{Vocabulary}
 use Rattle.texts.specs.Lexemes.{Token, Lexeme, blanks, lexemes_from}
 use Rattle.texts.specs.Phrases.{Phrase}
 use Rattle.texts.specs.Files.{Paragraph}
-use Rattle.texts.specs.Faults.{Fault, Parsed, parsed, bad, parse_then, token}
+use Rattle.texts.specs.Faults.{Parsed, parsed, bad, parse_then, token}
 use Rattle.texts.specs.PhraseReading.{read_phrase}
 use Rattle.texts.specs.QuestionReading.{read_questions}
 use Rattle.texts.specs.Tabled.{names_in, tabled_vocabulary}
 use Rattle.texts.specs.Answering.{as_paragraph, read_paragraph, read_paragraphs}
 use Rattle.texts.proofs.Passing.{Takes}
 use Rattle.texts.proofs.Course.{paragraph_phrase, paragraph_takes, paragraphs-end, paragraphs-bad, paragraphs-more}
-use Rattle.clauses.specs.declared.Fault as clauses-fault
-use Rattle.clauses.specs.Reading.{fault_of}
+use Rattle.std.specs.Prelude.{Ok, Err}
+use Rattle.faults.specs.declared.Fault as faults-fault
+use Rattle.faults.specs.Reasons.{fault_of}
 use Rattle.phrases.specs.declared.Phrase as phrases-phrase
-use Rattle.phrases.specs.declared.PhraseAnswer.{PhraseAnswer}
-use Rattle.phrases.specs.declared.PhraseAnswer.TheVariants.{Read as IsRead, Bad as NotRead}
-use Rattle.phrases.specs.Phrases.{PhraseTo, ReadsPhrase, PhrasePromise}
-use Rattle.questions.specs.declared.QuestionAnswer.{QuestionAnswer}
-use Rattle.questions.specs.declared.QuestionAnswer.TheVariants.{Read as ReadUpTo, Bad as Refused}
-use Rattle.questions.specs.Asking.{ReadsTo, QuestionsPromise}
-use Rattle.paragraphs.specs.declared.Checked.TheVariants.{Fine, Bad}
+use Rattle.phrases.specs.Phrases.{PhraseAnswer, ReadsPhrase, PhrasePromise}
+use Rattle.questions.specs.Asking.{QuestionAnswer, ReadsTo, QuestionsPromise}
 use Rattle.gatherings.specs.Courses.{Readable}
 use Rattle.gatherings.proofs.Readings.{phrase-bad, phrase-read, reads-bad, reads-well}
 use Rattle.paragraphs.specs.Paragraphs.{Says, Checks, ReadsParagraph}
@@ -55,14 +51,14 @@ module _ (b : List ℕ) (at : ℕ) (ks : List ℕ) (k : ℕ) (ws : List ℕ) (n 
   reads : ReadsPhrase words b o v phrase a
   reads = says fits.short fits.inside fits.kinds fits.words
 
-  pub paragraph_bad : {x : clauses-fault.Fault} → a ≡ NotRead x → ReadsParagraph b at ks k ws n r (Refused x)
+  pub paragraph_bad : {x : faults-fault.Fault} → a ≡ Err x → ReadsParagraph b at ks k ws n r (Err x)
   paragraph_bad {x} e = record {
     reads =
-        subst (λ (y : Parsed Paragraph). ReadsTo b y (Refused x))
+        subst (λ (y : Parsed Paragraph). ReadsTo b y (Err x))
         (sym (paragraph_phrase (names_in b (take k ks)) names words (lexemes_from b at) (fault_of x) (phrase-bad words b o v phrase a reads e))) refl;
   }
 
-  pub paragraph_goes : {x : phrases-phrase.Phrase} → a ≡ IsRead x → (c : QuestionAnswer) → QuestionsPromise b x.at x.label x.kind ws n r c →
+  pub paragraph_goes : {x : phrases-phrase.Phrase} → a ≡ Ok x → (c : QuestionAnswer) → QuestionsPromise b x.at x.label x.kind ws n r c →
       ReadsParagraph b at ks k ws n r c
   paragraph_goes {x} e c asks =
       let read = phrase-read words b o v phrase a reads e in
@@ -77,10 +73,10 @@ module _ (b : List ℕ) (at : ℕ) (ks : List ℕ) (k : ℕ) (ws : List ℕ) (n 
       }
     where
       told : (p : Phrase) (y : Parsed (List Ground)) (c : QuestionAnswer) → ReadsTo b y c → ReadsTo b (parse_then y (λ gs r'. parsed (as_paragraph p gs) r')) c
-      told p (parsed gs m) (ReadUpTo e) h = h
-      told p (parsed gs m) (Refused x) h = h
-      told p (bad f) (ReadUpTo e) h = h
-      told p (bad f) (Refused x) h = h
+      told p (parsed gs m) (Ok e) h = h
+      told p (parsed gs m) (Err x) h = h
+      told p (bad f) (Ok e) h = h
+      told p (bad f) (Err x) h = h
 
 -- ---- the count
 
@@ -118,17 +114,17 @@ module _ (K N : List Token) (W : Vocabulary) (b : List ℕ) where
   }
 
   module _ {from count at : ℕ} (h : Counted from count at) where
-    pub counted-all : length (token (lexemes_from b at)) ≡ 0 → Says (whole from) (Fine count)
+    pub counted-all : length (token (lexemes_from b at)) ≡ 0 → Says (whole from) (Ok count)
     counted-all e =
-        subst (λ y. Says y (Fine count))
+        subst (λ y. Says y (Ok count))
         (sym (h.others ∙ ap (λ y. parse_then y (λ qs r. parsed (h.done ++ qs) r)) (paragraphs-end K N W (lexemes_from b at) e)))
         (length-append h.done [] ∙ omega (arith, h.many))
 
     module _ (some : 0 < length (token (lexemes_from b at))) where
-      pub counted-bad : {x : Fault} → read_paragraph K N W (lexemes_from b at) ≡ bad x → Says (whole from) (Bad x.why x.at x.of)
-      counted-bad {x} e =
-          subst (λ y. Says y (Bad x.why x.at x.of))
-          (sym (h.others ∙ ap (λ y. parse_then y (λ qs r. parsed (h.done ++ qs) r)) (paragraphs-bad K N W (lexemes_from b at) x some e))) refl
+      pub counted-bad : (x : faults-fault.Fault) → read_paragraph K N W (lexemes_from b at) ≡ bad (fault_of x) → Says (whole from) (Err x)
+      counted-bad x e =
+          subst (λ y. Says y (Err x))
+          (sym (h.others ∙ ap (λ y. parse_then y (λ qs r. parsed (h.done ++ qs) r)) (paragraphs-bad K N W (lexemes_from b at) (fault_of x) some e))) refl
 
       module _ {q : Paragraph} {m : List Lexeme} (e : read_paragraph K N W (lexemes_from b at) ≡ parsed q m) where
         pub counted_less : length m < length (lexemes_from b at)
@@ -172,17 +168,17 @@ module _ (b ks : List ℕ) (k : ℕ) (ws : List ℕ) (n : ℕ) (r : List ℕ) (f
     pub checking_readable : Readable b at k n
     checking_readable = record { short = fits.short; inside = h.counted.inside; kinds = fits.kinds; words = fits.words }
 
-    pub checking_all : length b ≤ s → Checks b from ks k ws n r (Fine count)
+    pub checking_all : length b ≤ s → Checks b from ks k ws n r (Ok count)
     checking_all e readable = counted-all K N W b h.counted (here_none b at h.start e)
 
     module _ (more : s < length b) (a : QuestionAnswer) (says : ReadsParagraph b at ks k ws n r a) where
       abbrev read : Parsed Paragraph
       read = read_paragraph K N W (lexemes_from b at)
 
-      pub checking_bad : {x : clauses-fault.Fault} → a ≡ Refused x → Checks b from ks k ws n r (Bad x.why x.at x.of)
-      checking_bad e readable = counted-bad K N W b h.counted (here_some b at h.start more) (reads-bad b read a says.reads e)
+      pub checking_bad : {x : faults-fault.Fault} → a ≡ Err x → Checks b from ks k ws n r (Err x)
+      checking_bad {x} e readable = counted-bad K N W b h.counted (here_some b at h.start more) x (reads-bad b read a says.reads e)
 
-      module _ {e : ℕ} (is : a ≡ ReadUpTo e) where
+      module _ {e : ℕ} (is : a ≡ Ok e) where
         well : (q : Paragraph) × (m : List Lexeme) × (read ≡ parsed q m) × (m ≡ lexemes_from b e) × (e ≤ length b)
         well = reads-well b read a says.reads is
 

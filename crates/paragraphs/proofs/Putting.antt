@@ -39,12 +39,11 @@ use Rattle.texts.proofs.Blocks.{blocks_are_answers}
 use Rattle.wording.specs.Tables.{tables_in}
 use Rattle.pages.specs.Pages.{Adds}
 use Rattle.pages.proofs.Pages.{adds_is, adds_then, adds-nothing}
-use Rattle.clauses.specs.declared.Fault as clauses-fault
-use Rattle.clauses.specs.Reading.{fault_of}
+use Rattle.std.specs.Prelude.{Ok, Err}
+use Rattle.faults.specs.declared.Fault as faults-fault
+use Rattle.faults.specs.Reasons.{fault_of}
 use Rattle.phrases.specs.declared.Phrase as phrases-phrase
-use Rattle.phrases.specs.declared.PhraseAnswer.{PhraseAnswer}
-use Rattle.phrases.specs.declared.PhraseAnswer.TheVariants.{Read as IsRead, Bad as NotRead}
-use Rattle.phrases.specs.Phrases.{PhraseTo, PhrasePromise}
+use Rattle.phrases.specs.Phrases.{PhraseAnswer, PhraseTo, PhrasePromise}
 use Rattle.paragraphs.specs.declared.Head.{Head}
 use Rattle.gatherings.specs.Courses.{Readable, Courses}
 use Rattle.paragraphs.specs.Paragraphs.{places_table, Stands, Due, PutsPhrase, About, PutsQuestions, PutsParagraph, PutsBlocks}
@@ -101,7 +100,7 @@ module _ (b : List ℕ) (at : ℕ) (ks : List ℕ) (k : ℕ) (ws : List ℕ) (n 
   abbrev y : Parsed Phrase
   y = read_phrase (names_in b (take k ks)) (names_in b (take n ws)) (tabled_vocabulary k n r) (lexemes_from b at)
 
-  pub phrase-fails : {ps voc page : List ℕ} {to : ℕ} {x : clauses-fault.Fault} → a ≡ NotRead x → PutsPhrase b at ks k ws n r ps voc page to page (record { label = 0; kind = 0; at = at; to = to })
+  pub phrase-fails : {ps voc page : List ℕ} {to : ℕ} {x : faults-fault.Fault} → a ≡ Err x → PutsPhrase b at ks k ws n r ps voc page to page to (record { label = 0; kind = 0; at = at })
   phrase-fails {ps} {voc} {page} {to} {x} e = record {
     inside = h.inside;
     puts = λ X p m l s places is read whole listing.
@@ -111,14 +110,14 @@ module _ (b : List ℕ) (at : ℕ) (ks : List ℕ) (k : ℕ) (ws : List ℕ) (n 
       never : {A : Type 0} {p : Phrase} {m : List Lexeme} → y ≡ bad (fault_of x) → y ≡ parsed p m → A
       never e f = let z : ◌≡◌ {A = ℕ} 0 1 = cc in absurd (omega arith)
 
-  module _ {x : phrases-phrase.Phrase} (e : a ≡ IsRead x) where
+  module _ {x : phrases-phrase.Phrase} (e : a ≡ Ok x) where
     abbrev read : (p : Phrase) × (m : List Lexeme) × (y ≡ parsed p m) × PhraseTo (tabled_vocabulary k n r) b o v p m x
     read = phrase-read (tabled_vocabulary k n r) b o v y a (says h.short h.inside h.kinds h.words) e
 
     -- The bytes of the pattern are the first ones of those that were written.
     pub phrase-puts : {bytes : List ℕ} → (x.size ≤ 4096 → bytes ≡ take x.size o) → {ps voc page page' : List ℕ} {to to' : ℕ} →
         Adds page to page' to' (block_by (tables_in b ks ws ps v) (token_at b x.label) voc bytes) →
-        PutsPhrase b at ks k ws n r ps voc page to page' (record { label = x.label; kind = x.kind; at = x.at; to = to' })
+        PutsPhrase b at ks k ws n r ps voc page to page' to' (record { label = x.label; kind = x.kind; at = x.at })
     phrase-puts front {ps} {voc} {page} {page'} {to} {to'} adds = record {
       inside = read.3.inside;
       puts = λ X p m l s places is again whole listing.
@@ -134,8 +133,8 @@ module _ (b : List ℕ) (at : ℕ) (ks : List ℕ) (k : ℕ) (ws : List ℕ) (n 
 
 -- ---- a paragraph
 
-module _ {b : List ℕ} {at : ℕ} {ks : List ℕ} {k : ℕ} {ws : List ℕ} {n : ℕ} {r ps v before : List ℕ} {to : ℕ} {after : List ℕ} {head : Head} (fits : Readable b at k n)
-    (put : PutsPhrase b at ks k ws n r ps v before to after head) {s : ℕ} (is : s ≡ at + blanks (drop at b)) where
+module _ {b : List ℕ} {at : ℕ} {ks : List ℕ} {k : ℕ} {ws : List ℕ} {n : ℕ} {r ps v before : List ℕ} {to : ℕ} {after : List ℕ} {next : ℕ} {head : Head} (fits : Readable b at k n)
+    (put : PutsPhrase b at ks k ws n r ps v before to after next head) {s : ℕ} (is : s ≡ at + blanks (drop at b)) where
   pub paragraph_readable : Readable b head.at 0 n
   paragraph_readable = record { short = fits.short; inside = put.inside; kinds = omega arith; words = fits.words }
 
@@ -159,7 +158,7 @@ module _ {b : List ℕ} {at : ℕ} {ks : List ℕ} {k : ℕ} {ws : List ℕ} {n 
         ∙ sym (append_assoc (label_tokens p.label) (phrase_tokens X p.variables p.kind p.term) (tokens_of m));
   }
 
-  pub paragraph_puts : {last : List ℕ} {at' to' : ℕ} → PutsQuestions b s head.label head.kind head.at ws n r after head.to last at' to' →
+  pub paragraph_puts : {last : List ℕ} {at' to' : ℕ} → PutsQuestions b s head.label head.kind head.at ws n r after next last at' to' →
       PutsParagraph b at ks k ws n r ps v before to last at' to'
   paragraph_puts asks = record {
     inside = asks.inside;
@@ -176,20 +175,20 @@ module _ {b : List ℕ} {at : ℕ} {ks : List ℕ} {k : ℕ} {ws : List ℕ} {n 
 -- ---- the paragraphs
 
 -- What was put is finished, whatever is put for the others behind it.
-pub record Remains (b : List ℕ) (at : ℕ) (X : Lexicon) (m : ℕ) (page₀ page : List ℕ) (to : ℕ) (text : List ℕ) : Type 0 where
+pub record Remains (b : List ℕ) (at : ℕ) (X : Lexicon) (m : ℕ) (page₀ : List ℕ) (to₀ : ℕ) (page : List ℕ) (to : ℕ) (text : List ℕ) : Type 0 where
   pub paragraphs : List Paragraph
   pub listings : List (List Term)
   pub due : Due b at X m paragraphs listings
-  pub finish : (last : List ℕ) (j : ℕ) → Adds page to last j (blocks_text X paragraphs listings) → Adds page₀ 0 last j text
+  pub finish : (last : List ℕ) (j : ℕ) → Adds page to last j (blocks_text X paragraphs listings) → Adds page₀ to₀ last j text
 
-pub record Going (b : List ℕ) (from : ℕ) (ks : List ℕ) (k : ℕ) (ws : List ℕ) (n : ℕ) (r ps v : List ℕ) (m : ℕ) (page₀ : List ℕ) (i at to : ℕ) (page : List ℕ) : Type 0 where
+pub record Going (b : List ℕ) (from : ℕ) (ks : List ℕ) (k : ℕ) (ws : List ℕ) (n : ℕ) (r ps v : List ℕ) (m : ℕ) (page₀ : List ℕ) (to₀ i at to : ℕ) (page : List ℕ) : Type 0 where
   pub inside : at ≤ length b
   pub below : i ≤ m
   pub goes : (X : Lexicon) (qs : List Paragraph) (ls : List (List Term)) → Stands b ks k ws n r X → ps ≡ places_table r →
-      v ≡ encode_vocabulary (vocabulary_of X) → Due b from X m qs ls → Remains b at X (m - i) page₀ page to (blocks_text X qs ls)
+      v ≡ encode_vocabulary (vocabulary_of X) → Due b from X m qs ls → Remains b at X (m - i) page₀ to₀ page to (blocks_text X qs ls)
 
-module _ {b : List ℕ} {from : ℕ} {ks : List ℕ} {k : ℕ} {ws : List ℕ} {n : ℕ} {r ps v : List ℕ} {m : ℕ} {page₀ : List ℕ} where
-  pub going_none : Readable b from k n → Going b from ks k ws n r ps v m page₀ 0 from 0 page₀
+module _ {b : List ℕ} {from : ℕ} {ks : List ℕ} {k : ℕ} {ws : List ℕ} {n : ℕ} {r ps v : List ℕ} {m : ℕ} {page₀ : List ℕ} {to₀ : ℕ} where
+  pub going_none : Readable b from k n → Going b from ks k ws n r ps v m page₀ to₀ 0 from to₀ page₀
   going_none h = record {
     inside = h.inside;
     below = omega arith;
@@ -201,12 +200,12 @@ module _ {b : List ℕ} {from : ℕ} {ks : List ℕ} {k : ℕ} {ws : List ℕ} {
     };
   }
 
-  module _ {i at to : ℕ} {page : List ℕ} (h : Going b from ks k ws n r ps v m page₀ i at to page) where
+  module _ {i at to : ℕ} {page : List ℕ} (h : Going b from ks k ws n r ps v m page₀ to₀ i at to page) where
     pub going-readable : Readable b from k n → Readable b at k n
     going-readable known = record { short = known.short; inside = h.inside; kinds = known.kinds; words = known.words }
 
     pub going_turn : i < m → {at' to' : ℕ} {page' : List ℕ} → PutsParagraph b at ks k ws n r ps v page to page' at' to' →
-        Going b from ks k ws n r ps v m page₀ (i + 1) at' to' page'
+        Going b from ks k ws n r ps v m page₀ to₀ (i + 1) at' to' page'
     going_turn more {at'} {to'} {page'} put = record {
       inside = put.inside;
       below = omega (arith, more);
@@ -217,8 +216,8 @@ module _ {b : List ℕ} {from : ℕ} {ks : List ℕ} {k : ℕ} {ws : List ℕ} {
       where
         turn : (X : Lexicon) → Stands b ks k ws n r X → ps ≡ places_table r → v ≡ encode_vocabulary (vocabulary_of X) → {text : List ℕ} →
             (qs : List Paragraph) (ls : List (List Term)) → Due b at X (m - i) qs ls →
-            ((last : List ℕ) (j : ℕ) → Adds page to last j (blocks_text X qs ls) → Adds page₀ 0 last j text) →
-            Remains b at' X (m - (i + 1)) page₀ page' to' text
+            ((last : List ℕ) (j : ℕ) → Adds page to last j (blocks_text X qs ls) → Adds page₀ to₀ last j text) →
+            Remains b at' X (m - (i + 1)) page₀ to₀ page' to' text
         turn X s places is [] ls due finish = absurd (omega (arith, more, due.count))
         turn X s places is (q ∷ qs) [] due finish = absurd due.listings
         turn X s places is (q ∷ qs) (l ∷ ls) due finish =
@@ -239,7 +238,7 @@ module _ {b : List ℕ} {from : ℕ} {ks : List ℕ} {k : ℕ} {ws : List ℕ} {
                   (adds_is (append_assoc (block_text X q.phrase l) (questions_text X q.phrase q.situations) (blocks_text X qs ls)) (adds_then done.1 adds));
             }
 
-    pub going-all : m ≤ i → PutsBlocks b from ks k ws n r ps v m page₀ page to
+    pub going-all : m ≤ i → PutsBlocks b from ks k ws n r ps v m page₀ to₀ page to
     going-all none = record {
       puts = λ X qs ls fits s places is due.
           let rest = h.goes X qs ls s places is due in
@@ -247,7 +246,7 @@ module _ {b : List ℕ} {from : ℕ} {ks : List ℕ} {k : ℕ} {ws : List ℕ} {
     }
       where
         end : (X : Lexicon) {text : List ℕ} (qs : List Paragraph) (ls : List (List Term)) → Due b at X (m - i) qs ls →
-            ((last : List ℕ) (j : ℕ) → Adds page to last j (blocks_text X qs ls) → Adds page₀ 0 last j text) →
-            Adds page₀ 0 page to text
+            ((last : List ℕ) (j : ℕ) → Adds page to last j (blocks_text X qs ls) → Adds page₀ to₀ last j text) →
+            Adds page₀ to₀ page to text
         end X [] ls due finish = finish page to (adds-nothing page to)
         end X (q ∷ qs) ls due finish = absurd (omega (arith, none, due.count))

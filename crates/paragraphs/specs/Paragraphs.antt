@@ -10,16 +10,16 @@
 --   ReadsParagraph, PutsPhrase, BehindAsking, About, PutsQuestions, paragraph_text, PutsParagraph     what their parts promise each other;
 --                              no public contract cites them
 --
-use Rattle.std.specs.Prelude.{◌≡◌, true, false, List, [], ◌∷◌, ◌++◌, map, ℕ, ◌+◌, ◌*◌, ◌<◌, ◌≤◌, length, get_or, take}
+use Rattle.std.specs.Prelude.{Result, Ok, Err, ◌≡◌, true, false, List, ◌++◌, map, ℕ, ◌+◌, ◌*◌, ◌<◌, ◌≤◌, length, get_or, take}
 use Rattle.terms.specs.Lists.{All, range}
 use Rattle.terms.specs.Term.{Term, Ground}
 use Rattle.terms.specs.Listing.{IsListing}
-use Rattle.wire.specs.Vocabulary.{Vocabulary, most_kinds, most_words, signature, encode_vocabulary}
+use Rattle.wire.specs.Vocabulary.{most_words, signature, encode_vocabulary}
 use Rattle.texts.specs.Lexemes.{Token, Lexeme, lexemes_from, token_at}
 use Rattle.texts.specs.Names.{same, mark, opening}
 use Rattle.texts.specs.Lexicon.{Lexicon, kind_names, word_names, vocabulary_of, GoodLexicon}
 use Rattle.texts.specs.Phrases.{Phrase, whole_tokens, GoodWhole}
-use Rattle.texts.specs.Files.{most_text, Paragraph, phrases_of, GoodParagraph}
+use Rattle.texts.specs.Files.{Paragraph, phrases_of, GoodParagraph}
 use Rattle.texts.specs.Faults.{Parsed, parsed, bad, token, rest}
 use Rattle.texts.specs.Verdicts.{questions_text}
 use Rattle.texts.specs.Answers.{block_text, blocks_text, AreListings}
@@ -30,12 +30,11 @@ use Rattle.texts.specs.Tabled.{names_in, record_size, tabled_vocabulary}
 use Rattle.texts.specs.Answering.{read_paragraph, read_paragraphs}
 use Rattle.texts.specs.Laws.{tokens_of}
 use Rattle.pages.specs.Pages.{Adds}
-use Rattle.questions.specs.Asking.{ReadsTo}
-use Rattle.questions.specs.declared.QuestionAnswer.{QuestionAnswer}
+use Rattle.questions.specs.Asking.{QuestionAnswer, ReadsTo}
 use Rattle.gatherings.specs.Courses.{Readable, Courses}
 use Rattle.paragraphs.specs.declared.Head.{Head}
-use Rattle.paragraphs.specs.declared.Checked.{Checked}
-use Rattle.paragraphs.specs.declared.Checked.TheVariants.{Fine, Bad}
+use Rattle.faults.specs.declared.Fault as faults-fault
+use Rattle.faults.specs.Reasons.{fault_of}
 
 abbrev pub places_table : List ℕ → List ℕ
 places_table r = map (λ (f : ℕ). get_or r (record_size * f + 1) 0) (range 0 most_words)
@@ -46,15 +45,15 @@ abbrev pub paragraphs_from : List ℕ → ℕ → List ℕ → ℕ → List ℕ 
 paragraphs_from b at ks k ws n r =
     read_paragraphs (names_in b (take k ks)) (names_in b (take n ws)) (tabled_vocabulary k n r) (length (lexemes_from b at)) (lexemes_from b at)
 
-abbrev pub Says : Parsed (List Paragraph) → Checked → Type 0
-Says (parsed qs r) (Fine m) = length qs ≡ m
-Says (parsed qs r) (Bad why at of) = ⊥
-Says (bad x) (Fine m) = ⊥
-Says (bad x) (Bad why at of) = x ≡ record { why = why; at = at; of = of }
+abbrev pub Says : Parsed (List Paragraph) → Result ℕ faults-fault.Fault → Type 0
+Says (parsed qs r) (Ok m) = length qs ≡ m
+Says (parsed qs r) (Err y) = ⊥
+Says (bad x) (Ok m) = ⊥
+Says (bad x) (Err y) = x ≡ fault_of y
 
 -- The text b is read from the offset `at` on; the first k of the offsets ks are those of the kinds' names, the first n of ws those of
 -- the words', whose records are r.
-abbrev pub Checks : List ℕ → ℕ → List ℕ → ℕ → List ℕ → ℕ → List ℕ → Checked → Type 0
+abbrev pub Checks : List ℕ → ℕ → List ℕ → ℕ → List ℕ → ℕ → List ℕ → Result ℕ faults-fault.Fault → Type 0
 Checks b at ks k ws n r c = Readable b at k n → Says (paragraphs_from b at ks k ws n r) c
 
 -- ---- putting
@@ -73,21 +72,21 @@ pub record Due (b : List ℕ) (at : ℕ) (X : Lexicon) (m : ℕ) (qs : List Para
   pub listings : AreListings X (phrases_of qs) ls
 
 -- The table ps has the numbers of places, and v is the vocabulary's bytes.
-pub record PutsBlocks (b : List ℕ) (at : ℕ) (ks : List ℕ) (k : ℕ) (ws : List ℕ) (n : ℕ) (r ps v : List ℕ) (m : ℕ) (before after : List ℕ) (to : ℕ) : Type 0 where
+pub record PutsBlocks (b : List ℕ) (at : ℕ) (ks : List ℕ) (k : ℕ) (ws : List ℕ) (n : ℕ) (r ps v : List ℕ) (m : ℕ) (before : List ℕ) (to : ℕ) (after : List ℕ) (to' : ℕ) : Type 0 where
   pub puts : (X : Lexicon) (qs : List Paragraph) (ls : List (List Term)) → Readable b at k n → Stands b ks k ws n r X →
-      ps ≡ places_table r → v ≡ encode_vocabulary (vocabulary_of X) → Due b at X m qs ls → Adds before 0 after to (blocks_text X qs ls)
+      ps ≡ places_table r → v ≡ encode_vocabulary (vocabulary_of X) → Due b at X m qs ls → Adds before to after to' (blocks_text X qs ls)
 
 -- ---- the parts
 
 pub record ReadsParagraph (b : List ℕ) (at : ℕ) (ks : List ℕ) (k : ℕ) (ws : List ℕ) (n : ℕ) (r : List ℕ) (a : QuestionAnswer) : Type 0 where
   pub reads : ReadsTo b (read_paragraph (names_in b (take k ks)) (names_in b (take n ws)) (tabled_vocabulary k n r) (lexemes_from b at)) a
 
-pub record PutsPhrase (b : List ℕ) (at : ℕ) (ks : List ℕ) (k : ℕ) (ws : List ℕ) (n : ℕ) (r ps v before : List ℕ) (to : ℕ) (after : List ℕ) (h : Head) : Type 0 where
+pub record PutsPhrase (b : List ℕ) (at : ℕ) (ks : List ℕ) (k : ℕ) (ws : List ℕ) (n : ℕ) (r ps v before : List ℕ) (to : ℕ) (after : List ℕ) (to' : ℕ) (h : Head) : Type 0 where
   pub inside : h.at ≤ length b
   pub puts : (X : Lexicon) (p : Phrase) (m : List Lexeme) (l : List Term) → Stands b ks k ws n r X → ps ≡ places_table r →
       v ≡ encode_vocabulary (vocabulary_of X) → read_phrase (kind_names X) (word_names X) (vocabulary_of X) (lexemes_from b at) ≡ parsed p m →
       GoodWhole X p → IsListing (signature (vocabulary_of X)) p.kind p.term l →
-      (p.label ≡ token_at b h.label) × (p.kind ≡ h.kind) × (m ≡ lexemes_from b h.at) × Adds before to after h.to (block_text X p l)
+      (p.label ≡ token_at b h.label) × (p.kind ≡ h.kind) × (m ≡ lexemes_from b h.at) × Adds before to after to' (block_text X p l)
 
 -- The offset s is that behind the label and the ? of a question.
 abbrev pub BehindAsking : List ℕ → ℕ → ℕ → Type 0

@@ -6,190 +6,117 @@ ghost use Rattle.std.specs.Prelude.{◌≡◌, true, false, List, ◌≤◌, len
 ghost use Rattle.gatherings.specs.Courses.{Readable};
 ghost use Rattle.paragraphs.specs.Paragraphs.{Checks, ReadsParagraph, PutsPhrase, BehindAsking, PutsQuestions, PutsParagraph, PutsBlocks};
 
-use phrases::PhraseAnswer;
-use questions::QuestionAnswer;
+use clauses::Glossary;
+use faults::Fault;
+use pages::Page;
+use wording::Tables;
 
-// How many paragraphs there are, or the first fault among them.
-#[derive(Drop)]
-pub enum Checked {
-    Fine(usize),
-    Bad(usize, usize, usize),
-}
-
-// A pattern for which its block was put: the offset of its label, or the text's length where it has none, its kind, the offset behind
-// it, and where the answer goes on.
-#[derive(Drop)]
+// A pattern for which its block was put: the offset of its label, or the text's length where it has none, its kind, and the offset
+// behind it.
+#[derive(Clone, Copy)]
 struct Head {
     label: usize,
     kind: usize,
     at: usize,
-    to: usize,
-}
-
-// How far the text is read, and where the answer goes on.
-#[derive(Drop)]
-struct Progress {
-    at: usize,
-    to: usize,
 }
 
 // Reads a paragraph, and writes nothing.
 fn read_paragraph(
-    text: &[u8],
+    glossary: &Glossary<'_>,
     at: usize,
     kinds: &[u16; 16],
     k: usize,
-    words: &[u16; 96],
-    n: usize,
-    records: &[u8; 960],
-) -> QuestionAnswer
-    requires { Readable text.now at k n }
-    ensures { ReadsParagraph text.now at kinds.now k words.now n records.now result }
+) -> Result<usize, Fault>
+    requires { Readable glossary.now.text.now at k glossary.now.n }
+    ensures { ReadsParagraph glossary.now.text.now at kinds.now k glossary.now.words.now glossary.now.n glossary.now.records.now result }
 {
     let mut out = [0u8; 4096];
     let mut variables = [0u16; 64];
-    match phrases::read_phrase(
-        text,
-        at,
-        kinds,
-        k,
-        words,
-        n,
-        records,
-        &mut out,
-        &mut variables,
-    ) {
-        PhraseAnswer::Bad(x) => QuestionAnswer::Bad(x),
-        PhraseAnswer::Read(p) => {
-            questions::read_questions(text, p.at, p.label, p.kind, words, n, records)
-        }
-    }
+    let p = phrases::read_phrase(glossary, at, kinds, k, &mut out, &mut variables)?;
+    questions::read_questions(glossary, p.at, p.label, p.kind)
 }
 
 // Reads all paragraphs, and writes nothing.
 fn check_all(
-    text: &[u8],
+    glossary: &Glossary<'_>,
     from: usize,
     kinds: &[u16; 16],
     k: usize,
-    words: &[u16; 96],
-    n: usize,
-    records: &[u8; 960],
-) -> Checked
-    requires { Readable text.now from k n }
-    ensures { Checks text.now from kinds.now k words.now n records.now result }
+) -> Result<usize, Fault>
+    requires { Readable glossary.now.text.now from k glossary.now.n }
+    ensures { Checks glossary.now.text.now from kinds.now k glossary.now.words.now glossary.now.n glossary.now.records.now result }
 {
     let mut count = 0;
     let mut at = from;
-    let mut s = lexer::start(text, at);
-    while s < text.len() {
-        match read_paragraph(text, at, kinds, k, words, n, records) {
-            QuestionAnswer::Bad(x) => {
-                return Checked::Bad(x.why, x.at, x.of);
-            }
-            QuestionAnswer::Read(behind) => {
-                count += 1;
-                at = behind;
-                s = lexer::start(text, at);
-            }
-        }
+    let mut s = lexer::start(glossary.text, at);
+    // Kept: only reading a paragraph says where the next one begins, so no iterator counts them.
+    while s < glossary.text.len() {
+        at = read_paragraph(glossary, at, kinds, k)?;
+        count += 1;
+        s = lexer::start(glossary.text, at);
     }
-    Checked::Fine(count)
+    Ok(count)
 }
 
-// Reads all paragraphs from an offset of the text on, by the offsets of the names of k kinds and n words and the words' records, and
-// says how many they are. Where a text has more than 65,535 bytes, or an offset or a count is out of range, the answer means nothing.
+// Reads all paragraphs from an offset of the text on, by its glossary and the offsets of the names of k kinds, and says how many they
+// are, or the first fault among them. Where a text has more than 65,535 bytes, or an offset or a count is out of range, the answer means
+// nothing.
 pub fn check(
-    text: &[u8],
+    glossary: &Glossary<'_>,
     from: usize,
     kinds: &[u16; 16],
     k: usize,
-    words: &[u16; 96],
-    n: usize,
-    records: &[u8; 960],
-) -> Checked
-    ensures { Checks text.now from kinds.now k words.now n records.now result }
+) -> Result<usize, Fault>
+    ensures { Checks glossary.now.text.now from kinds.now k glossary.now.words.now glossary.now.n glossary.now.records.now result }
 {
-    if !gatherings::readable(text, from, k, n) {
-        return Checked::Fine(0);
+    if !gatherings::readable(glossary.text, from, k, glossary.n) {
+        return Ok(0);
     }
-    check_all(text, from, kinds, k, words, n, records)
+    check_all(glossary, from, kinds, k)
 }
 
-// The first n bytes; none where there are fewer.
-fn part(bytes: &[u8], n: usize) -> &[u8]
-    requires { length bytes.now ≡ 4096 }
-    ensures { n ≤ 4096 → result.now ≡ take n bytes.now }
-{
-    if bytes.len() < n {
-        return &bytes[0..0];
-    }
-    &bytes[0..n]
-}
-
-// The bytes of a pattern, whose number is n.
+// The bytes of a pattern, whose number is n; none where there are fewer.
 fn front(bytes: &[u8; 4096], n: usize) -> &[u8]
     ensures { n ≤ 4096 → result.now ≡ take n bytes.now }
 {
-    part(bytes, n)
+    bytes.get(..n).unwrap_or(&[])
 }
 
 // Reads a pattern again, and puts its block.
 fn put_phrase(
-    text: &[u8],
+    glossary: &Glossary<'_>,
     at: usize,
     kinds: &[u16; 16],
     k: usize,
-    words: &[u16; 96],
-    n: usize,
-    records: &[u8; 960],
     places: &[u8; 96],
     vocabulary: &[u8],
-    page: &mut [u8; 1048576],
-    to: usize,
+    page: &mut Page,
 ) -> Head
-    requires { Readable text.now at k n }
-    ensures { PutsPhrase text.now at kinds.now k words.now n records.now places.now vocabulary.now page.old to page.new result }
+    requires { Readable glossary.now.text.now at k glossary.now.n }
+    ensures { PutsPhrase glossary.now.text.now at kinds.now k glossary.now.words.now glossary.now.n glossary.now.records.now places.now vocabulary.now page.old.bytes page.old.end page.new.bytes page.new.end result }
 {
     let mut out = [0u8; 4096];
     let mut variables = [0u16; 64];
-    match phrases::read_phrase(
-        text,
-        at,
-        kinds,
-        k,
-        words,
-        n,
-        records,
-        &mut out,
-        &mut variables,
-    ) {
-        PhraseAnswer::Bad(_) => Head {
+    let Ok(p) = phrases::read_phrase(glossary, at, kinds, k, &mut out, &mut variables) else {
+        return Head {
             label: 0,
             kind: 0,
             at,
-            to,
-        },
-        PhraseAnswer::Read(p) => {
-            let next = blocks::put_block(
-                text,
-                p.label,
-                kinds,
-                words,
-                places,
-                &variables,
-                vocabulary,
-                front(&out, p.size),
-                page,
-                to,
-            );
-            Head {
-                label: p.label,
-                kind: p.kind,
-                at: p.at,
-                to: next,
-            }
-        }
+        };
+    };
+    let words = glossary.words;
+    let tables = Tables {
+        text: glossary.text,
+        kinds,
+        words,
+        places,
+        variables: &variables,
+    };
+    blocks::put_block(&tables, p.label, vocabulary, front(&out, p.size), page);
+    Head {
+        label: p.label,
+        kind: p.kind,
+        at: p.at,
     }
 }
 
@@ -204,117 +131,84 @@ fn behind_asking(text: &[u8], at: usize) -> usize
 }
 
 // Puts the answer to each question that stands from an offset on. They ask a pattern of a kind that begins at the offset s, and whose
-// label is the token at the offset `label`.
+// label is the token at the offset `label`. Gives the offset behind them.
 fn put_questions(
-    text: &[u8],
+    glossary: &Glossary<'_>,
     s: usize,
     label: usize,
     kind: usize,
     from: usize,
-    words: &[u16; 96],
-    n: usize,
-    records: &[u8; 960],
-    page: &mut [u8; 1048576],
-    front: usize,
-) -> Progress
-    requires { Readable text.now from 0 n }
-    ensures { PutsQuestions text.now s label kind from words.now n records.now page.old front page.new result.at result.to }
+    page: &mut Page,
+) -> usize
+    requires { Readable glossary.now.text.now from 0 glossary.now.n }
+    ensures { PutsQuestions glossary.now.text.now s label kind from glossary.now.words.now glossary.now.n glossary.now.records.now page.old.bytes page.old.end page.new.bytes result page.new.end }
 {
     let mut at = from;
-    let mut to = front;
-    while questions::begins(text, at) {
-        to = verdicts::put_question(text, s, behind_asking(text, at), page, to);
-        match questions::read_question(text, at, label, kind, words, n, records) {
-            QuestionAnswer::Bad(_) => {
-                return Progress { at, to };
-            }
-            QuestionAnswer::Read(behind) => {
-                at = behind;
-            }
-        }
+    // Kept: only reading a question says where the next one begins, so no iterator gives them.
+    while questions::begins(glossary.text, at) {
+        verdicts::put_question(glossary.text, s, behind_asking(glossary.text, at), page);
+        let Ok(behind) = questions::read_question(glossary, at, label, kind) else {
+            return at;
+        };
+        at = behind;
     }
-    Progress { at, to }
+    at
 }
 
-// Reads a paragraph again, and puts what is printed for it.
+// Reads a paragraph again, and puts what is printed for it. Gives the offset behind it.
 fn put_paragraph(
-    text: &[u8],
+    glossary: &Glossary<'_>,
     at: usize,
     kinds: &[u16; 16],
     k: usize,
-    words: &[u16; 96],
-    n: usize,
-    records: &[u8; 960],
     places: &[u8; 96],
     vocabulary: &[u8],
-    page: &mut [u8; 1048576],
-    to: usize,
-) -> Progress
-    requires { Readable text.now at k n }
-    ensures { PutsParagraph text.now at kinds.now k words.now n records.now places.now vocabulary.now page.old to page.new result.at result.to }
+    page: &mut Page,
+) -> usize
+    requires { Readable glossary.now.text.now at k glossary.now.n }
+    ensures { PutsParagraph glossary.now.text.now at kinds.now k glossary.now.words.now glossary.now.n glossary.now.records.now places.now vocabulary.now page.old.bytes page.old.end page.new.bytes result page.new.end }
 {
-    let head = put_phrase(
-        text, at, kinds, k, words, n, records, places, vocabulary, page, to,
-    );
-    let s = lexer::start(text, at);
-    put_questions(
-        text, s, head.label, head.kind, head.at, words, n, records, page, head.to,
-    )
+    let head = put_phrase(glossary, at, kinds, k, places, vocabulary, page);
+    let s = lexer::start(glossary.text, at);
+    put_questions(glossary, s, head.label, head.kind, head.at, page)
 }
 
 // Puts what is printed for each of m paragraphs.
 fn put_all(
-    text: &[u8],
+    glossary: &Glossary<'_>,
     from: usize,
     kinds: &[u16; 16],
     k: usize,
-    words: &[u16; 96],
-    n: usize,
-    records: &[u8; 960],
     places: &[u8; 96],
     vocabulary: &[u8],
     m: usize,
-    page: &mut [u8; 1048576],
-) -> usize
-    requires { Readable text.now from k n }
-    ensures { PutsBlocks text.now from kinds.now k words.now n records.now places.now vocabulary.now m page.old page.new result }
+    page: &mut Page,
+)
+    requires { Readable glossary.now.text.now from k glossary.now.n }
+    ensures { PutsBlocks glossary.now.text.now from kinds.now k glossary.now.words.now glossary.now.n glossary.now.records.now places.now vocabulary.now m page.old.bytes page.old.end page.new.bytes page.new.end }
 {
-    let mut i = 0;
     let mut at = from;
-    let mut to = 0;
-    while i < m {
-        let progress = put_paragraph(
-            text, at, kinds, k, words, n, records, places, vocabulary, page, to,
-        );
-        at = progress.at;
-        to = progress.to;
-        i += 1;
+    for _i in 0..m {
+        at = put_paragraph(glossary, at, kinds, k, places, vocabulary, page);
     }
-    to
 }
 
-// Puts what is printed for each of m paragraphs, which stand from an offset of the text on, at the front of the page, and says how
-// many bytes it is; one more than the page has where it has no room. The tables are those of check, with the number of places of each
-// word and the vocabulary's bytes. Where the text has other paragraphs than these, or a fault, nothing is promised of the page.
+// Puts what is printed for each of m paragraphs, which stand from an offset of the text on. The tables are those of check, with the
+// number of places of each word and the vocabulary's bytes. Where the text has other paragraphs than these, or a fault, nothing is
+// promised of the page.
 pub fn put(
-    text: &[u8],
+    glossary: &Glossary<'_>,
     from: usize,
     kinds: &[u16; 16],
     k: usize,
-    words: &[u16; 96],
-    n: usize,
-    records: &[u8; 960],
     places: &[u8; 96],
     vocabulary: &[u8],
     m: usize,
-    page: &mut [u8; 1048576],
-) -> usize
-    ensures { PutsBlocks text.now from kinds.now k words.now n records.now places.now vocabulary.now m page.old page.new result }
+    page: &mut Page,
+)
+    ensures { PutsBlocks glossary.now.text.now from kinds.now k glossary.now.words.now glossary.now.n glossary.now.records.now places.now vocabulary.now m page.old.bytes page.old.end page.new.bytes page.new.end }
 {
-    if !gatherings::readable(text, from, k, n) {
-        return 0;
+    if gatherings::readable(glossary.text, from, k, glossary.n) {
+        put_all(glossary, from, kinds, k, places, vocabulary, m, page);
     }
-    put_all(
-        text, from, kinds, k, words, n, records, places, vocabulary, m, page,
-    )
 }

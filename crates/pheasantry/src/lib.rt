@@ -12,12 +12,6 @@ ghost use Rattle.pheasantry.specs.Replies.{VocabularyReplied, TermReplied, Match
 
 use numbers::Numbers;
 
-fn wide(x: u16) -> u64
-    ensures { result ≡ x }
-{
-    x as u64
-}
-
 // Checks a vocabulary.
 #[unsafe(no_mangle)]
 pub extern "C" fn pheasantry_check_vocabulary(vocabulary: &[u8], reply: &mut Numbers)
@@ -71,11 +65,11 @@ pub extern "C" fn pheasantry_part(
         return;
     }
     let n = name as usize;
-    // Only a yes writes into the table.
+    // Only a yes writes into the table, so the answer is not needed.
     let mut table = [0u16; 128];
-    matcher::match_pattern(vocabulary, pattern, situation, &mut table);
-    let offset = wide(table[2 * n]);
-    let length = wide(table[2 * n + 1]);
+    let _ = matcher::match_pattern(vocabulary, pattern, situation, &mut table);
+    let offset = u64::from(table[2 * n]);
+    let length = u64::from(table[2 * n + 1]);
     *reply = numbers::accepted(offset, length);
 }
 

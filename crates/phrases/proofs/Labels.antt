@@ -1,6 +1,5 @@
 -- Labels: a pattern with its label, where it has one.
 --
---   labelled-read, labelled-bad               an answer with a label
 --   label_none, label-apart                   a pattern without label
 --   label-long, label-read                    a pattern with one
 --
@@ -19,19 +18,11 @@ use Rattle.texts.specs.Faults.{Parsed, parsed, bad, parse_then, token, rest, lon
 use Rattle.texts.specs.PhraseReading.{PhraseRead, fault_at, labelled, read_root, read_phrase}
 use Rattle.texts.specs.Tabled.{names_in, tabled_vocabulary}
 use Rattle.texts.proofs.Scanning.{token-length}
+use Rattle.faults.specs.declared.Reason.TheVariants.{LongName}
 use Rattle.clauses.specs.Reading.{Front}
-use Rattle.phrases.specs.Phrases.{ReadsPhrase, ReadsRoot, labelled_by, ReadsLabelled}
-use Rattle.clauses.specs.declared.Fault.{Fault}
-use Rattle.phrases.specs.declared.Phrase.{Phrase}
-use Rattle.phrases.specs.declared.PhraseAnswer.{PhraseAnswer}
-use Rattle.phrases.specs.declared.PhraseAnswer.TheVariants.{Read, Bad}
+use Rattle.phrases.specs.Phrases.{PhraseAnswer, ReadsPhrase, ReadsRoot, labelled_by, ReadsLabelled}
+use Rattle.std.specs.Prelude.{Ok, Err}
 use Rattle.clauses.proofs.Fronts.{front-token, front-place, front, mark_some, identifier_some}
-
-pub labelled-read : (s : ℕ) (a : PhraseAnswer) (p : Phrase) → a ≡ Read p → Read (record { label = s; kind = p.kind; size = p.size; seen = p.seen; at = p.at }) ≡ labelled_by s a
-labelled-read s a p e = ap (labelled_by s) (sym e)
-
-pub labelled-bad : (s : ℕ) (a : PhraseAnswer) (x : Fault) → a ≡ Bad x → Bad x ≡ labelled_by s a
-labelled-bad s a x e = ap (labelled_by s) (sym e)
 
 module _ (b g q r : List ℕ) (at s k n : ℕ) (inside : at ≤ length b) (start : s ≡ at + blanks (drop at b)) where
   abbrev root : List Lexeme → Parsed PhraseRead
@@ -76,9 +67,9 @@ module _ (b g q r : List ℕ) (at s k n : ℕ) (inside : at ≤ length b) (start
       labelled_is : read_phrase (names_in b (take k g)) (names_in b (take n q)) (tabled_vocabulary k n r) l ≡ with_label
       labelled_is = cond_true tested with_label (root l) (tested_is ∙ stands)
 
-      pub label-long : (o v : List ℕ) → 32 < e - s → ReadsLabelled b at g k q n r o v (Bad (record { why = 3; at = s; of = 0 }))
+      pub label-long : (o v : List ℕ) → 32 < e - s → ReadsLabelled b at g k q n r o v (Err (record { why = LongName; at = s; of = 0 }))
       label-long o v h =
-          subst (λ (p : Parsed PhraseRead). ReadsPhrase (tabled_vocabulary k n r) b o v p (Bad (record { why = 3; at = s; of = 0 })))
+          subst (λ (p : Parsed PhraseRead). ReadsPhrase (tabled_vocabulary k n r) b o v p (Err (record { why = LongName; at = s; of = 0 })))
           (sym (labelled_is ∙ cond_false (leb (length (token l)) most_name) _ _ (lt-leb (length (token l)) most_name (omega (arith, size_is)))))
           (ap (λ (i : ℕ). record { why = long_name; at = i; of = 0 }) (front-place b at s start))
 
@@ -89,19 +80,18 @@ module _ (b g q r : List ℕ) (at s k n : ℕ) (inside : at ≤ length b) (start
       root-inside e₂ end₂ = omega (arith, second.inside)
 
       pub label-read : (o v : List ℕ) (e₂ : ℕ) (y : PhraseAnswer) → e - s ≤ 32 → e₂ ≡ c + token_size (drop c b) → ReadsRoot b e₂ g k q n r o v y →
-          (x : PhraseAnswer) → x ≡ labelled_by s y → ReadsLabelled b at g k q n r o v x
-      label-read o v e₂ y h end₂ read x is =
-          subst (λ (x : PhraseAnswer). ReadsLabelled b at g k q n r o v x) (sym is)
-          (subst (λ (p : Parsed PhraseRead). ReadsPhrase (tabled_vocabulary k n r) b o v p (labelled_by s y))
+          ReadsLabelled b at g k q n r o v (labelled_by s y)
+      label-read o v e₂ y h end₂ read =
+          subst (λ (p : Parsed PhraseRead). ReadsPhrase (tabled_vocabulary k n r) b o v p (labelled_by s y))
           (sym
           (labelled_is
           ∙ cond_true (leb (length (token l)) most_name) _ _ (le-leb (length (token l)) most_name (omega (arith, size_is)))
           ∙ ap (λ (m : List Lexeme). parse_then (root m) (λ p t. parsed (labelled (token l) p) t)) (ap rest rest_is ∙ second.behind ∙ ap (lexemes_from b) (sym end₂))))
-          (go (root (lexemes_from b e₂)) y read))
+          (go (root (lexemes_from b e₂)) y read)
         where
           go : (p : Parsed PhraseRead) (y : PhraseAnswer) → ReadsPhrase (tabled_vocabulary k n r) b o v p y →
               ReadsPhrase (tabled_vocabulary k n r) b o v (parse_then p (λ p t. parsed (labelled (token l) p) t)) (labelled_by s y)
-          go (parsed p t) (Read z) h = record {
+          go (parsed p t) (Ok z) h = record {
             label = first.token;
             kind = h.kind;
             bytes = h.bytes;
@@ -111,6 +101,6 @@ module _ (b g q r : List ℕ) (at s k n : ℕ) (inside : at ≤ length b) (start
             room = h.room;
             few = h.few;
           }
-          go (parsed p t) (Bad z) h = absurd h
-          go (bad f) (Read z) h = absurd h
-          go (bad f) (Bad z) h = h
+          go (parsed p t) (Err z) h = absurd h
+          go (bad f) (Ok z) h = absurd h
+          go (bad f) (Err z) h = h

@@ -27,31 +27,32 @@ use Rattle.texts.specs.Faults.{Parsed, parsed, bad, parse_then, token, rest, pat
 use Rattle.texts.specs.PhraseReading.{Seen, TermRead, TermsRead, PhraseRead, phrase_read, fault_at, word_why, variable_why, read_behind, parse_word, read_variable, read_node, parse_term, read_root_kind, read_root}
 use Rattle.texts.specs.Tabled.{names_in, record_size, word_in, tabled_vocabulary}
 use Rattle.texts.proofs.Scanning.{token_none}
-use Rattle.clauses.specs.Reading.{seen_at, Reads, TermTo, ReadsTerm, Below}
-use Rattle.phrases.specs.Phrases.{ReadsPhrase, ReadsLeaf, ReadsRootVariable, kind_of, root_read, ReadsRootWord, ReadsRoot}
-use Rattle.clauses.specs.declared.Fault.{Fault}
+use Rattle.clauses.specs.Reading.{Answer, seen_at, Reads, TermTo, ReadsTerm, Below}
+use Rattle.phrases.specs.Phrases.{PhraseAnswer, ReadsPhrase, ReadsLeaf, ReadsRootVariable, kind_of, root_read, ReadsRootWord, ReadsRoot}
+use Rattle.faults.specs.declared.Fault.{Fault}
+use Rattle.faults.specs.declared.Reason.{Reason}
+use Rattle.faults.specs.declared.Reason.TheVariants.{PatternDue}
+use Rattle.faults.specs.Reasons.{number_of}
+use Rattle.faults.proofs.Numbers.{number-some}
 use Rattle.clauses.specs.declared.Reached.{Reached}
-use Rattle.clauses.specs.declared.Answer.{Answer}
-use Rattle.clauses.specs.declared.Answer.TheVariants as answers
-use Rattle.phrases.specs.declared.PhraseAnswer.{PhraseAnswer}
-use Rattle.phrases.specs.declared.PhraseAnswer.TheVariants.{Read, Bad}
+use Rattle.std.specs.Prelude.{Ok, Err}
 use Rattle.clauses.proofs.Fronts.{front-token, front-place, front, mark_some, variable_some}
 use Rattle.clauses.proofs.Tables.{result-at}
-use Rattle.clauses.proofs.Heads.{Reason, variable_reason_lem}
+use Rattle.clauses.proofs.Heads.{Reasoned, variable_reason_lem}
 
 -- ---- a variable
 
-module _ (b g v o' : List ℕ) (s k why : ℕ) (reason : Reason b v s 32 1 0 why) where
+module _ (b g v o' : List ℕ) (s k why : ℕ) (reason : Reasoned b v s 32 1 0 why) where
   why_is : variable_why most_levels (seen_at b v 0 1) (token_at b s) ≡ why
   why_is = variable_reason_lem b v s 32 1 0 why (omega arith) reason
 
-  pub root_variable_refused : (v' : List ℕ) → (why ≡ 0 → ⊥) → ReadsRootVariable b s g k v o' v' (Bad (record { why = why; at = s; of = 0 }))
-  root_variable_refused v' n W l f =
-      subst (λ (x : ℕ). ReadsPhrase W b o' v' (parse_then (read_variable 0 (seen_at b v 0 1) l x) (read_root_kind (names_in b (take k g)))) (Bad (record { why = why; at = s; of = 0 }))) (sym why_is) (go why n)
+  pub root_variable_refused : (v' : List ℕ) (y : Reason) → why ≡ number_of y → ReadsRootVariable b s g k v o' v' (Err (record { why = y; at = s; of = 0 }))
+  root_variable_refused v' y is W l f =
+      subst (λ (x : ℕ). ReadsPhrase W b o' v' (parse_then (read_variable 0 (seen_at b v 0 1) l x) (read_root_kind (names_in b (take k g)))) (Err (record { why = y; at = s; of = 0 }))) (sym why_is) (go why (let some = number-some y in omega (arith, is)) is)
     where
-      go : (x : ℕ) → (x ≡ 0 → ⊥) → ReadsPhrase W b o' v' (parse_then (read_variable 0 (seen_at b v 0 1) l x) (read_root_kind (names_in b (take k g)))) (Bad (record { why = x; at = s; of = 0 }))
-      go zero h = absurd (h refl)
-      go (suc x) h = ap (λ (i : ℕ). record { why = suc x; at = i; of = 0 }) f.place
+      go : (x : ℕ) → 0 < x → x ≡ number_of y → ReadsPhrase W b o' v' (parse_then (read_variable 0 (seen_at b v 0 1) l x) (read_root_kind (names_in b (take k g)))) (Err (record { why = y; at = s; of = 0 }))
+      go zero h e = absurd (omega arith)
+      go (suc x) h e = ap₂ (λ (i j : ℕ). record { why = i; at = j; of = 0 }) e f.place
 
   one_set : (l : List ℕ) (x : ℕ) → 0 < length l → take 1 (set l 0 x) ≡ x ∷ []
   one_set [] x h = absurd (omega arith)
@@ -117,8 +118,7 @@ one_kept : (o : List ℕ) (x : ℕ) → 0 < length o → take 1 (set o 0 x) ≡ 
 one_kept [] x h = absurd (omega arith)
 one_kept (a ∷ o) x h = refl
 
-module _ (b q r o v o' v' : List ℕ) (at s n f kind due : ℕ) (y : Answer) (found : f ≡ index_in (token_at b s) (names_in b (take n q))) (kind-is : kind ≡ kind_of r n f) (due-is : due ≡ kind)
-    (read : ReadsTerm b at 32 due q n r (set o 0 kind) 1 v 0 o' v' y) where
+module _ (b q r o v o' v' : List ℕ) (at s n f kind due : ℕ) (found : f ≡ index_in (token_at b s) (names_in b (take n q))) (kind-is : kind ≡ kind_of r n f) (due-is : due ≡ kind) where
   abbrev N : List Token
   N = names_in b (take n q)
 
@@ -135,26 +135,24 @@ module _ (b q r o v o' v' : List ℕ) (at s n f kind due : ℕ) (y : Answer) (fo
     due-root : due ≡ root_kind
     due-root = due-is ∙ kind-is ∙ sym (word-kind k n r f) ∙ ap (λ (i : ℕ). (word W i).result) found
 
-    told : (a : Answer) → y ≡ a → Reads (TermTo W b (set o 0 kind) 1 o' v') (term root_kind) a
-    told a is =
-        subst (λ (i : ℕ). Reads (TermTo W b (set o 0 kind) 1 o' v') (term i) a) due-root
-        (subst (λ (z : Answer). Reads (TermTo W b (set o 0 kind) 1 o' v') (term due) z) is (read k))
+    told : (a : Answer) → ReadsTerm b at 32 due q n r (set o 0 kind) 1 v 0 o' v' a → Reads (TermTo W b (set o 0 kind) 1 o' v') (term root_kind) a
+    told a read = subst (λ (i : ℕ). Reads (TermTo W b (set o 0 kind) 1 o' v') (term i) a) due-root (read k)
 
-  pub root_word_refused : (x : Fault) → y ≡ answers.Bad x → ReadsRootWord b at s q n r o' v' (Bad x)
-  root_word_refused x is start named k = go (term k (root_kind k)) (told k (answers.Bad x) is)
+  pub root_word_refused : (x : Fault) → ReadsTerm b at 32 due q n r (set o 0 kind) 1 v 0 o' v' (Err x) → ReadsRootWord b at s q n r o' v' (Err x)
+  root_word_refused x read start named k = go (term k (root_kind k)) (told k (Err x) read)
     where
-      go : (g : Parsed TermRead) → Reads (TermTo (W k) b (set o 0 kind) 1 o' v') g (answers.Bad x) → ReadsPhrase (W k) b o' v' (parse_then g (root_read (root_kind k))) (Bad x)
+      go : (g : Parsed TermRead) → Reads (TermTo (W k) b (set o 0 kind) 1 o' v') g (Err x) → ReadsPhrase (W k) b o' v' (parse_then g (root_read (root_kind k))) (Err x)
       go (parsed a t) h = absurd h
       go (bad z) h = h
 
-  pub root-word_read : (p : Reached) → y ≡ answers.Read p → length o ≡ most_bytes →
-      ReadsRootWord b at s q n r o' v' (Read (record { label = length b; kind = due; size = p.to; seen = p.seen; at = p.at }))
-  root-word_read p is size start named k =
-      go (term k (root_kind k)) (told k (answers.Read p) is)
+  pub root-word_read : (p : Reached) → ReadsTerm b at 32 due q n r (set o 0 kind) 1 v 0 o' v' (Ok p) → length o ≡ most_bytes →
+      ReadsRootWord b at s q n r o' v' (Ok (record { label = length b; kind = due; size = p.to; seen = p.seen; at = p.at }))
+  root-word_read p read size start named k =
+      go (term k (root_kind k)) (told k (Ok p) read)
       (never_open N (W k) 31 (root_kind k) (record { variables = []; used = 1 }) (lexemes_from b at) (ap is_identifier (front-token b at s start) ∙ named))
     where
-      go : (g : Parsed TermRead) → Reads (TermTo (W k) b (set o 0 kind) 1 o' v') g (answers.Read p) → Shut g →
-          ReadsPhrase (W k) b o' v' (parse_then g (root_read (root_kind k))) (Read (record { label = length b; kind = due; size = p.to; seen = p.seen; at = p.at }))
+      go : (g : Parsed TermRead) → Reads (TermTo (W k) b (set o 0 kind) 1 o' v') g (Ok p) → Shut g →
+          ReadsPhrase (W k) b o' v' (parse_then g (root_read (root_kind k))) (Ok (record { label = length b; kind = due; size = p.to; seen = p.seen; at = p.at }))
       go (bad z) h shut = absurd h
       go (parsed a t) h shut = record {
         label = sym (token_none b (length b) (omega arith));
@@ -215,9 +213,9 @@ module _ (b g q r v : List ℕ) (at s k n : ℕ) (inside : at ≤ length b) (sta
       root-named : read_root K M vocabulary l ≡ named (token_at b s)
       root-named = root_is ∙ cond_false (same (token_at b s) opened) _ _ closed ∙ cond_false (is_variable (token_at b s)) _ _ plain
 
-      pub root_none : (o' v' : List ℕ) → is_identifier (token_at b s) ≡ false → ReadsRoot b at g k q n r o' v' (Bad (record { why = 14; at = s; of = 0 }))
+      pub root_none : (o' v' : List ℕ) → is_identifier (token_at b s) ≡ false → ReadsRoot b at g k q n r o' v' (Err (record { why = PatternDue; at = s; of = 0 }))
       root_none o' v' h =
-          subst (λ (p : Parsed PhraseRead). ReadsPhrase vocabulary b o' v' p (Bad (record { why = 14; at = s; of = 0 }))) (sym (root-named ∙ cond_false (is_identifier (token_at b s)) _ _ h))
+          subst (λ (p : Parsed PhraseRead). ReadsPhrase vocabulary b o' v' p (Err (record { why = PatternDue; at = s; of = 0 }))) (sym (root-named ∙ cond_false (is_identifier (token_at b s)) _ _ h))
           (ap (λ (i : ℕ). record { why = pattern_due; at = i; of = 0 }) (front-place b at s start))
 
       pub root-word : (o' v' : List ℕ) (x : PhraseAnswer) → is_identifier (token_at b s) ≡ true → ReadsRootWord b at s q n r o' v' x → ReadsRoot b at g k q n r o' v' x

@@ -11,7 +11,6 @@ use native.Mathlib.Omega.{arith}
 use lib.Dec.{ltb}
 use lib.ListN.{length, take, drop, set}
 use borrow.Author.Tests.{lt-ltb, le-ltb}
-use Rattle.wire.specs.Vocabulary.{most_kinds}
 use Rattle.wire.specs.TermBytes.{most_bytes}
 use Rattle.wire.proofs.Cond.{cond_true, cond_false}
 use Rattle.texts.specs.Lexemes.{Token, Lexeme, blanks, token_size, lexemes_from, token_at}
@@ -22,10 +21,9 @@ use Rattle.texts.specs.Tabled.{names_in}
 use Rattle.texts.proofs.Scanning.{token_none}
 use Rattle.clauses.specs.Reading.{Front}
 use Rattle.phrases.specs.Phrases.{ReadsPhrase, ReadsKind, ReadsLeaf}
-use Rattle.clauses.specs.declared.Fault.{Fault}
-use Rattle.phrases.specs.declared.PhraseAnswer.TheVariants.{Read, Bad}
-use Rattle.phrases.specs.declared.KindAnswer.{KindAnswer}
-use Rattle.phrases.specs.declared.KindAnswer.TheVariants.{Named, NoKind}
+use Rattle.faults.specs.declared.Fault.{Fault}
+use Rattle.faults.specs.declared.Reason.TheVariants.{PlaceDue, NotDeclared, ColonDue}
+use Rattle.std.specs.Prelude.{Ok, Err}
 use Rattle.clauses.proofs.Fronts.{front-token, front-place, front, mark_some, identifier_some}
 use Rattle.clauses.proofs.Tables.{names-count}
 
@@ -41,7 +39,7 @@ module _ (b g : List ℕ) (at k s : ℕ) (inside : at ≤ length b) (start : s �
       (cond (ltb (index_in (token m) names) (length names)) (parsed (phrase_read (index_in (token m) names) a) (rest m)) (fault_at not_declared 0 m))
       (fault_at place_due 0 m)
 
-  pub colon_missing : same (token_at b s) (58 ∷ []) ≡ false → ReadsKind b at g k (NoKind (record { why = 23; at = s; of = 0 }))
+  pub colon_missing : same (token_at b s) (58 ∷ []) ≡ false → ReadsKind b at g k (Err (record { why = ColonDue; at = s; of = 0 }))
   colon_missing h a =
       cond_false (same (token (lexemes_from b at)) (mark colon)) (kind_named a (rest (lexemes_from b at))) (fault_at colon_due 0 (lexemes_from b at)) (ap (λ (u : Token). same u (mark colon)) (front-token b at s start) ∙ h)
       ∙ ap (λ (i : ℕ). bad (record { why = colon_due; at = i; of = 0 })) (front-place b at s start)
@@ -58,7 +56,7 @@ module _ (b g : List ℕ) (at k s : ℕ) (inside : at ≤ length b) (start : s �
         cond_true (same (token (lexemes_from b at)) (mark colon)) (kind_named a (rest (lexemes_from b at))) (fault_at colon_due 0 (lexemes_from b at)) (ap (λ (u : Token). same u (mark colon)) first.token ∙ stands)
         ∙ ap (kind_named a) (first.behind ∙ ap (lexemes_from b) (sym end))
 
-    pub kind_missing : is_identifier (token_at b s₂) ≡ false → ReadsKind b at g k (NoKind (record { why = 9; at = s₂; of = 0 }))
+    pub kind_missing : is_identifier (token_at b s₂) ≡ false → ReadsKind b at g k (Err (record { why = PlaceDue; at = s₂; of = 0 }))
     kind_missing h a =
         behind-colon a
         ∙ cond_false (is_identifier (token (lexemes_from b e))) _ _ (ap is_identifier (front-token b e s₂ start₂) ∙ h)
@@ -74,13 +72,13 @@ module _ (b g : List ℕ) (at k s : ℕ) (inside : at ≤ length b) (start : s �
           ∙ cond_true (is_identifier (token (lexemes_from b e))) _ _ (ap is_identifier (front-token b e s₂ start₂) ∙ named)
           ∙ ap₂ (λ (i j : ℕ). cond (ltb i j) (parsed (phrase_read i a) (rest (lexemes_from b e))) (fault_at not_declared 0 (lexemes_from b e))) index_is (names-count b k g few)
 
-      pub kind-unknown : k ≤ f → ReadsKind b at g k (NoKind (record { why = 10; at = s₂; of = 0 }))
+      pub kind-unknown : k ≤ f → ReadsKind b at g k (Err (record { why = NotDeclared; at = s₂; of = 0 }))
       kind-unknown h a =
           behind-name a
           ∙ cond_false (ltb f k) _ _ (le-ltb f k h)
           ∙ ap (λ (i : ℕ). bad (record { why = not_declared; at = i; of = 0 })) (front-place b e s₂ start₂)
 
-      pub kind-named : (e₂ : ℕ) → f < k → e₂ ≡ s₂ + token_size (drop s₂ b) → ReadsKind b at g k (Named f e₂)
+      pub kind-named : (e₂ : ℕ) → f < k → e₂ ≡ s₂ + token_size (drop s₂ b) → ReadsKind b at g k (Ok (f, e₂))
       kind-named e₂ h end₂ =
           let second = front b e s₂ e-inside start₂ (identifier_some (token_at b s₂) named) in (
             h,
@@ -91,23 +89,19 @@ module _ (b g : List ℕ) (at k s : ℕ) (inside : at ≤ length b) (start : s �
 
 -- ---- a root of one byte
 
-pub leaf_refused : (b g o : List ℕ) (at k byte seen : ℕ) (y : KindAnswer) (x : Fault) → y ≡ NoKind x → ReadsKind b at g k y → ReadsLeaf b at g k byte seen o (Bad x)
-leaf_refused b g o at k byte seen y x is read W v a root named =
-    subst (λ (r : Parsed PhraseRead). ReadsPhrase W b o v r (Bad x)) (sym (subst (ReadsKind b at g k) is read a)) refl
+pub leaf_refused : (b g o : List ℕ) (at k byte seen : ℕ) (x : Fault) → ReadsKind b at g k (Err x) → ReadsLeaf b at g k byte seen o (Err x)
+leaf_refused b g o at k byte seen x read W v a root named =
+    subst (λ (r : Parsed PhraseRead). ReadsPhrase W b o v r (Err x)) (sym (read a)) refl
 
 two_set : (o : List ℕ) (x y : ℕ) → 2 ≤ length o → take 2 (set (set o 0 x) 1 y) ≡ x ∷ y ∷ []
 two_set [] x y h = absurd (omega arith)
 two_set (a ∷ []) x y h = absurd (omega arith)
 two_set (a ∷ c ∷ o) x y h = refl
 
-pub kind-small : (b g : List ℕ) (at k : ℕ) (y : KindAnswer) (kind e : ℕ) → y ≡ Named kind e → k ≤ most_kinds → ReadsKind b at g k y → kind < 16
-kind-small b g at k y kind e is few read = omega (arith, (subst (ReadsKind b at g k) is read).0)
-
-pub leaf_read : (b g o : List ℕ) (at k byte seen : ℕ) (y : KindAnswer) (kind e : ℕ) → y ≡ Named kind e → ReadsKind b at g k y → length o ≡ most_bytes → seen ≤ 1 →
-    ReadsLeaf b at g k byte seen (set (set o 0 kind) 1 byte) (Read (record { label = length b; kind = kind; size = 2; seen = seen; at = e }))
-leaf_read b g o at k byte seen y kind e is read size few W v a root named =
-    let told = subst (ReadsKind b at g k) is read in
-    subst (λ (r : Parsed PhraseRead). ReadsPhrase W b (set (set o 0 kind) 1 byte) v r (Read (record { label = length b; kind = kind; size = 2; seen = seen; at = e }))) (sym (told.2 a))
+pub leaf_read : (b g o : List ℕ) (at k byte seen : ℕ) (kind e : ℕ) → ReadsKind b at g k (Ok (kind, e)) → length o ≡ most_bytes → seen ≤ 1 →
+    ReadsLeaf b at g k byte seen (set (set o 0 kind) 1 byte) (Ok (record { label = length b; kind = kind; size = 2; seen = seen; at = e }))
+leaf_read b g o at k byte seen kind e told size few W v a root named =
+    subst (λ (r : Parsed PhraseRead). ReadsPhrase W b (set (set o 0 kind) 1 byte) v r (Ok (record { label = length b; kind = kind; size = 2; seen = seen; at = e }))) (sym (told.2 a))
     (record {
       label = sym (token_none b (length b) (omega arith));
       kind = refl;

@@ -1,5 +1,6 @@
 -- Phrases: what reading a pattern promises.
 --
+--   PhraseAnswer                what reading a pattern gives
 --   PhraseTo                    what was read of a pattern, with its bytes and its variables
 --   ReadsPhrase                 the answer is what a reading says
 --   PhrasePromise               what read_phrase promises
@@ -9,7 +10,7 @@
 --   root_read kind a r           a term of this kind as a pattern
 --   labelled_by s a              the answer a with the label at the offset s
 --
-use Rattle.std.specs.Prelude.{◌≡◌, true, cond, List, [], ◌∷◌, ℕ, ◌+◌, ◌*◌, ◌<◌, ◌≤◌, ltb, length, get_or, take, drop}
+use Rattle.std.specs.Prelude.{◌≡◌, true, cond, List, [], ◌∷◌, ℕ, ◌+◌, ◌*◌, ◌<◌, ◌≤◌, ltb, length, get_or, take, drop, Result, Ok, Err}
 use Rattle.wire.specs.Vocabulary.{Vocabulary, word, most_kinds, most_words}
 use Rattle.wire.specs.TermBytes.{encode_root, encode_term, name_count, most_bytes, most_levels}
 use Rattle.texts.specs.Lexemes.{Token, Lexeme, blanks, lexemes_from, token_at}
@@ -18,12 +19,10 @@ use Rattle.texts.specs.Files.{most_text}
 use Rattle.texts.specs.Faults.{Parsed, parsed, bad, parse_then}
 use Rattle.texts.specs.PhraseReading.{TermRead, PhraseRead, phrase_read, variable_why, read_variable, parse_term, read_root_kind, read_root, read_phrase}
 use Rattle.texts.specs.Tabled.{names_in, record_size, tabled_vocabulary}
-use Rattle.clauses.specs.Reading.{fault_of, seen_at, Front}
+use Rattle.faults.specs.declared.Fault.{Fault}
+use Rattle.faults.specs.Reasons.{fault_of}
+use Rattle.clauses.specs.Reading.{seen_at, Front}
 use Rattle.phrases.specs.declared.Phrase.{Phrase}
-use Rattle.phrases.specs.declared.PhraseAnswer.{PhraseAnswer}
-use Rattle.phrases.specs.declared.PhraseAnswer.TheVariants.{Read, Bad}
-use Rattle.phrases.specs.declared.KindAnswer.{KindAnswer}
-use Rattle.phrases.specs.declared.KindAnswer.TheVariants.{Named, NoKind}
 
 pub record PhraseTo (W : Vocabulary) (b o v : List ℕ) (p : PhraseRead) (r : List Lexeme) (x : Phrase) : Type 0 where
   pub label : p.label ≡ token_at b x.label
@@ -35,11 +34,14 @@ pub record PhraseTo (W : Vocabulary) (b o v : List ℕ) (p : PhraseRead) (r : Li
   pub room : x.size ≤ most_bytes
   pub few : x.seen ≤ name_count
 
+abbrev pub PhraseAnswer : Type 0
+PhraseAnswer = Result Phrase Fault
+
 abbrev pub ReadsPhrase : Vocabulary → List ℕ → List ℕ → List ℕ → Parsed PhraseRead → PhraseAnswer → Type 0
-ReadsPhrase W b o v (parsed p r) (Read x) = PhraseTo W b o v p r x
-ReadsPhrase W b o v (parsed p r) (Bad x) = ⊥
-ReadsPhrase W b o v (bad f) (Read x) = ⊥
-ReadsPhrase W b o v (bad f) (Bad x) = f ≡ fault_of x
+ReadsPhrase W b o v (parsed p r) (Ok x) = PhraseTo W b o v p r x
+ReadsPhrase W b o v (parsed p r) (Err x) = ⊥
+ReadsPhrase W b o v (bad f) (Ok x) = ⊥
+ReadsPhrase W b o v (bad f) (Err x) = f ≡ fault_of x
 
 -- The text b is read from the offset `at` on; the first k of the offsets g are those of the kinds' names, the first n of q those of
 -- the words', whose records are r. Behind that, o holds the bytes and v the offsets of the variables.
@@ -50,10 +52,10 @@ PhrasePromise b at g k q n r o v a =
 
 -- ---- the parts
 
-abbrev pub ReadsKind : List ℕ → ℕ → List ℕ → ℕ → KindAnswer → Type 0
-ReadsKind b at g k (Named kind e) =
+abbrev pub ReadsKind : List ℕ → ℕ → List ℕ → ℕ → Result (ℕ × ℕ) Fault → Type 0
+ReadsKind b at g k (Ok (kind, e)) =
     (kind < k) × (e ≤ length b) × ((a : TermRead) → read_root_kind (names_in b (take k g)) a (lexemes_from b at) ≡ parsed (phrase_read kind a) (lexemes_from b e))
-ReadsKind b at g k (NoKind x) = (a : TermRead) → read_root_kind (names_in b (take k g)) a (lexemes_from b at) ≡ bad (fault_of x)
+ReadsKind b at g k (Err x) = (a : TermRead) → read_root_kind (names_in b (take k g)) a (lexemes_from b at) ≡ bad (fault_of x)
 
 abbrev pub ReadsLeaf : List ℕ → ℕ → List ℕ → ℕ → ℕ → ℕ → List ℕ → PhraseAnswer → Type 0
 ReadsLeaf b at g k byte seen o x =
@@ -88,8 +90,8 @@ ReadsRoot b at g k q n r o v a =
     ReadsPhrase (tabled_vocabulary k n r) b o v (read_root (names_in b (take k g)) (names_in b (take n q)) (tabled_vocabulary k n r) (lexemes_from b at)) a
 
 abbrev pub labelled_by : ℕ → PhraseAnswer → PhraseAnswer
-labelled_by s (Read x) = Read (record { label = s; kind = x.kind; size = x.size; seen = x.seen; at = x.at })
-labelled_by s (Bad x) = Bad x
+labelled_by s (Ok x) = Ok (record { label = s; kind = x.kind; size = x.size; seen = x.seen; at = x.at })
+labelled_by s (Err x) = Err x
 
 abbrev pub ReadsLabelled : List ℕ → ℕ → List ℕ → ℕ → List ℕ → ℕ → List ℕ → List ℕ → List ℕ → PhraseAnswer → Type 0
 ReadsLabelled b at g k q n r o v a =

@@ -2,16 +2,16 @@
 #![tactic(auto)]
 
 ghost use Rattle.std.specs.Prelude.{◌≡◌, ◌≤◌, length};
-ghost use Rattle.wire.specs.TermBytes.{most_bytes};
 ghost use Rattle.wire.specs.Vocabulary.{most_kinds, most_words};
-ghost use Rattle.clauses.specs.Reading.{Within, Lent, Tables};
-ghost use Rattle.phrases.specs.Phrases.{ReadsKind, ReadsLeaf, ReadsRootVariable, kind_of, ReadsRootWord, ReadsRoot, labelled_by, ReadsLabelled, PhrasePromise};
+ghost use Rattle.clauses.specs.Reading.{Within};
+ghost use Rattle.phrases.specs.Phrases.{ReadsKind, ReadsLeaf, ReadsRootVariable, kind_of, ReadsRootWord, ReadsRoot, ReadsLabelled, PhrasePromise};
 
-use clauses::{Answer, Fault};
+use clauses::Glossary;
+use faults::{Fault, Reason};
 
 // A pattern that was read: the offset of its label, or the text's length where it has none, its kind, the number of its bytes and of
 // its variables, and the offset behind it.
-#[derive(Drop)]
+#[derive(Clone, Copy)]
 pub struct Phrase {
     pub label: usize,
     pub kind: usize,
@@ -20,56 +20,37 @@ pub struct Phrase {
     pub at: usize,
 }
 
-#[derive(Drop)]
-pub enum PhraseAnswer {
-    Read(Phrase),
-    Bad(Fault),
-}
-
-// The kind that a root without word names, with the offset behind it.
-#[derive(Drop)]
-enum KindAnswer {
-    Named(usize, usize),
-    NoKind(Fault),
-}
-
-fn wide(b: u8) -> usize
-    ensures { result ≡ b }
-{
-    b as usize
-}
-
-// Reads the kind behind a root that is open or a variable.
-fn read_kind(text: &[u8], at: usize, kinds: &[u16; 16], k: usize) -> KindAnswer
+// Reads the kind behind a root that is open or a variable, and says which it is and the offset behind it.
+fn read_kind(text: &[u8], at: usize, kinds: &[u16; 16], k: usize) -> Result<(usize, usize), Fault>
     requires at_in_bounds { at ≤ length text.now }
     requires k_le_most_kinds { k ≤ most_kinds }
     ensures { ReadsKind text.now at kinds.now k result }
 {
     let s = lexer::start(text, at);
     if !lexer::is_mark(text, s, b':') {
-        return KindAnswer::NoKind(Fault {
-            why: 23,
+        return Err(Fault {
+            why: Reason::ColonDue,
             at: s,
             of: 0,
         });
     }
     let named = lexer::start(text, lexer::end(text, s));
     if !lexer::is_identifier(text, named) {
-        return KindAnswer::NoKind(Fault {
-            why: 9,
+        return Err(Fault {
+            why: Reason::PlaceDue,
             at: named,
             of: 0,
         });
     }
     let kind = lexer::find(text, named, kinds, k);
-    if kind < k {
-        return KindAnswer::Named(kind, lexer::end(text, named));
+    if k <= kind {
+        return Err(Fault {
+            why: Reason::NotDeclared,
+            at: named,
+            of: 0,
+        });
     }
-    KindAnswer::NoKind(Fault {
-        why: 10,
-        at: named,
-        of: 0,
-    })
+    Ok((kind, lexer::end(text, named)))
 }
 
 // Reads the rest of a pattern whose root is one byte, with so many variables, and writes it.
@@ -81,28 +62,22 @@ fn read_leaf(
     byte: u8,
     seen: usize,
     out: &mut [u8; 4096],
-) -> PhraseAnswer
+) -> Result<Phrase, Fault>
     requires at_in_bounds { at ≤ length text.now }
     requires k_le_most_kinds { k ≤ most_kinds }
     requires seen_bound { seen ≤ 1 }
-    requires out_len { length out.old ≡ most_bytes }
     ensures { ReadsLeaf text.now at kinds.now k byte seen out.new result }
 {
-    match read_kind(text, at, kinds, k) {
-        KindAnswer::NoKind(x) => PhraseAnswer::Bad(x),
-        KindAnswer::Named(kind, end) => {
-            out[0] = kind as u8;
-            out[1] = byte;
-            let label = text.len();
-            PhraseAnswer::Read(Phrase {
-                label,
-                kind,
-                size: 2,
-                seen,
-                at: end,
-            })
-        }
-    }
+    let (kind, end) = read_kind(text, at, kinds, k)?;
+    out[0] = kind as u8;
+    out[1] = byte;
+    Ok(Phrase {
+        label: text.len(),
+        kind,
+        size: 2,
+        seen,
+        at: end,
+    })
 }
 
 // Reads a pattern that is the variable at an offset.
@@ -113,15 +88,13 @@ fn read_root_variable(
     k: usize,
     out: &mut [u8; 4096],
     variables: &mut [u16; 64],
-) -> PhraseAnswer
+) -> Result<Phrase, Fault>
     requires within { Within text.now s 0 1 0 }
-    requires lent { Lent out.old variables.old }
     requires k_le_most_kinds { k ≤ most_kinds }
     ensures { ReadsRootVariable text.now s kinds.now k variables.old out.new variables.new result }
 {
-    let why = clauses::variable_why(text, s, 32, 1, variables, 0);
-    if why != 0 {
-        return PhraseAnswer::Bad(Fault { why, at: s, of: 0 });
+    if let Some(why) = clauses::variable_why(text, s, 32, 1, variables, 0) {
+        return Err(Fault { why, at: s, of: 0 });
     }
     variables[0] = s as u16;
     read_leaf(text, lexer::end(text, s), kinds, k, 128, 1, out)
@@ -132,68 +105,49 @@ fn root_kind(records: &[u8; 960], n: usize, f: usize) -> u8
     requires { n ≤ most_words }
     ensures { result ≡ kind_of records.now n f }
 {
-    if f < n {
-        let kind = records[10 * f];
-        return kind;
-    }
-    0
+    if f < n { records[10 * f] } else { 0 }
 }
 
 // Reads a pattern that begins with the word at an offset.
 fn read_root_word(
-    text: &[u8],
+    glossary: &Glossary<'_>,
     at: usize,
     s: usize,
-    words: &[u16; 96],
-    n: usize,
-    records: &[u8; 960],
     out: &mut [u8; 4096],
     variables: &mut [u16; 64],
-) -> PhraseAnswer
-    requires within { Within text.now at n 1 0 }
-    requires lent { Lent out.old variables.old }
-    requires tables { Tables words.now records.now }
-    ensures { ReadsRootWord text.now at s words.now n records.now out.new variables.new result }
+) -> Result<Phrase, Fault>
+    requires { Within glossary.now.text.now at glossary.now.n 1 0 }
+    ensures { ReadsRootWord glossary.now.text.now at s glossary.now.words.now glossary.now.n glossary.now.records.now out.new variables.new result }
 {
-    let kind = root_kind(records, n, lexer::find(text, s, words, n));
+    let words = glossary.words;
+    let f = lexer::find(glossary.text, s, words, glossary.n);
+    let kind = root_kind(glossary.records, glossary.n, f);
     out[0] = kind;
-    let due = wide(kind);
-    match clauses::read(text, at, 32, due, words, n, records, out, 1, variables, 0) {
-        Answer::Bad(x) => PhraseAnswer::Bad(x),
-        Answer::Read(p) => {
-            let label = text.len();
-            let size = p.to;
-            let seen = p.seen;
-            let end = p.at;
-            PhraseAnswer::Read(Phrase {
-                label,
-                kind: due,
-                size,
-                seen,
-                at: end,
-            })
-        }
-    }
+    let due = usize::from(kind);
+    let p = glossary.read(at, 32, due, out, 1, variables, 0)?;
+    Ok(Phrase {
+        label: glossary.text.len(),
+        kind: due,
+        size: p.to,
+        seen: p.seen,
+        at: p.at,
+    })
 }
 
 // Reads a pattern without label.
 fn read_root(
-    text: &[u8],
+    glossary: &Glossary<'_>,
     at: usize,
     kinds: &[u16; 16],
     k: usize,
-    words: &[u16; 96],
-    n: usize,
-    records: &[u8; 960],
     out: &mut [u8; 4096],
     variables: &mut [u16; 64],
-) -> PhraseAnswer
-    requires within { Within text.now at n 1 0 }
-    requires lent { Lent out.old variables.old }
-    requires tables { Tables words.now records.now }
+) -> Result<Phrase, Fault>
+    requires within { Within glossary.now.text.now at glossary.now.n 1 0 }
     requires k_le_most_kinds { k ≤ most_kinds }
-    ensures { ReadsRoot text.now at kinds.now k words.now n records.now out.new variables.new result }
+    ensures { ReadsRoot glossary.now.text.now at kinds.now k glossary.now.words.now glossary.now.n glossary.now.records.now out.new variables.new result }
 {
+    let text = glossary.text;
     let s = lexer::start(text, at);
     if lexer::is_mark(text, s, b'_') {
         return read_leaf(text, lexer::end(text, s), kinds, k, 255, 0, out);
@@ -202,99 +156,83 @@ fn read_root(
         return read_root_variable(text, s, kinds, k, out, variables);
     }
     if !lexer::is_identifier(text, s) {
-        return PhraseAnswer::Bad(Fault {
-            why: 14,
+        return Err(Fault {
+            why: Reason::PatternDue,
             at: s,
             of: 0,
         });
     }
-    read_root_word(text, at, s, words, n, records, out, variables)
-}
-
-// The answer, with the label at an offset.
-fn label(s: usize, read: PhraseAnswer) -> PhraseAnswer
-    ensures { result ≡ labelled_by s read }
-{
-    match read {
-        PhraseAnswer::Read(p) => {
-            let kind = p.kind;
-            let size = p.size;
-            let seen = p.seen;
-            let at = p.at;
-            PhraseAnswer::Read(Phrase {
-                label: s,
-                kind,
-                size,
-                seen,
-                at,
-            })
-        }
-        PhraseAnswer::Bad(x) => PhraseAnswer::Bad(x),
-    }
+    read_root_word(glossary, at, s, out, variables)
 }
 
 // Reads a pattern, with its label where it has one.
 fn read_labelled(
-    text: &[u8],
+    glossary: &Glossary<'_>,
     at: usize,
     kinds: &[u16; 16],
     k: usize,
-    words: &[u16; 96],
-    n: usize,
-    records: &[u8; 960],
     out: &mut [u8; 4096],
     variables: &mut [u16; 64],
-) -> PhraseAnswer
-    requires within { Within text.now at n 1 0 }
-    requires lent { Lent out.old variables.old }
-    requires tables { Tables words.now records.now }
+) -> Result<Phrase, Fault>
+    requires within { Within glossary.now.text.now at glossary.now.n 1 0 }
     requires k_le_most_kinds { k ≤ most_kinds }
-    ensures { ReadsLabelled text.now at kinds.now k words.now n records.now out.new variables.new result }
+    ensures { ReadsLabelled glossary.now.text.now at kinds.now k glossary.now.words.now glossary.now.n glossary.now.records.now out.new variables.new result }
 {
+    let text = glossary.text;
     let s = lexer::start(text, at);
     if !lexer::is_identifier(text, s) {
-        return read_root(text, at, kinds, k, words, n, records, out, variables);
+        return read_root(glossary, at, kinds, k, out, variables);
     }
     let e = lexer::end(text, s);
     let colon = lexer::start(text, e);
     if !lexer::is_mark(text, colon, b':') {
-        return read_root(text, at, kinds, k, words, n, records, out, variables);
+        return read_root(glossary, at, kinds, k, out, variables);
     }
     if 32 < e - s {
-        return PhraseAnswer::Bad(Fault {
-            why: 3,
+        return Err(Fault {
+            why: Reason::LongName,
             at: s,
             of: 0,
         });
     }
     let root = lexer::end(text, colon);
-    label(
-        s,
-        read_root(text, root, kinds, k, words, n, records, out, variables),
-    )
+    let phrase = read_root(glossary, root, kinds, k, out, variables)?;
+    Ok(Phrase { label: s, ..phrase })
 }
 
-// Reads a pattern from an offset of the text on, by the offsets of the names of k kinds and n words and the words' records. Its
-// bytes go to the front of `out`, and the offsets of its variables to that of `variables`. Where a text has more than 65,535 bytes,
-// or an offset or a count is out of range, the answer means nothing.
+// Reads a pattern from an offset of a text on, by the offsets of the names of k kinds and the text's words. Its bytes go to the front of
+// `out`, and the offsets of its variables to that of `variables`. Where the text has more than 65,535 bytes, or an offset or a count is
+// out of range, the answer means nothing.
 pub fn read_phrase(
-    text: &[u8],
+    glossary: &Glossary<'_>,
     at: usize,
     kinds: &[u16; 16],
     k: usize,
-    words: &[u16; 96],
-    n: usize,
-    records: &[u8; 960],
     out: &mut [u8; 4096],
     variables: &mut [u16; 64],
-) -> PhraseAnswer
-    ensures { PhrasePromise text.now at kinds.now k words.now n records.now out.new variables.new result }
+) -> Result<Phrase, Fault>
+    ensures { PhrasePromise glossary.now.text.now at kinds.now k glossary.now.words.now glossary.now.n glossary.now.records.now out.new variables.new result }
 {
-    if 16 < k {
-        return PhraseAnswer::Bad(Fault { why: 0, at, of: 0 });
+    let words = glossary.words;
+    let records = glossary.records;
+    if 16 < k
+        || !clauses::fits(
+            glossary.text,
+            at,
+            words,
+            glossary.n,
+            records,
+            out,
+            1,
+            variables,
+            0,
+        )
+    {
+        return Err(Fault {
+            why: Reason::LongText,
+            at,
+            of: 0,
+        });
     }
-    if !clauses::fits(text, at, words, n, records, out, 1, variables, 0) {
-        return PhraseAnswer::Bad(Fault { why: 0, at, of: 0 });
-    }
-    read_labelled(text, at, kinds, k, words, n, records, out, variables)
+    read_labelled(glossary, at, kinds, k, out, variables)
 }

@@ -1,19 +1,21 @@
--- Searching: the words are searched from the last to the first for one of a kind.
+-- Searching: the words are searched for one of a kind.
 --
 --   some_below-at, below_some   some number below a bound passes a test exactly where there is one
---   Sought                      the words below one decide
+--   some_any                    so a word has a kind where an entry of the table's front is the kind
 --   by_lowest, sought_none      the test of the kind itself: the lowest empty kind is decided at once
---   sought_begun, sought_turn   the words decide from the last on, and below a word of another kind
---   sought_found, sought_all    at a word of the kind, and below the first, it is decided
+--   sought                      the table's front decides of any other
 --
 use mathlib.Core.Path.{◌≡◌, refl, sym, ap, ◌∙◌}
 use mathlib.Core.Bool.{Bool, true, false, not, ◌&&◌, ◌||◌, false≢true}
-use mathlib.Core.List.{List}
+use mathlib.Core.List.{List, [], ◌∷◌}
 use Prim.Native.Nat.{ℕ, zero, suc, ◌-◌, ◌<◌, ◌≤◌, min}
 use native.Mathlib.Decide.{ℕ_discrete}
 use native.Mathlib.Omega.{arith}
 use lib.Dec.{eqb}
-use lib.ListN.{get_or}
+use lib.ListN.{length, get_or, take}
+use lib.Seq.{take-suc}
+use Rattle.std.specs.List.{list_any}
+use Rattle.std.proofs.lemmas.List.Folds.{list_any-append}
 use borrow.Author.Tests.{eq-eqb, ne_eqb}
 use Rattle.terms.proofs.Bools.{or_left, or_right}
 use Rattle.wire.specs.Vocabulary.{most_words}
@@ -37,12 +39,23 @@ below_some (suc n) test e = go (test n) refl e (below_some n test)
     go true z e below = (n, omega arith, z)
     go false z e below = let w = below e in let low = w.1 in (w.0, omega arith, w.2)
 
--- ---- the loop
+-- ---- the table's front
 
--- The words below h decide.
-pub record Sought (words : ℕ) (table : List ℕ) (e k h : ℕ) : Type 0 where
-  pub few : h ≤ most_words
-  pub same : inhabited_in words table e k ≡ some_below h (settled_to table k)
+or_swap : (a b : Bool) → (a || b) ≡ (b || (a || false))
+or_swap true true = refl
+or_swap true false = refl
+or_swap false true = refl
+or_swap false false = refl
+
+-- Some of the first n words has the kind where some of the table's first n entries is the kind.
+some_any : (table : List ℕ) (k n : ℕ) → n ≤ length table → some_below n (settled_to table k) ≡ list_any (λ x. eqb x k) (take n table)
+some_any table k zero h = refl
+some_any table k (suc n) h =
+    let inside : n < length table = omega arith in
+    let below = some_any table k n (omega arith) in
+    or_swap (settled_to table k n) (some_below n (settled_to table k))
+    ∙ ap (λ b. b || (settled_to table k n || false)) below
+    ∙ sym (ap (list_any (λ x. eqb x k)) (take-suc table n 0 inside) ∙ list_any-append (λ x. eqb x k) (take n table) (get_or table n 0 ∷ []))
 
 module _ (words : ℕ) (table : List ℕ) (e k : ℕ) where
   by_lowest : (b : Bool) → eqb k e ≡ b → inhabited_in words table e k ≡ (not b && some_below (min words most_words) (settled_to table k))
@@ -51,26 +64,8 @@ module _ (words : ℕ) (table : List ℕ) (e k : ℕ) where
   pub sought_none : k ≡ e → false ≡ inhabited_in words table e k
   sought_none z = sym (by_lowest true (eq-eqb k e z))
 
-  pub sought_begun : (h : ℕ) → h ≡ min words most_words → (k ≡ e → ⊥) → Sought words table e k h
-  sought_begun h z other = record {
-    few = omega arith;
-    same = by_lowest false (ne_eqb k e other) ∙ ap (λ i. some_below i (settled_to table k)) (sym z);
-  }
-
-module _ {words : ℕ} {table : List ℕ} {e k h : ℕ} (sought : Sought words table e k h) where
-  pub sought_all : h ≤ 0 → false ≡ inhabited_in words table e k
-  sought_all low = sym (sought.same ∙ ap (λ i. some_below i (settled_to table k)) (let z : h ≡ 0 = omega arith in z))
-
-  -- The word below h has the kind x.
-  module _ (more : 0 < h) {x : ℕ} (kind : x ≡ get_or table (h - 1) 0) where
-    last : inhabited_in words table e k ≡ (settled_to table k (h - 1) || some_below (h - 1) (settled_to table k))
-    last = sought.same ∙ ap (λ i. some_below i (settled_to table k)) (let z : h ≡ suc (h - 1) = omega arith in z)
-
-    pub sought_found : x ≡ k → true ≡ inhabited_in words table e k
-    sought_found same = sym (last ∙ or_left _ _ (eq-eqb (get_or table (h - 1) 0) k (sym kind ∙ same)))
-
-    pub sought_turn : (x ≡ k → ⊥) → Sought words table e k (h - 1)
-    sought_turn other = record {
-      few = let few = sought.few in omega arith;
-      same = last ∙ ap (λ b. b || some_below (h - 1) (settled_to table k)) (ne_eqb (get_or table (h - 1) 0) k (λ z. other (kind ∙ z)));
-    }
+  pub sought : length table ≡ most_words → (k ≡ e → ⊥) → {n : ℕ} → n ≡ min words most_words → {r : Bool} →
+      r ≡ list_any (λ x. eqb x k) (take n table) → r ≡ inhabited_in words table e k
+  sought long other {n} z h =
+      h ∙ ap (λ i. list_any (λ x. eqb x k) (take i table)) z ∙ sym (some_any table k (min words most_words) (omega (arith, long)))
+      ∙ sym (by_lowest false (ne_eqb k e other))

@@ -20,15 +20,13 @@ use Rattle.texts.specs.Faults.{Parsed, parsed, bad, place, rest, other_label}
 use Rattle.texts.specs.PhraseReading.{TermRead, fault_at, parse_term}
 use Rattle.texts.specs.QuestionReading.{open_before, or_open, completed, read_situation, read_question}
 use Rattle.texts.specs.Tabled.{names_in, tabled_vocabulary}
-use Rattle.clauses.specs.Reading.{Within, Reads, TermTo, ReadsTerm}
-use Rattle.clauses.specs.declared.Fault.{Fault}
+use Rattle.clauses.specs.Reading.{Answer, Within, Reads, TermTo, ReadsTerm}
+use Rattle.faults.specs.declared.Fault.{Fault}
+use Rattle.faults.specs.declared.Reason.TheVariants.{OtherLabel}
 use Rattle.clauses.specs.declared.Reached.{Reached}
-use Rattle.clauses.specs.declared.Answer.{Answer}
-use Rattle.clauses.specs.declared.Answer.TheVariants as answers
+use Rattle.std.specs.Prelude.{Ok, Err}
 use Rattle.clauses.proofs.Fronts.{front-token, front-place}
-use Rattle.questions.specs.Asking.{ReadsTo, QuestionPromise, SituationPromise, unless_open}
-use Rattle.questions.specs.declared.QuestionAnswer.{QuestionAnswer}
-use Rattle.questions.specs.declared.QuestionAnswer.TheVariants.{Read, Bad}
+use Rattle.questions.specs.Asking.{QuestionAnswer, ReadsTo, QuestionPromise, SituationPromise, unless_open}
 use Rattle.questions.proofs.Openings.{question_behind}
 
 pub or_open_lem : {A : Type 0} (b : List ℕ) (o : Option ℕ) (g : Parsed A) (a : QuestionAnswer) → ReadsTo b g a → ReadsTo b (or_open o g) (unless_open o a)
@@ -37,35 +35,35 @@ or_open_lem b none g a h = h
 
 -- ---- a situation
 
-module _ (b q r o v o' v' : List ℕ) (at n kind : ℕ) (y : Answer) (read : Within b at n 1 0 → ReadsTerm b at 32 kind q n r o 1 v 0 o' v' y) where
+module _ (b q r o v o' v' : List ℕ) (at n kind : ℕ) where
   abbrev l : List Lexeme
   l = lexemes_from b at
 
   abbrev term : ℕ → Parsed TermRead
   term k = parse_term (names_in b (take n q)) (tabled_vocabulary k n r) 32 kind (record { variables = []; used = 1 }) l
 
-  told : (k : ℕ) (z : Answer) → y ≡ z → Within b at n 1 0 → Reads (TermTo (tabled_vocabulary k n r) b o 1 o' v') (term k) z
-  told k z is w = subst (λ (a : Answer). Reads (TermTo (tabled_vocabulary k n r) b o 1 o' v') (term k) a) is (read w k)
+  abbrev TermIs : Answer → Type 0
+  TermIs y = Within b at n 1 0 → ReadsTerm b at 32 kind q n r o 1 v 0 o' v' y
 
-  pub situation-refused : (x : Fault) (e : ℕ) (a : QuestionAnswer) → y ≡ answers.Bad x → e ≡ x.at → a ≡ unless_open (open_before e l) (Bad x) → SituationPromise b at kind q n r a
-  situation-refused x e a is at-is gives w k = go (term k) (told k (answers.Bad x) is w)
+  pub situation-refused : (x : Fault) (e : ℕ) (a : QuestionAnswer) → TermIs (Err x) → e ≡ x.at → a ≡ unless_open (open_before e l) (Err x) → SituationPromise b at kind q n r a
+  situation-refused x e a read at-is gives w k = go (term k) (read w k)
     where
-      go : (g : Parsed TermRead) → Reads (TermTo (tabled_vocabulary k n r) b o 1 o' v') g (answers.Bad x) → ReadsTo b (completed l g) a
+      go : (g : Parsed TermRead) → Reads (TermTo (tabled_vocabulary k n r) b o 1 o' v') g (Err x) → ReadsTo b (completed l g) a
       go (parsed t m) h = absurd h
       go (bad f) h =
           subst (ReadsTo b (completed l (bad f)))
-          (ap (λ (i : ℕ). unless_open (open_before i l) (Bad x)) (ap (λ f. f.at) h ∙ sym at-is) ∙ sym gives)
-          (or_open_lem b (open_before f.at l) (bad f) (Bad x) h)
+          (ap (λ (i : ℕ). unless_open (open_before i l) (Err x)) (ap (λ f. f.at) h ∙ sym at-is) ∙ sym gives)
+          (or_open_lem b (open_before f.at l) (bad f) (Err x) h)
 
-  pub situation-read : (p : Reached) (e : ℕ) (a : QuestionAnswer) → y ≡ answers.Read p → e ≡ p.at + blanks (drop p.at b) →
-      a ≡ unless_open (open_before e l) (Read p.at) → SituationPromise b at kind q n r a
-  situation-read p e a is next gives w k = go (term k) (told k (answers.Read p) is w)
+  pub situation-read : (p : Reached) (e : ℕ) (a : QuestionAnswer) → TermIs (Ok p) → e ≡ p.at + blanks (drop p.at b) →
+      a ≡ unless_open (open_before e l) (Ok p.at) → SituationPromise b at kind q n r a
+  situation-read p e a read next gives w k = go (term k) (read w k)
     where
-      go : (g : Parsed TermRead) → Reads (TermTo (tabled_vocabulary k n r) b o 1 o' v') g (answers.Read p) → ReadsTo b (completed l g) a
+      go : (g : Parsed TermRead) → Reads (TermTo (tabled_vocabulary k n r) b o 1 o' v') g (Ok p) → ReadsTo b (completed l g) a
       go (parsed t m) h =
           subst (ReadsTo b (completed l (parsed t m)))
-          (ap (λ (i : ℕ). unless_open (open_before i l) (Read p.at)) (ap place h.behind ∙ front-place b p.at e next) ∙ sym gives)
-          (or_open_lem b (open_before (place m) l) _ (Read p.at) (h.behind, h.inside))
+          (ap (λ (i : ℕ). unless_open (open_before i l) (Ok p.at)) (ap place h.behind ∙ front-place b p.at e next) ∙ sym gives)
+          (or_open_lem b (open_before (place m) l) _ (Ok p.at) (h.behind, h.inside))
       go (bad f) h = absurd h
 
 -- ---- a question
@@ -83,9 +81,9 @@ module _ (b q r : List ℕ) (at s label kind n : ℕ) (start : s ≡ at + blanks
         ap₂ (λ (u v : Token). cond (same u v) (situation p.kind (rest (rest m))) (fault_at other_label 0 m)) (front-token b at s start) labelled
         ∙ ap (λ (i : ℕ). cond (same (token_at b s) (token_at b label)) (situation i (rest (rest m))) (fault_at other_label 0 m)) kinded
 
-  pub question_other : same (token_at b s) (token_at b label) ≡ false → QuestionPromise b at label kind q n r (Bad (record { why = 27; at = s; of = 0 }))
+  pub question_other : same (token_at b s) (token_at b label) ≡ false → QuestionPromise b at label kind q n r (Err (record { why = OtherLabel; at = s; of = 0 }))
   question_other h short inside words begun k p labelled kinded =
-      subst (λ (g : Parsed Ground). ReadsTo b g (Bad (record { why = 27; at = s; of = 0 })))
+      subst (λ (g : Parsed Ground). ReadsTo b g (Err (record { why = OtherLabel; at = s; of = 0 })))
       (sym (question_is k p labelled kinded ∙ cond_false (same (token_at b s) (token_at b label)) _ _ h))
       (ap (λ (i : ℕ). record { why = other_label; at = i; of = 0 }) (front-place b at s start))
 

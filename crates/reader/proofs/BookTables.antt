@@ -11,22 +11,16 @@ use Rattle.wire.specs.Vocabulary.{most_words}
 use Rattle.signature.specs.Tables.{vocabulary_in}
 use Rattle.signature.specs.Settled.{settled_numbers, SettledFrom}
 use Rattle.signature.specs.declared.VocabularyRefusal.{VocabularyRefusal}
-use Rattle.signature.specs.declared.Missing.{Missing}
-use Rattle.signature.specs.declared.Missing.TheVariants.{Nothing}
-use Rattle.signature.specs.declared.SettledAnswer.{SettledAnswer}
-use Rattle.signature.specs.declared.SettledAnswer.TheVariants as S
+use Rattle.std.specs.Prelude.{⊤, Option, Result, Ok, Err}
 use Rattle.reader.specs.Books.{BookRead, patterns_numbers, book_reply}
 use Rattle.reader.specs.Loaded.{SettledTable}
 use Rattle.reader.specs.declared.book.BookRefusal.{BookRefusal}
-use Rattle.reader.specs.declared.book.Patterns.{Patterns}
-use Rattle.reader.specs.declared.book.Patterns.TheVariants as R
-use Rattle.reader.specs.declared.book.BookAnswer.{BookAnswer}
-use Rattle.reader.specs.declared.book.BookAnswer.TheVariants as A
+use Rattle.reader.specs.declared.book.BookInputRefusal.TheVariants as A
 use Rattle.reader.proofs.Loaded.{settled-table}
 use Rattle.reader.proofs.Books.{books_refused, books_judged}
 
-module _ {v o m s o' r' m' s' : List ℕ} {a : SettledAnswer} (loaded : SettledFrom v o (replicate most_words 0) m s o' r' m' s' a) where
-  pub book_vocabulary : (b : List ℕ) (why : VocabularyRefusal) → a ≡ S.Refused why → BookRead v b s s' (A.Vocabulary why)
+module _ {v o m s o' r' m' s' : List ℕ} {a : Result (Option ℕ) VocabularyRefusal} (loaded : SettledFrom v o (replicate most_words 0) m s o' r' m' s' a) where
+  pub book_vocabulary : (b : List ℕ) (why : VocabularyRefusal) → a ≡ Err why → BookRead v b s s' (Err (A.Vocabulary why))
   book_vocabulary b why e = record {
     answer = books_refused v b why (sym (ap settled_numbers e) ∙ loaded.answer);
     settles = λ k d. absurd (let z : ◌≡◌ {A = ℕ} 0 1 = cc in omega arith);
@@ -34,8 +28,8 @@ module _ {v o m s o' r' m' s' : List ℕ} {a : SettledAnswer} (loaded : SettledF
     kept = λ _ _. loaded.kept why e;
   }
 
-  module _ (b : List ℕ) (k : Missing) (e : a ≡ S.Loaded k) (x : Patterns) (read : patterns_numbers x ≡ book_reply (vocabulary_in v) b) where
-    pub book_refused_lem : (why : BookRefusal) → x ≡ R.Refused why → BookRead v b s s' (A.Book why)
+  module _ (b : List ℕ) (k : Option ℕ) (e : a ≡ Ok k) (x : Result ⊤ BookRefusal) (read : patterns_numbers x ≡ book_reply (vocabulary_in v) b) where
+    pub book_refused_lem : (why : BookRefusal) → x ≡ Err why → BookRead v b s s' (Err (A.Book why))
     book_refused_lem why d = record {
       answer = books_judged v b (vocabulary_in v) (loaded.tables k e).accepted (sym (ap patterns_numbers d) ∙ read);
       settles = λ k d. absurd (let z : ◌≡◌ {A = ℕ} 0 1 = cc in omega arith);
@@ -43,15 +37,10 @@ module _ {v o m s o' r' m' s' : List ℕ} {a : SettledAnswer} (loaded : SettledF
       kept = λ why d. absurd (let z : ◌≡◌ {A = ℕ} 0 1 = cc in omega arith);
     }
 
-    pub book_loaded : x ≡ R.Read → BookRead v b s s' (A.Read k)
+    pub book_loaded : x ≡ Ok tt → BookRead v b s s' (Ok k)
     book_loaded d = record {
       answer = books_judged v b (vocabulary_in v) (loaded.tables k e).accepted (sym (ap patterns_numbers d) ∙ read);
-      settles = λ j d. subst (SettledTable v s') (ap missing_in d) (settled-table loaded k e);
+      settles = λ j d. let same : k ≡ j = cc in subst (SettledTable v s') same (settled-table loaded k e);
       refused = λ why d. absurd (let z : ◌≡◌ {A = ℕ} 0 1 = cc in omega arith);
       kept = λ why d. absurd (let z : ◌≡◌ {A = ℕ} 0 1 = cc in omega arith);
     }
-      where
-        missing_in : BookAnswer → Missing
-        missing_in (A.Read j) = j
-        missing_in (A.Vocabulary why) = Nothing
-        missing_in (A.Book why) = Nothing

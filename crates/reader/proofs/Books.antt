@@ -31,8 +31,8 @@ use Rattle.wire.proofs.Bytes.{offset-drop}
 use Rattle.wire.proofs.Cond.{cond_true, cond_false, choice}
 use Rattle.wire.proofs.Outside.{inside-outside}
 use Rattle.repeats.specs.FirstRepeat.{first_repeat, repeat_of}
-use Rattle.repeats.specs.declared.Repeat.{Repeat}
-use Rattle.repeats.specs.declared.Repeat.TheVariants.{At, Nothing}
+use Rattle.std.specs.Prelude as std
+use Rattle.std.specs.Prelude.{Some, None}
 use Rattle.repeats.proofs.Passing.{pattern_repeats, repeat_inside}
 use Rattle.signature.specs.Answers.{vocabulary_refused}
 use Rattle.signature.specs.declared.VocabularyRefusal.{VocabularyRefusal}
@@ -64,7 +64,7 @@ count_some (c ∷ l) h = sym (cond_false (ltb most_patterns c) 0 c (le-ltb most_
 -- ---- a pattern
 
 -- A name that stands again in a part of the book from an offset on.
-pub repeat_within : (b : List ℕ) (at : ℕ) → at ≤ length b → (n words : ℕ) {q : ℕ} (r : Repeat) → repeat_of r ≡ first_repeat words (take n (drop at b)) → r ≡ At q → at + q ≤ length b
+pub repeat_within : (b : List ℕ) (at : ℕ) → at ≤ length b → (n words : ℕ) {q : ℕ} (r : std.Option ℕ) → repeat_of r ≡ first_repeat words (take n (drop at b)) → r ≡ Some q → at + q ≤ length b
 repeat_within b at within n words {q} r e f =
     omega (arith, repeat_inside words (take n (drop at b)) q (sym e ∙ ap repeat_of f), take_short n (drop at b), length-drop at b)
 
@@ -120,7 +120,7 @@ module _ (W : Vocabulary) (b : List ℕ) (at : ℕ) where
 
   -- ---- one whose term is read, up to an offset
 
-  module _ (in_order : InOrder W) {words : ℕ} (known : words ≡ length W.words) {end : ℕ} (ordered : at ≤ end) (up_to : end ≤ length b) (x : Fronted W rest (end - at)) (r : Repeat)
+  module _ (in_order : InOrder W) {words : ℕ} (known : words ≡ length W.words) {end : ℕ} (ordered : at ≤ end) (up_to : end ≤ length b) (x : Fronted W rest (end - at)) (r : std.Option ℕ)
       (e : repeat_of r ≡ first_repeat words (take (end - at) rest)) where
     within : at ≤ length b
     within = omega arith
@@ -139,7 +139,7 @@ module _ (W : Vocabulary) (b : List ℕ) (at : ℕ) where
         ap (λ g. and_then (and_then g (λ y r. line18 rest y r (repeated_in [] (sightings W y.term)))) (line25 first rest)) x.same
         ∙ ap₂ (λ l o. and_then (line18 rest pattern l o) (line25 first rest)) behind looked
 
-    pub pattern_repeated : {q : ℕ} → r ≡ At q → PatternStops W b at (B.Repeated (at + q))
+    pub pattern_repeated : {q : ℕ} → r ≡ Some q → PatternStops W b at (B.Repeated (at + q))
     pattern_repeated {q} f = record {
       number = 18;
       place = at + q;
@@ -148,7 +148,7 @@ module _ (W : Vocabulary) (b : List ℕ) (at : ℕ) where
       inside = repeat_within b at within (end - at) words r e f;
     }
 
-    module _ (f : r ≡ Nothing) where
+    module _ (f : r ≡ None) where
       linear : read_pattern W first rest ≡ line25 first rest pattern (drop end b)
       linear = judged ∙ ap (λ r. and_then (line18 rest pattern (drop end b) (repeat_of r)) (line25 first rest)) f
 

@@ -38,8 +38,7 @@ use Rattle.reader.specs.Books.{in_window, Fronted}
 use Rattle.reader.specs.declared.refusal.TermRefusal.{TermRefusal}
 use Rattle.reader.specs.declared.refusal.TermRefusal.TheVariants as T
 use Rattle.cursors.specs.declared.Cursor.{Cursor}
-use Rattle.reader.specs.declared.term.Reading.{Reading as Answer}
-use Rattle.reader.specs.declared.term.Reading.TheVariants as R
+use Rattle.std.specs.Prelude.{Result, Ok, Err}
 use Rattle.reader.proofs.Told.{front_cases}
 
 abbrev pub window : List ℕ → List ℕ
@@ -212,15 +211,15 @@ front_ends W in_order b bytes {c = c} x =
 
 -- ---- a part of a book
 
-module _ (v b : List ℕ) (at : ℕ) (within : at ≤ length b) {limit : ℕ} (last : limit ≡ min (length b) (at + most_bytes)) (names : List ℕ) (r : Answer)
+module _ (v b : List ℕ) (at : ℕ) (within : at ≤ length b) {limit : ℕ} (last : limit ≡ min (length b) (at + most_bytes)) (names : List ℕ) (r : Result Cursor TermRefusal)
     (reads : FrontRead v (take (limit - at) (drop at b)) names r) where
-  answer : {y : Answer} → r ≡ y → Answers (window (drop at b)) names (front_run (vocabulary_in v) (window (drop at b))) y
+  answer : {y : Result Cursor TermRefusal} → r ≡ y → Answers (window (drop at b)) names (front_run (vocabulary_in v) (window (drop at b))) y
   answer e =
       subst (Answers (window (drop at b)) names (front_run (vocabulary_in v) (window (drop at b)))) e
       (subst (λ t. FrontRead v t names r) (window_part b at within last) reads)
 
-  pub part-fault : {why : TermRefusal} → r ≡ R.Fault why → Refuses (window (drop at b)) why (front_run (vocabulary_in v) (window (drop at b)))
+  pub part-fault : {why : TermRefusal} → r ≡ Err why → Refuses (window (drop at b)) why (front_run (vocabulary_in v) (window (drop at b)))
   part-fault e = answer e
 
-  pub part-ends : InOrder (vocabulary_in v) → IsBytes b → {c : Cursor} → r ≡ R.Read c → Fronted (vocabulary_in v) (drop at b) c.at
+  pub part-ends : InOrder (vocabulary_in v) → IsBytes b → {c : Cursor} → r ≡ Ok c → Fronted (vocabulary_in v) (drop at b) c.at
   part-ends in_order bytes e = front_ends (vocabulary_in v) in_order (drop at b) (all_drop (λ b. b < 256) at b bytes) (answer e)

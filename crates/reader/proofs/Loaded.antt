@@ -16,19 +16,13 @@ use Rattle.signature.specs.Answers.{vocabulary_refused}
 use Rattle.signature.specs.Tables.{vocabulary_in}
 use Rattle.signature.specs.Settled.{settled_numbers, Settles, SettledFrom}
 use Rattle.signature.specs.declared.VocabularyRefusal.{VocabularyRefusal}
-use Rattle.signature.specs.declared.Missing.{Missing}
-use Rattle.signature.specs.declared.Missing.TheVariants.{Nothing}
-use Rattle.signature.specs.declared.SettledAnswer.{SettledAnswer}
-use Rattle.signature.specs.declared.SettledAnswer.TheVariants as S
+use Rattle.std.specs.Prelude.{Option, Result, Ok, Err}
 use Rattle.reader.specs.Answers.{term_refused}
 use Rattle.reader.specs.Whole.{told, whole_told}
 use Rattle.reader.specs.Loaded.{without_values, SettledTable, PatternLoaded}
 use Rattle.reader.specs.declared.refusal.TermRefusal.{TermRefusal}
 use Rattle.reader.specs.declared.whole.Extent.{Extent}
-use Rattle.reader.specs.declared.whole.Whole.{Whole}
-use Rattle.reader.specs.declared.whole.Whole.TheVariants as W
-use Rattle.reader.specs.declared.PatternAnswer.{PatternAnswer}
-use Rattle.reader.specs.declared.PatternAnswer.TheVariants as P
+use Rattle.reader.specs.declared.CheckRefusal.TheVariants as P
 use Rattle.reader.proofs.Calls.{term-refused, term-accepted}
 use Rattle.reader.proofs.Refused.{Refuses, vocabulary-refuses, term-refuses}
 use Rattle.reader.proofs.Told.{told-refused, told-accepted}
@@ -37,11 +31,11 @@ cleared : (r : Reply) → Refuses r → r ≡ without_values r
 cleared (accepted l) h = absurd h
 cleared (refused n i q) h = refl
 
-module _ {v o m s o' r' m' s' : List ℕ} {a : SettledAnswer} (loaded : SettledFrom v o (replicate most_words 0) m s o' r' m' s' a) where
-  pub settled-table : (k : Missing) → a ≡ S.Loaded k → SettledTable v s' k
+module _ {v o m s o' r' m' s' : List ℕ} {a : Result (Option ℕ) VocabularyRefusal} (loaded : SettledFrom v o (replicate most_words 0) m s o' r' m' s' a) where
+  pub settled-table : (k : Option ℕ) → a ≡ Ok k → SettledTable v s' k
   settled-table k e = subst (λ r. Settles v (byte_at v 1) r s' k) loaded.holds.results (loaded.settles k e)
 
-  pub pattern-vocabulary : (b : List ℕ) (why : VocabularyRefusal) → a ≡ S.Refused why → PatternLoaded v b s s' (P.Vocabulary why)
+  pub pattern-vocabulary : (b : List ℕ) (why : VocabularyRefusal) → a ≡ Err why → PatternLoaded v b s s' (Err (P.Vocabulary why))
   pattern-vocabulary b why e = record {
     answer = cleared (vocabulary_refused why) (vocabulary-refuses why) ∙ ap without_values (term-refused v b why (sym (ap settled_numbers e) ∙ loaded.answer));
     settles = λ k d. absurd (let z : ◌≡◌ {A = ℕ} 0 1 = cc in omega arith);
@@ -49,8 +43,8 @@ module _ {v o m s o' r' m' s' : List ℕ} {a : SettledAnswer} (loaded : SettledF
     kept = λ _ _. loaded.kept why e;
   }
 
-  module _ (b : List ℕ) (k : Missing) (e : a ≡ S.Loaded k) (x : Whole) (read : whole_told x ≡ told (vocabulary_in v) b) where
-    pub pattern-refused : (why : TermRefusal) → x ≡ W.Refused why → PatternLoaded v b s s' (P.Pattern why)
+  module _ (b : List ℕ) (k : Option ℕ) (e : a ≡ Ok k) (x : Result Extent TermRefusal) (read : whole_told x ≡ told (vocabulary_in v) b) where
+    pub pattern-refused : (why : TermRefusal) → x ≡ Err why → PatternLoaded v b s s' (Err (P.Term why))
     pattern-refused why d = record {
       answer = cleared (term_refused 1 why) (term-refuses 1 0 why) ∙ ap without_values (term-accepted v b (vocabulary_in v) (loaded.tables k e).accepted (told-refused (vocabulary_in v) b why (sym (ap whole_told d) ∙ read)));
       settles = λ k d. absurd (let z : ◌≡◌ {A = ℕ} 0 1 = cc in omega arith);
@@ -58,15 +52,10 @@ module _ {v o m s o' r' m' s' : List ℕ} {a : SettledAnswer} (loaded : SettledF
       kept = λ why d. absurd (let z : ◌≡◌ {A = ℕ} 0 1 = cc in omega arith);
     }
 
-    pub pattern_loaded : (y : Extent) → x ≡ W.Read y → PatternLoaded v b s s' (P.Loaded k)
+    pub pattern_loaded : (y : Extent) → x ≡ Ok y → PatternLoaded v b s s' (Ok k)
     pattern_loaded y d = record {
       answer = ap without_values (term-accepted v b (vocabulary_in v) (loaded.tables k e).accepted (told-accepted (vocabulary_in v) b y (sym (ap whole_told d) ∙ read)));
-      settles = λ j d. subst (SettledTable v s') (ap missing_in d) (settled-table k e);
+      settles = λ j d. let same : k ≡ j = cc in subst (SettledTable v s') same (settled-table k e);
       refused = λ why d. absurd (let z : ◌≡◌ {A = ℕ} 0 1 = cc in omega arith);
       kept = λ why d. absurd (let z : ◌≡◌ {A = ℕ} 0 1 = cc in omega arith);
     }
-      where
-        missing_in : PatternAnswer → Missing
-        missing_in (P.Loaded j) = j
-        missing_in (P.Vocabulary why) = Nothing
-        missing_in (P.Pattern why) = Nothing

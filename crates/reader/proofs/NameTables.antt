@@ -34,7 +34,9 @@ use Rattle.reader.specs.Names.{clashing, Named, listed, TableOf}
 use Rattle.reader.specs.Terms.{Ends, root_run, front_run}
 use Rattle.reader.specs.Whole.{told_by, told, whole_told, WholeRead}
 use Rattle.cursors.specs.declared.Cursor.{Cursor}
-use Rattle.reader.specs.declared.whole.Whole.{Whole}
+use Rattle.std.specs.Prelude.{Result}
+use Rattle.reader.specs.declared.whole.Extent.{Extent}
+use Rattle.reader.specs.declared.refusal.TermRefusal.{TermRefusal}
 use Rattle.reader.proofs.Names.{named-clash}
 use Rattle.reader.proofs.Told.{told-size, told-kind, front_cases, checked_root}
 
@@ -132,7 +134,7 @@ pub refuse_never : {A : Type 0} {n q : ℕ} {a : A} → refuse n q ≡ accept a 
 refuse_never e = let z : ◌≡◌ {A = ℕ} 0 1 = cc in omega arith
 
 -- A refusal leaves no table to tell of.
-pub whole-refused : {U : Vocabulary} {b names : List ℕ} {r : Whole} {n q : ℕ} → whole_told r ≡ refuse n q → refuse n q ≡ told U b → WholeRead U b names r
+pub whole-refused : {U : Vocabulary} {b names : List ℕ} {r : Result Extent TermRefusal} {n q : ℕ} → whole_told r ≡ refuse n q → refuse n q ≡ told U b → WholeRead U b names r
 whole-refused {U} {b} e h = record { told = e ∙ h; table = λ k f. absurd (refuse_never (h ∙ ap (told_by U (length b)) f)) }
 
 abbrev seen_in : Got Scanned → List Occurrence
@@ -171,7 +173,7 @@ module _ (W : Vocabulary) (names : List ℕ) (seen : List Occurrence) (named : N
             (sym (checked_root W s l long short known) ∙ f)
 
 -- Where reading ended, what it told and the table that it left.
-pub whole-read : {W : Vocabulary} {t names : List ℕ} {c : Cursor} {r : Whole} → whole_told r ≡ told W t → InOrder W → IsBytes t →
+pub whole-read : {W : Vocabulary} {t names : List ℕ} {c : Cursor} {r : Result Extent TermRefusal} → whole_told r ≡ told W t → InOrder W → IsBytes t →
     Ends t names c (front_run W t) → WholeRead W t names r
 whole-read {W} {t} {names} e in_order bytes ends =
     record { told = e; table = whole-table W names ends.seen ends.named t in_order bytes (ap seen_in ends.same) }

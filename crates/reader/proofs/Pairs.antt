@@ -10,7 +10,7 @@
 --   spliced-read, spliced-whole    the reply where the situation's parts are read, and where there are none
 --
 use mathlib.Core.Path.{◌≡◌, refl, sym, ap, ap₂, subst, ◌∙◌}
-use mathlib.Core.Bool.{Bool, true, false, cond, true≢false, false≢true}
+use mathlib.Core.Bool.{Bool, true, false, true≢false, false≢true}
 use mathlib.Core.List.{List, [], ◌∷◌, ◌++◌}
 use mathlib.Core.Option.{Option, some, none}
 use Prim.Native.Nat.{ℕ, suc, ◌+◌, ◌-◌, ◌*◌, ◌<◌, ◌≤◌}
@@ -29,7 +29,7 @@ use Rattle.wire.specs.TermBytes.{name_count, encode_at, word_count, most_levels,
 use Rattle.wire.specs.Parser.{Reading, accept, refuse}
 use Rattle.wire.specs.GapComputed.{some_open, first_gap, gap_or}
 use Rattle.wire.specs.CheckComputed.{checked_term}
-use Rattle.wire.specs.SituationComputed.{situation_of, situation_in, checked_situation}
+use Rattle.wire.specs.SituationComputed.{situation_of, situation_in}
 use Rattle.wire.specs.Scan.{has_short, some_short}
 use Rattle.wire.specs.Splicing.{Agrees, PartStands}
 use Rattle.wire.proofs.Inputs.{checked_in}

@@ -8,11 +8,11 @@
 --   root-begins, root-whole, root-at, root-read    a term from its first byte on
 --
 use mathlib.Core.Path.{◌≡◌, refl, sym, ap, ap₂, subst, ◌∙◌}
-use mathlib.Core.Bool.{true, false, true≢false, false≢true}
+use mathlib.Core.Bool.{false, true≢false, false≢true}
 use mathlib.Core.Logic.{inl, inr}
-use mathlib.Core.List.{List, [], ◌∷◌, ◌++◌}
+use mathlib.Core.List.{List, [], ◌∷◌}
 use mathlib.Core.Option.{some}
-use Prim.Native.Nat.{ℕ, zero, suc, ◌+◌, ◌-◌, ◌<◌, ◌≤◌}
+use Prim.Native.Nat.{ℕ, suc, ◌-◌, ◌<◌, ◌≤◌}
 use native.Mathlib.Nat.{add-zero}
 use native.Mathlib.Omega.{arith}
 use lib.Count
@@ -27,18 +27,16 @@ use Rattle.wire.specs.Parser.{Got, got, Node, word_here, name_here, whole_here, 
 use Rattle.wire.specs.Scan.{Scanned, scan_node, run, root_due, no_tally, with_leaf}
 use Rattle.wire.proofs.Scan.{run-node, same-tally}
 use Rattle.signature.specs.Tables.{Tables, vocabulary_in}
-use Rattle.frames.specs.Frames.{run_in, kinds_in, Behind, FrameIn}
+use Rattle.frames.specs.Frames.{run_in, kinds_in, Behind}
 use Rattle.reader.specs.Names.{Named}
 use Rattle.cursors.specs.Cursors.{unbroken, complete_in, gap_in, started, past_leaf, moved, at_frame, Sound, Tells}
-use Rattle.reader.specs.Cursors.{gap_left, tally_at, open_due, rest_run, Going}
-use Rattle.reader.specs.Terms.{Passed, node_due, node_run, Leads, Refuses, Follows, Under, Ends, Answers, NodesRead, WholeAt}
+use Rattle.reader.specs.Cursors.{gap_left, tally_at, open_due, Going}
+use Rattle.reader.specs.Terms.{Passed, node_run, Leads, Refuses, Follows, Under, Ends, Answers, NodesRead, WholeAt}
 use Rattle.reader.specs.declared.refusal.TermRefusal.{TermRefusal}
 use Rattle.cursors.specs.declared.Cursor.{Cursor}
 use Rattle.cursors.proofs.Laws.{leaf_tells}
-use Rattle.reader.specs.declared.term.Reading.{Reading}
-use Rattle.reader.specs.declared.term.Reading.TheVariants as R
+use Rattle.std.specs.Prelude.{Result, Ok}
 use Rattle.frames.proofs.Frames.{frame_behind, frame_none}
-use Rattle.reader.proofs.Levels.{first_reaches}
 use Rattle.reader.proofs.Nodes.{node-root, node-whole}
 use Rattle.reader.proofs.Cursors.{gap-told, far_leaf, going_onto, run-place}
 
@@ -103,7 +101,7 @@ module _ {v t names₀ : List ℕ} {whole : Whole} {names frames : List ℕ} {c 
   }
 
   -- Nothing is due any more.
-  pub onward-ends : c.depth ≡ 0 → (seen : List Occurrence) → Named names₀ seen → Answers t names (whole seen) (R.Read c)
+  pub onward-ends : c.depth ≡ 0 → (seen : List Occurrence) → Named names₀ seen → Answers t names (whole seen) (Ok c)
   unfolding Count.ones
   onward-ends e seen named =
       let l = x.leads seen named in
@@ -228,7 +226,7 @@ module _ (v t : List ℕ) (from k : ℕ) (inside : from ≤ length t) where
     pub root-at : Going v t (replicate 32 0) d
     root-at = subst (Going v t (replicate 32 0)) (sym e) root-going
 
-    pub root-read : (names names' : List ℕ) (r : Reading) → (get_or (drop from t) 0 0 ≡ 255 → ⊥) → NodesRead v t names d k names' r →
+    pub root-read : (names names' : List ℕ) (r : Result Cursor TermRefusal) → (get_or (drop from t) 0 0 ≡ 255 → ⊥) → NodesRead v t names d k names' r →
         (seen : List Occurrence) → Named names seen → Answers t names' (run U (root_due k ∷ []) seen no_tally (drop from t)) r
     root-read names names' r other h seen named =
         subst (λ g. Answers t names' g r) (ap (node_run U v t (replicate 32 0) seen false k) e ∙ root-begins other seen) (h seen named)

@@ -2,16 +2,22 @@
 --
 --   no_difference     map and table do not differ
 --   skip_room         there is room for eight names
+--   starts_filled     the starts of eight names that are filled with one offset are passed
 --   values_pass       names that have no value, one after the other
 --   values_skip       the eight names
 --
 use mathlib.Core.Path.{◌≡◌, refl, sym, ap, subst, ◌∙◌}
 use mathlib.Core.Bool.{Bool, true, false}
-use mathlib.Core.List.{List}
+use mathlib.Core.List.{List, ◌++◌, append-nil}
 use Prim.Native.Nat.{ℕ, zero, suc, ◌+◌, ◌/◌, ◌%◌, ◌<◌, ◌≤◌}
+use native.Mathlib.Numerals.{add-one}
 use native.Mathlib.Omega.{arith}
-use lib.ListN.{get_or, set}
-use lib.Seq.{set-get_or}
+use lib.ListN.{length, get_or, take, drop, set, replicate, length-drop}
+use lib.Seq.{set-get_or, paste, length-take-le}
+use borrow.Rule.Slice.PartMut.{mid_of, put_mid}
+use Rattle.std.proofs.lemmas.List.{take-append-drop}
+use Rattle.std.proofs.lemmas.Slice.{put_mid-paste}
+use Rattle.std.proofs.lemmas.List.Edits.{fill_from_more}
 use Rattle.wire.specs.Map.{flags_in}
 use Rattle.wire.specs.VocabularyLines.{byte_at}
 use Rattle.wire.specs.TermBytes.{name_count}
@@ -40,6 +46,26 @@ none_listed {b} {names} {n} d below first none m low high =
 
 pub skip_room : (n : ℕ) → n < name_count → n % 8 ≡ 0 → n + 8 ≤ name_count
 skip_room n below first = omega arith
+
+starts_pasted : (starts : List ℕ) (n at k : ℕ) → n + k < length starts → starts_passed starts n at k ≡ paste starts (n + 1) (replicate k at) k
+starts_pasted starts n at zero h =
+    let place : n + 1 + 0 ≡ n + 1 = omega arith in
+    sym (ap (λ l. l ++ drop (n + 1 + 0) starts) (append-nil (take (n + 1) starts))
+    ∙ ap (λ i. take (n + 1) starts ++ drop i starts) place
+    ∙ take-append-drop (n + 1) starts)
+starts_pasted starts n at (suc k) h =
+    let place : n + suc k ≡ n + 1 + k = omega arith in
+    ap (λ l. set l (n + suc k) at) (starts_pasted starts n at k (omega arith))
+    ∙ ap (λ i. set (paste starts (n + 1) (replicate k at) k) i at) place
+    ∙ fill_from_more starts (n + 1) k at (omega arith)
+    ∙ ap (λ i. paste starts (n + 1) (replicate i at) i) (add-one k)
+
+pub starts_filled : (starts new : List ℕ) (n at k : ℕ) → n + 8 < length starts → new ≡ replicate (length (mid_of (n + 1) k starts)) at → k ≡ 8 →
+    put_mid (n + 1) k starts new ≡ starts_passed starts n at 8
+starts_filled starts new n at k h e eight =
+    let many : length (mid_of (n + 1) k starts) ≡ k = length-take-le k (drop (n + 1) starts) (rw length-drop (omega arith)) in
+    put_mid-paste (n + 1) k starts new (replicate 8 at) 8 (e ∙ ap (λ i. replicate i at) (many ∙ eight)) (sym eight) refl
+    ∙ sym (starts_pasted starts n at 8 h)
 
 module _ {v b names : List ℕ} {n at : ℕ} {starts depths : List ℕ} (x : ValuesTo v b names n at starts depths) where
   values_pass : (k : ℕ) → n + k ≤ name_count → ((m : ℕ) → n ≤ m → m < n + k → listed names m ≡ false) →

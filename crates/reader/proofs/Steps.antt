@@ -7,7 +7,7 @@
 --   step-name, step-bare, step_down    a name, a word without written places, a word with some
 --
 use mathlib.Core.Path.{◌≡◌, refl, sym, ap, subst, ◌∙◌}
-use mathlib.Core.Bool.{Bool, true, false, ◌&&◌, cond, true≢false, false≢true}
+use mathlib.Core.Bool.{Bool, true, false, cond, true≢false, false≢true}
 use mathlib.Core.List.{List, [], ◌∷◌, ◌++◌}
 use Prim.Native.Nat.{ℕ, zero, suc, ◌+◌, ◌-◌, ◌/◌, ◌%◌, ◌^◌, ◌<◌, ◌≤◌}
 use native.Mathlib.Nat.{pow-suc}
@@ -17,25 +17,24 @@ use lib.Bits.{bit_and}
 use lib.Dec.{eqb}
 use lib.ListN.{length, get_or, drop, set, length-set, length-drop}
 use lib.Seq.{drop-drop}
-use borrow.Author.Tests.{eqb-true, eqb-false, eq-eqb, ne_eqb}
+use borrow.Author.Tests.{eqb-true, eqb-false}
 use Rattle.terms.specs.Term.{Occurrence}
 use Rattle.terms.proofs.Bools.{and_parts}
 use Rattle.wire.specs.Map.{map_bytes, flags_in, flags, ones, within, Slot, slots}
 use Rattle.wire.specs.Vocabulary.{Vocabulary, word, map_of}
-use Rattle.wire.specs.Parser.{Got, stop}
-use Rattle.wire.specs.Scan.{every_written, Scanned}
+use Rattle.wire.specs.Parser.{stop}
+use Rattle.wire.specs.Scan.{every_written}
 use Rattle.signature.specs.Tables.{Tables, vocabulary_in}
 use Rattle.frames.specs.Frames.{WordFrame}
 use Rattle.reader.specs.Names.{clashing, Named}
 use Rattle.cursors.specs.Cursors.{past_leaf, past_word, went_down}
 use Rattle.reader.specs.Nodes.{number_of, place_of}
-use Rattle.reader.specs.Terms.{node_run, Leads, Refuses, Follows, NodeAnswers, Under}
+use Rattle.reader.specs.Terms.{node_run, Refuses, Follows, NodeAnswers, Under}
 use Rattle.reader.specs.declared.refusal.TermRefusal.{TermRefusal}
 use Rattle.reader.specs.declared.refusal.TermRefusal.TheVariants as T
 use Rattle.cursors.specs.declared.Cursor.{Cursor}
-use Rattle.reader.specs.declared.node.Node.TheVariants.{Word, Name, Fault}
-use Rattle.reader.specs.declared.term.Step.{Step}
-use Rattle.reader.specs.declared.term.Step.TheVariants as S
+use Rattle.std.specs.Prelude.{Ok, Err}
+use Rattle.reader.specs.declared.node.Node.TheVariants.{Word, Name}
 use Rattle.frames.proofs.Frames.{due-bare}
 use Rattle.reader.proofs.Names.{named-clash, named_more}
 use Rattle.reader.proofs.Nodes.{within_and}
@@ -94,32 +93,19 @@ module _ {v : List ℕ} {n : ℕ} {offsets results maps : List ℕ} (tables : Ta
 
 -- ---- one node
 
--- The cursor of an answer; of a fault, any.
-abbrev cursor_in : Cursor → Step → Cursor
-cursor_in c (S.Went d) = d
-cursor_in c (S.Fault why) = c
-
-abbrev refusal_in : Step → TermRefusal
-refusal_in (S.Went d) = T.Size
-refusal_in (S.Fault why) = why
-
-abbrev is_fault : Step → Bool
-is_fault (S.Went d) = false
-is_fault (S.Fault why) = true
-
 module _ {v t : List ℕ} {k : ℕ} {c : Cursor} {names frames names' frames' : List ℕ} where
-  pub answers-went : {d : Cursor} → Follows v t k c names frames names' frames' d → NodeAnswers v t k c names frames names' frames' (S.Went d)
+  pub answers-went : {d : Cursor} → Follows v t k c names frames names' frames' d → NodeAnswers v t k c names frames names' frames' (Ok d)
   answers-went {d} f = record {
-    went = λ c' e. subst (Follows v t k c names frames names' frames') (ap (cursor_in d) e) f;
-    fault = λ why e. absurd (false≢true (ap is_fault e));
+    went = λ c' e. let same : d ≡ c' = cc in subst (Follows v t k c names frames names' frames') same f;
+    fault = λ why e. absurd (let z : ◌≡◌ {A = ℕ} 0 1 = cc in omega arith);
   }
 
   pub answers-fault : {why : TermRefusal} →
       ((seen : List Occurrence) → Named names seen → Refuses t why (node_run (vocabulary_in v) v t frames seen false k c)) →
-      NodeAnswers v t k c names frames names' frames' (S.Fault why)
-  answers-fault f = record {
-    went = λ c' e. absurd (true≢false (ap is_fault e));
-    fault = λ other e seen named. subst (λ why. Refuses t why (node_run (vocabulary_in v) v t frames seen false k c)) (ap refusal_in e) (f seen named);
+      NodeAnswers v t k c names frames names' frames' (Err why)
+  answers-fault {why} f = record {
+    went = λ c' e. absurd (let z : ◌≡◌ {A = ℕ} 0 1 = cc in omega arith);
+    fault = λ other e seen named. let same : why ≡ other = cc in subst (λ why. Refuses t why (node_run (vocabulary_in v) v t frames seen false k c)) same (f seen named);
   }
 
 pub follows_as : {v t : List ℕ} {k : ℕ} {c : Cursor} {names frames names' frames' : List ℕ} {d e : Cursor} → e ≡ d →
@@ -130,7 +116,7 @@ module _ {v t : List ℕ} {n : ℕ} {offsets results maps frames : List ℕ} {c 
   abbrev W : Vocabulary
   W = vocabulary_in v
 
-  pub step-fault : {why : TermRefusal} → Stood W c.depth n maps k c.at (drop c.at t) (Fault why) → (seen : List Occurrence) →
+  pub step-fault : {why : TermRefusal} → Stood W c.depth n maps k c.at (drop c.at t) (Err why) → (seen : List Occurrence) →
       Refuses t why (node_run W v t frames seen false k c)
   step-fault {why} s seen =
       let from = s.inside.from in
@@ -147,7 +133,7 @@ module _ {v t : List ℕ} {n : ℕ} {offsets results maps frames : List ℕ} {c 
       go (yes room) = run-fault W v t frames seen k u.going room (number_of why) (drop (place_of why - c.at) (drop c.at t)) (s.same room)
       go (no deep) = let high : 31 < c.depth = omega arith in run-deep W v t frames seen k u.going high ∙ s.limit high
 
-  module _ {j : ℕ} (s : Stood W c.depth n maps k c.at (drop c.at t) (Name j)) where
+  module _ {j : ℕ} (s : Stood W c.depth n maps k c.at (drop c.at t) (Ok (Name j))) where
     room : c.depth ≤ 31
     room = stood_room s (λ e. e)
 
@@ -174,7 +160,7 @@ module _ {v t : List ℕ} {n : ℕ} {offsets results maps frames : List ℕ} {c 
       };
     }
 
-  module _ {f m : ℕ} (s : Stood W c.depth n maps k c.at (drop c.at t) (Word f m)) (small : m < 256) where
+  module _ {f m : ℕ} (s : Stood W c.depth n maps k c.at (drop c.at t) (Ok (Word f m))) (small : m < 256) where
     abbrev places : List Slot
     places = slots (flags (map_of W f)) (flags m) (word W f).kinds
 

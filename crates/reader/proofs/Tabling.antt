@@ -8,8 +8,8 @@
 --   values-stop, values-fault    a value is at fault
 --   values_continue, values-all     the end
 --
-use mathlib.Core.Path.{◌≡◌, refl, sym, ap, ap₂, subst, subst₂, ◌∙◌}
-use mathlib.Core.Bool.{Bool, true, false, true≢false}
+use mathlib.Core.Path.{◌≡◌, refl, sym, ap, ap₂, subst, ◌∙◌}
+use mathlib.Core.Bool.{true, false, true≢false}
 use mathlib.Core.List.{List, [], ◌∷◌, ◌++◌, map, map-append}
 use mathlib.Core.Logic.{◌≢◌}
 use Prim.Native.Nat.{ℕ, suc, ◌+◌, ◌-◌, ◌<◌, ◌≤◌}
@@ -41,9 +41,8 @@ use Rattle.signature.specs.Tables.{vocabulary_in}
 use Rattle.reader.specs.Names.{listed}
 use Rattle.reader.specs.Fillings.{ValueEnds, ValueStops, ValueRead, EntryRead, listed_to, due_for, dues_to, values_in, TablesTo, ValuesRead}
 use Rattle.reader.specs.declared.filling.FillingRefusal.TheVariants as F
-use Rattle.reader.specs.declared.filling.FillingAnswer.TheVariants as G
+use Rattle.std.specs.Prelude.{Result, Ok, Err}
 use Rattle.reader.specs.declared.filling.Value.{Value}
-use Rattle.reader.specs.declared.filling.Value.TheVariants as R
 use Rattle.reader.proofs.NameTables.{refuse_never}
 use Rattle.reader.proofs.Listed.{listed_more, listed_same, listed-rest, listed-known, listed-new}
 
@@ -129,22 +128,10 @@ tables_more {W} {names} {n} {bs} {cs} {starts} {depths} {at} {at'} {deep} x belo
 
 -- ---- an entry of the table of names
 
-abbrev end_of : ℕ → Value → ℕ
-end_of d (R.Read at deep) = at
-end_of d (R.Fault q) = d
-
-abbrev levels_of : ℕ → Value → ℕ
-levels_of d (R.Read at deep) = deep
-levels_of d (R.Fault q) = d
-
-abbrev is_fault : Value → Bool
-is_fault (R.Read at deep) = false
-is_fault (R.Fault q) = true
-
-pub entry_none : {v b : List ℕ} {from k : ℕ} → 256 ≤ k → EntryRead v b from k (R.Read from 0)
+pub entry_none : {v b : List ℕ} {from k : ℕ} → 256 ≤ k → EntryRead v b from k (Ok (record { end = from; levels = 0 }))
 entry_none high = record { listed = λ low. absurd (omega arith); absent = λ h. refl }
 
-pub entry_value : {v b : List ℕ} {from k : ℕ} {r : Value} → k < 256 → ValueRead v b from k r → EntryRead v b from k r
+pub entry_value : {v b : List ℕ} {from k : ℕ} {r : Result Value ℕ} → k < 256 → ValueRead v b from k r → EntryRead v b from k r
 entry_value low x = record { listed = λ h. x; absent = λ high. absurd (omega arith) }
 
 -- ---- a name more
@@ -215,7 +202,7 @@ module _ {v b names : List ℕ} {n at : ℕ} {starts depths : List ℕ} (x : Val
             value_append_new before (new ∷ []) n (ap (occurs n) keys ∙ listed-new names n e)
             ∙ cond_true (eqb n n) y.value (value_of [] n) (eq-eqb n n refl)
 
-    pub values-stop : {deepest q : ℕ} → ValueStops v b at (get_or names n 0) q → ValuesRead v b names deepest starts depths (G.Refused (F.Value q))
+    pub values-stop : {deepest q : ℕ} → ValueStops v b at (get_or names n 0) q → ValuesRead v b names deepest starts depths (Err (F.Value q))
     values-stop {deepest} {q} y = record {
       answer = ap (reply_of 4 (λ bs. deepest ∷ [])) (sym refused);
       tables = λ bs f. absurd (refuse_never (sym refused ∙ f));
@@ -242,26 +229,28 @@ module _ {v b names : List ℕ} {n at : ℕ} {starts depths : List ℕ} (x : Val
 
 -- What an entry's answer leads to.
 module _ {v b names : List ℕ} {n at : ℕ} {starts depths : List ℕ} (in_order : InOrder (vocabulary_in v)) (x : ValuesTo v b names n at starts depths) (below : n < name_count)
-    {r : Value} (read : EntryRead v b at (get_or names n 0) r) where
-  pub values-more : {at' deep : ℕ} → r ≡ R.Read at' deep → ValuesTo v b names (n + 1) at' (set starts (n + 1) at') (set depths n deep)
-  values-more {at'} {deep} e = go (dec_lt (get_or names n 0) 256)
+    {r : Result Value ℕ} (read : EntryRead v b at (get_or names n 0) r) where
+  pub values-more : {y : Value} → r ≡ Ok y → ValuesTo v b names (n + 1) y.end (set starts (n + 1) y.end) (set depths n y.levels)
+  values-more {y} e = go (dec_lt (get_or names n 0) 256)
     where
-      go : Dec (get_or names n 0 < 256) → ValuesTo v b names (n + 1) at' (set starts (n + 1) at') (set depths n deep)
+      go : Dec (get_or names n 0 < 256) → ValuesTo v b names (n + 1) y.end (set starts (n + 1) y.end) (set depths n y.levels)
       go (yes low) = values_listed x below in_order (lt-ltb (get_or names n 0) 256 low) (subst (ValueRead v b at (get_or names n 0)) e (read.listed low))
       go (no other) =
           let high : 256 ≤ get_or names n 0 = omega arith in
-          let same : R.Read at 0 ≡ R.Read at' deep = sym (read.absent high) ∙ e in
-          subst₂ (λ at' deep. ValuesTo v b names (n + 1) at' (set starts (n + 1) at') (set depths n deep)) (ap (end_of at) same) (ap (levels_of at) same)
+          let none = read.absent high in
+          let same : record { end = at; levels = 0 } ≡ y = cc in
+          subst (λ (y : Value). ValuesTo v b names (n + 1) y.end (set starts (n + 1) y.end) (set depths n y.levels)) same
           (values-absent x below (le-ltb (get_or names n 0) 256 high))
 
-  pub values-fault : {deepest q : ℕ} → r ≡ R.Fault q → ValuesRead v b names deepest starts depths (G.Refused (F.Value q))
+  pub values-fault : {deepest q : ℕ} → r ≡ Err q → ValuesRead v b names deepest starts depths (Err (F.Value q))
   values-fault {deepest} {q} e = go (dec_lt (get_or names n 0) 256)
     where
-      go : Dec (get_or names n 0 < 256) → ValuesRead v b names deepest starts depths (G.Refused (F.Value q))
+      go : Dec (get_or names n 0 < 256) → ValuesRead v b names deepest starts depths (Err (F.Value q))
       go (yes low) = values-stop x below in_order (lt-ltb (get_or names n 0) 256 low) (subst (ValueRead v b at (get_or names n 0)) e (read.listed low))
       go (no other) =
           let high : 256 ≤ get_or names n 0 = omega arith in
-          absurd (true≢false (ap is_fault (sym e ∙ read.absent high)))
+          let none = read.absent high in
+          absurd (let z : ◌≡◌ {A = ℕ} 0 1 = cc in omega arith)
 
 -- ---- the end
 
@@ -272,7 +261,7 @@ module _ {v b names : List ℕ} {n at : ℕ} {starts depths : List ℕ} (x : Val
   ended : read_values (vocabulary_in v) (dues_to names name_count) (drop name_map_bytes b) ≡ got x.values (drop at b)
   ended = ap (λ n. read_values (vocabulary_in v) (dues_to names n) (drop name_map_bytes b)) (sym all) ∙ x.same
 
-  pub values_continue : {deepest : ℕ} → at < length b → ValuesRead v b names deepest starts depths (G.Refused (F.Value at))
+  pub values_continue : {deepest : ℕ} → at < length b → ValuesRead v b names deepest starts depths (Err (F.Value at))
   values_continue {deepest} more = record {
     answer = ap (reply_of 4 (λ bs. deepest ∷ [])) (sym refused);
     tables = λ bs f. absurd (refuse_never (sym refused ∙ f));
@@ -283,7 +272,7 @@ module _ {v b names : List ℕ} {n at : ℕ} {starts depths : List ℕ} (x : Val
           ap (line22 b (listed_to names name_count)) (ended ∙ ap (got x.values) (drop-cons b at 0 more))
           ∙ ap (refuse 22) (offset-drop b (get_or b at 0 ∷ drop (suc at) b) at (sym (drop-cons b at 0 more)) (omega arith))
 
-  pub values-all : {deepest : ℕ} → length b ≤ at → ValuesRead v b names deepest starts depths (G.Read deepest)
+  pub values-all : {deepest : ℕ} → length b ≤ at → ValuesRead v b names deepest starts depths (Ok deepest)
   values-all {deepest} over = record {
     answer = ap (reply_of 4 (λ bs. deepest ∷ [])) (sym accepts);
     tables = λ bs f.

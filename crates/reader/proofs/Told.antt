@@ -22,7 +22,7 @@ use lib.Seq.{drop-cons}
 use borrow.Author.Tests.{lt-ltb, le-ltb, ltb-true, ltb-false}
 use Rattle.terms.specs.Term.{Term}
 use Rattle.terms.proofs.Bools.{or_left, or_right}
-use Rattle.wire.specs.Reply.{Reply, IsBytes, accepted, refused, Kinded, outside}
+use Rattle.wire.specs.Reply.{IsBytes, accepted, refused, Kinded, outside}
 use Rattle.wire.specs.Map.{bit}
 use Rattle.wire.specs.Vocabulary.{Vocabulary, InOrder}
 use Rattle.wire.specs.TermBytes.{encode_root, word_count, deepest, least_bytes, most_bytes, most_levels, complete}
@@ -43,14 +43,13 @@ use Rattle.reader.specs.Cursors.{gap_left, tally_at}
 use Rattle.reader.specs.Names.{Named}
 use Rattle.reader.specs.Nodes.{number_of, place_of}
 use Rattle.reader.specs.Terms.{Refuses, Ends, Answers, TermRead, root_run, front_run, FrontRead}
-use Rattle.reader.specs.Whole.{no_gap, extent_of, told_by, told}
+use Rattle.reader.specs.Whole.{no_gap, told_by, told}
 use Rattle.reader.specs.declared.refusal.TermRefusal.{TermRefusal}
 use Rattle.reader.specs.declared.refusal.TermRefusal.TheVariants as T
 use Rattle.reader.specs.declared.whole.Extent.{Extent}
 use Rattle.cursors.specs.Cursors.{complete_in, gap_in, gap_shown, short_in}
 use Rattle.cursors.specs.declared.Cursor.{Cursor}
-use Rattle.reader.specs.declared.term.Reading.{Reading as Answer}
-use Rattle.reader.specs.declared.term.Reading.TheVariants as R
+use Rattle.std.specs.Prelude.{Result, Ok, Err}
 use Rattle.reader.proofs.Names.{named_none}
 
 -- ---- a gap
@@ -193,7 +192,7 @@ module _ (W : Vocabulary) (t : List ℕ) where
       (λ f. kind h.0 h.1 (ltb-false (get_or t 0 0) W.kinds f)))
 
 -- The term behind the kind, read from a blank table of names on.
-pub front_read : (v t : List ℕ) {names : List ℕ} (names' : List ℕ) (r : Answer) → least_bytes ≤ length t → length t ≤ most_bytes → get_or t 0 0 < (vocabulary_in v).kinds → names ≡ replicate 64 65535 →
+pub front_read : (v t : List ℕ) {names : List ℕ} (names' : List ℕ) (r : Result Cursor TermRefusal) → least_bytes ≤ length t → length t ≤ most_bytes → get_or t 0 0 < (vocabulary_in v).kinds → names ≡ replicate 64 65535 →
     TermRead v t 1 (get_or t 0 0) names names' r → FrontRead v t names' r
 front_read v t names' r long short known blank reads =
     subst (λ g. Answers t names' g r) (front-known (vocabulary_in v) t long short known) (reads [] (subst (λ l. Named l []) (sym blank) named_none))
@@ -209,21 +208,21 @@ told-front W t in_order bytes =
     begins : offset t t ≡ 0
     begins = offset-drop t t 0 refl (omega arith)
 
-module _ (v t names : List ℕ) (r : Answer) (in_order : InOrder (vocabulary_in v)) (bytes : IsBytes t) (reads : FrontRead v t names r) where
+module _ (v t names : List ℕ) (r : Result Cursor TermRefusal) (in_order : InOrder (vocabulary_in v)) (bytes : IsBytes t) (reads : FrontRead v t names r) where
   told-run : told_scan t (front_run (vocabulary_in v) t) ≡ told (vocabulary_in v) t
   told-run = told-front (vocabulary_in v) t in_order bytes
 
-  answer : {y : Answer} → r ≡ y → Answers t names (front_run (vocabulary_in v) t) y
+  answer : {y : Result Cursor TermRefusal} → r ≡ y → Answers t names (front_run (vocabulary_in v) t) y
   answer e = subst (Answers t names (front_run (vocabulary_in v) t)) e reads
 
-  pub told-fault : (why : TermRefusal) → r ≡ R.Fault why → refuse (number_of why) (place_of why) ≡ told (vocabulary_in v) t
+  pub told-fault : (why : TermRefusal) → r ≡ Err why → refuse (number_of why) (place_of why) ≡ told (vocabulary_in v) t
   told-fault why e =
       let h : Refuses t why (front_run (vocabulary_in v) t) = answer e in
       ap (refuse (number_of why)) (sym (offset-drop t (drop (place_of why) t) (place_of why) refl h.inside))
       ∙ ap (told_scan t) h.same
       ∙ told-run
 
-  module _ (c : Cursor) (e : r ≡ R.Read c) where
+  module _ (c : Cursor) (e : r ≡ Ok c) where
     pub ends : Ends t names c (front_run (vocabulary_in v) t)
     ends = answer e
 

@@ -6,6 +6,7 @@
 --   patterns_numbers r     the reply of reading the patterns of a book
 --   book_reply W b         the reply of reading the book b under an accepted vocabulary
 --   count_of b             how many patterns the book b has, 0 where that is missing or more than 64
+--   Counted b r            r tells that number, where it is not 0
 --   in_window n why        why a pattern is refused of which 4,096 bytes are looked at, where n are left: one that is due behind
 --                         them makes it too long
 --   placed_at at why       why it is refused, with places in the book, where it begins at an offset
@@ -14,7 +15,7 @@
 --   Fronted W b n         the first n bytes of b write a good term of the kind in front, and it is read
 --   PatternJudged         the same, where between two offsets of b a term was read
 --
-use Rattle.std.specs.Prelude.{◌≡◌, cond, List, [], ◌∷◌, ℕ, ◌+◌, ◌-◌, ◌≤◌, ltb, length, get_or, take, drop}
+use Rattle.std.specs.Prelude.{⊤, Option, Some, None, Result, Ok, Err, ◌≡◌, cond, List, [], ◌∷◌, ℕ, ◌+◌, ◌-◌, ◌<◌, ◌≤◌, ltb, length, get_or, take, drop}
 use Rattle.std.proofs.Math.Option.{some}
 use Rattle.terms.specs.Term.{Term}
 use Rattle.wire.specs.Reply.{Reply, accepted, refused, Kinded, kinded}
@@ -24,28 +25,23 @@ use Rattle.wire.specs.BookBytes.{most_patterns}
 use Rattle.wire.specs.Parser.{got, stop}
 use Rattle.wire.specs.BookComputed.{read_front, read_pattern, read_book, judged_book, book_judged, book_clear}
 use Rattle.signature.specs.declared.VocabularyRefusal.{VocabularyRefusal}
-use Rattle.signature.specs.declared.Missing.{Missing}
 use Rattle.reader.specs.Loaded.{SettledTable}
 use Rattle.reader.specs.Answers.{book_refused, book_numbers}
 use Rattle.reader.specs.declared.refusal.TermRefusal.{TermRefusal}
 use Rattle.reader.specs.declared.refusal.TermRefusal.TheVariants as T
 use Rattle.reader.specs.declared.book.BookRefusal.{BookRefusal}
-use Rattle.reader.specs.declared.book.BookAnswer.{BookAnswer}
-use Rattle.reader.specs.declared.book.BookAnswer.TheVariants as A
-use Rattle.reader.specs.declared.book.Patterns.{Patterns}
-use Rattle.reader.specs.declared.book.Patterns.TheVariants as R
-use Rattle.reader.specs.declared.book.Pattern.{Pattern}
-use Rattle.reader.specs.declared.book.Pattern.TheVariants as P
+use Rattle.reader.specs.declared.book.BookInputRefusal.{BookInputRefusal}
+use Rattle.reader.specs.declared.book.BookInputRefusal.TheVariants as A
 
-pub record BookRead (v b before after : List ℕ) (a : BookAnswer) : Type 0 where
+pub record BookRead (v b before after : List ℕ) (a : Result (Option ℕ) BookInputRefusal) : Type 0 where
   pub answer : book_numbers a ≡ book_clear (book_judged v b)
-  pub settles : (k : Missing) → a ≡ A.Read k → SettledTable v after k
-  pub refused : (why : BookRefusal) → a ≡ A.Book why → (k : Missing) × SettledTable v after k
-  pub kept : (why : VocabularyRefusal) → a ≡ A.Vocabulary why → after ≡ before
+  pub settles : (k : Option ℕ) → a ≡ Ok k → SettledTable v after k
+  pub refused : (why : BookRefusal) → a ≡ Err (A.Book why) → (k : Option ℕ) × SettledTable v after k
+  pub kept : (why : VocabularyRefusal) → a ≡ Err (A.Vocabulary why) → after ≡ before
 
-abbrev pub patterns_numbers : Patterns → Reply
-patterns_numbers R.Read = accepted []
-patterns_numbers (R.Refused why) = book_refused why
+abbrev pub patterns_numbers : Result ⊤ BookRefusal → Reply
+patterns_numbers (Ok u) = accepted []
+patterns_numbers (Err why) = book_refused why
 
 abbrev pub book_reply : Vocabulary → List ℕ → Reply
 book_reply W b = book_clear (judged_book W (read_book W b))
@@ -53,6 +49,10 @@ book_reply W b = book_clear (judged_book W (read_book W b))
 abbrev pub count_of : List ℕ → ℕ
 count_of [] = 0
 count_of (c ∷ l) = cond (ltb most_patterns c) 0 c
+
+abbrev pub Counted : List ℕ → Option ℕ → Type 0
+Counted b (Some n) = (n ≡ count_of b) × (0 < n)
+Counted b None = 0 ≡ count_of b
 
 abbrev pub in_window : ℕ → TermRefusal → TermRefusal
 in_window n T.Size = T.Size
@@ -89,9 +89,9 @@ pub record PatternStops (W : Vocabulary) (b : List ℕ) (at : ℕ) (why : BookRe
   pub same : read_pattern W (some (get_or b 1 0)) (drop at b) ≡ stop number (drop place b)
   pub inside : place ≤ length b
 
-abbrev pub PatternRead : Vocabulary → List ℕ → ℕ → Pattern → Type 0
-PatternRead W b at (P.Read end) = PatternEnds W b at end
-PatternRead W b at (P.Refused why) = PatternStops W b at why
+abbrev pub PatternRead : Vocabulary → List ℕ → ℕ → Result ℕ BookRefusal → Type 0
+PatternRead W b at (Ok end) = PatternEnds W b at end
+PatternRead W b at (Err why) = PatternStops W b at why
 
 pub record Fronted (W : Vocabulary) (b : List ℕ) (n : ℕ) : Type 0 where
   pub term : Term
@@ -101,5 +101,5 @@ pub record Fronted (W : Vocabulary) (b : List ℕ) (n : ℕ) : Type 0 where
   pub long : least_bytes ≤ length b
   pub inside : n ≤ length b
 
-abbrev pub PatternJudged : List ℕ → ℕ → ℕ → ℕ → Pattern → Type 0
+abbrev pub PatternJudged : List ℕ → ℕ → ℕ → ℕ → Result ℕ BookRefusal → Type 0
 PatternJudged b at end n r = (W : Vocabulary) → InOrder W → n ≡ length W.words → Fronted W (drop at b) (end - at) → PatternRead W b at r

@@ -16,7 +16,7 @@
 --   ValuesRead              what reading the values gives, where the pattern's deepest level is that
 --   FileTold, FileRead      what reading a filling file for a pattern with that table of names gives
 --
-use Rattle.std.specs.Prelude.{◌≡◌, Bool, true, false, List, [], ◌∷◌, ◌++◌, map, ◌⊎◌, ℕ, zero, suc, ◌+◌, ◌-◌, ◌/◌, ◌%◌, ◌<◌, ◌≤◌, length, get_or, drop, set}
+use Rattle.std.specs.Prelude.{Result, Ok, Err, ◌≡◌, Bool, true, false, List, [], ◌∷◌, ◌++◌, map, ◌⊎◌, ℕ, zero, suc, ◌+◌, ◌-◌, ◌/◌, ◌%◌, ◌<◌, ◌≤◌, length, get_or, drop, set}
 use Rattle.terms.specs.Lists.{range, keep}
 use Rattle.terms.specs.Term.{Term, Ground, gnil, gcons, SortedG, as_term}
 use Rattle.terms.specs.Filling.{Binding, value_of}
@@ -33,9 +33,8 @@ use Rattle.signature.specs.Tables.{Tabled, vocabulary_in}
 use Rattle.reader.specs.Full.{NotFull}
 use Rattle.reader.specs.Names.{listed, TableOf}
 use Rattle.reader.specs.Answers.{filling_numbers}
-use Rattle.reader.specs.declared.filling.FillingAnswer.{FillingAnswer}
+use Rattle.reader.specs.declared.filling.FillingRefusal.{FillingRefusal}
 use Rattle.reader.specs.declared.filling.Value.{Value}
-use Rattle.reader.specs.declared.filling.Value.TheVariants as R
 
 abbrev pub value_due : ℕ → Due
 value_due k = record { sort = k; level = 1; root = false }
@@ -60,13 +59,13 @@ pub record ValueStops (v b : List ℕ) (from k q : ℕ) : Type 0 where
   pub same : read_values (vocabulary_in v) (value_due k ∷ []) (drop from b) ≡ stop 22 (drop q b)
   pub inside : q ≤ length b
 
-abbrev pub ValueRead : List ℕ → List ℕ → ℕ → ℕ → Value → Type 0
-ValueRead v b from k (R.Read at deep) = ValueEnds v b from k at deep
-ValueRead v b from k (R.Fault q) = ValueStops v b from k q
+abbrev pub ValueRead : List ℕ → List ℕ → ℕ → ℕ → Result Value ℕ → Type 0
+ValueRead v b from k (Ok x) = ValueEnds v b from k x.end x.levels
+ValueRead v b from k (Err q) = ValueStops v b from k q
 
-pub record EntryRead (v b : List ℕ) (from k : ℕ) (r : Value) : Type 0 where
+pub record EntryRead (v b : List ℕ) (from k : ℕ) (r : Result Value ℕ) : Type 0 where
   pub listed : k < 256 → ValueRead v b from k r
-  pub absent : 256 ≤ k → r ≡ R.Read from 0
+  pub absent : 256 ≤ k → r ≡ Ok (record { end = from; levels = 0 })
 
 abbrev pub listed_to : List ℕ → ℕ → List ℕ
 listed_to names n = keep (listed names) (range 0 n)
@@ -95,14 +94,14 @@ pub record TablesTo (W : Vocabulary) (names : List ℕ) (n : ℕ) (bs : List Bin
       (get_or starts (m + 1) 0 ≡ get_or starts m 0 + size W (value_of bs m)) × (get_or depths m 0 ≡ levels (as_term (value_of bs m)))
   pub absent : (m : ℕ) → m < n → listed names m ≡ false → (get_or starts (m + 1) 0 ≡ get_or starts m 0) × (get_or depths m 0 ≡ 0)
 
-pub record ValuesRead (v b names : List ℕ) (deepest : ℕ) (starts depths : List ℕ) (r : FillingAnswer) : Type 0 where
+pub record ValuesRead (v b names : List ℕ) (deepest : ℕ) (starts depths : List ℕ) (r : Result ℕ FillingRefusal) : Type 0 where
   pub answer : filling_numbers r ≡ reply_of 4 (λ bs. deepest ∷ []) (values_in (vocabulary_in v) names b)
   pub tables : (bs : List Binding) → values_in (vocabulary_in v) names b ≡ accept bs → TablesTo (vocabulary_in v) names name_count bs starts depths
 
-pub record FileTold (W : Vocabulary) (s : ℕ) (t : Term) (b : List ℕ) (deepest : ℕ) (starts depths : List ℕ) (r : FillingAnswer) : Type 0 where
+pub record FileTold (W : Vocabulary) (s : ℕ) (t : Term) (b : List ℕ) (deepest : ℕ) (starts depths : List ℕ) (r : Result ℕ FillingRefusal) : Type 0 where
   pub answer : filling_numbers r ≡ reply_of 4 (λ bs. deepest ∷ []) (read_filling W s t b)
   pub tables : (bs : List Binding) → read_filling W s t b ≡ accept bs →
       ValuesIn (record { vocabulary = W; kind = s; pattern = t; values = bs }) starts depths
 
-abbrev pub FileRead : List ℕ → List ℕ → List ℕ → ℕ → List ℕ → List ℕ → FillingAnswer → Type 0
+abbrev pub FileRead : List ℕ → List ℕ → List ℕ → ℕ → List ℕ → List ℕ → Result ℕ FillingRefusal → Type 0
 FileRead v b names deepest starts depths r = (s : ℕ) (t : Term) → TableOf (vocabulary_in v) s t names → FileTold (vocabulary_in v) s t b deepest starts depths r

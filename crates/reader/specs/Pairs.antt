@@ -16,7 +16,7 @@
 --   Part v s from n k most      n bytes of s from an offset on are a complete term of kind k, with at most so many levels
 --   PartRead, PartsRead   where the answer is true, such a part stands there, and at the span of each name of the table
 --
-use Rattle.std.specs.Prelude.{◌≡◌, Bool, true, false, cond, List, [], ℕ, suc, ◌-◌, ◌<◌, ◌≤◌, get_or, take, drop}
+use Rattle.std.specs.Prelude.{⊤, Result, Ok, Err, ◌≡◌, Bool, true, false, cond, List, [], ℕ, suc, ◌-◌, ◌<◌, ◌≤◌, get_or, take, drop}
 use Rattle.terms.specs.Term.{Ground, SortedG, as_term}
 use Rattle.wire.specs.Reply.{Reply, accepted, refused}
 use Rattle.wire.specs.Vocabulary.{Vocabulary, signature}
@@ -29,15 +29,15 @@ use Rattle.reader.specs.Answers.{term_refused}
 use Rattle.reader.specs.Names.{listed}
 use Rattle.reader.specs.Whole.{told}
 use Rattle.reader.specs.declared.whole.Extent.{Extent}
-use Rattle.reader.specs.declared.pair.PairAnswer.{PairAnswer}
-use Rattle.reader.specs.declared.pair.PairAnswer.TheVariants as P
+use Rattle.reader.specs.declared.pair.PairRefusal.{PairRefusal}
+use Rattle.reader.specs.declared.pair.PairRefusal.TheVariants as P
 
-abbrev pub pair_numbers : PairAnswer → Reply
-pair_numbers P.Read = accepted []
-pair_numbers (P.Vocabulary why) = vocabulary_refused why
-pair_numbers (P.First why) = term_refused 1 why
-pair_numbers (P.Second why) = term_refused 2 why
-pair_numbers (P.Incomplete q) = refused 16 2 q
+abbrev pub pair_numbers : Result ⊤ PairRefusal → Reply
+pair_numbers (Ok u) = accepted []
+pair_numbers (Err (P.Vocabulary why)) = vocabulary_refused why
+pair_numbers (Err (P.First why)) = term_refused 1 why
+pair_numbers (Err (P.Second why)) = term_refused 2 why
+pair_numbers (Err (P.Incomplete q)) = refused 16 2 q
 
 abbrev pub both_told : Reading Extent → Reading Extent → Reply
 both_told (refuse n q) y = refused n 1 q
@@ -51,13 +51,13 @@ pair_under p s (accept U) = both_told (told U p) (told U s)
 abbrev pub pair_reply : List ℕ → List ℕ → List ℕ → Reply
 pair_reply v p s = pair_under p s (read_vocabulary v)
 
-abbrev pub PairRead : List ℕ → List ℕ → List ℕ → List ℕ → Bool → PairAnswer → Type 0
+abbrev pub PairRead : List ℕ → List ℕ → List ℕ → List ℕ → Bool → Result ⊤ PairRefusal → Type 0
 PairRead v p s spans agreed r = (agreed ≡ true → Agrees p s spans) → pair_numbers r ≡ pair_reply v p s
 
-abbrev pub SecondRead : Vocabulary → List ℕ → PairAnswer → Type 0
+abbrev pub SecondRead : Vocabulary → List ℕ → Result ⊤ PairRefusal → Type 0
 SecondRead U s r = (x : Extent) → pair_numbers r ≡ both_told (accept x) (told U s)
 
-abbrev pub BothRead : Vocabulary → List ℕ → List ℕ → List ℕ → Bool → PairAnswer → Type 0
+abbrev pub BothRead : Vocabulary → List ℕ → List ℕ → List ℕ → Bool → Result ⊤ PairRefusal → Type 0
 BothRead U p s spans agreed r = (agreed ≡ true → Agrees p s spans) → pair_numbers r ≡ both_told (told U p) (told U s)
 
 pub record ByParts (agreed : Bool) (x : Extent) (n : ℕ) : Type 0 where

@@ -16,7 +16,7 @@
 --   front_run W t            the same, with lines 7 and 8 for what stands in front of it
 --   FrontRead               what reading the kind and the term in front of t gives, from a blank table of names on
 --
-use Rattle.std.specs.Prelude.{◌≡◌, Bool, true, false, cond, List, [], ◌∷◌, ◌⊎◌, ℕ, suc, ◌<◌, ◌≤◌, ltb, length, get_or, drop, replicate}
+use Rattle.std.specs.Prelude.{Result, Ok, Err, ◌≡◌, Bool, true, false, cond, List, [], ◌∷◌, ◌⊎◌, ℕ, suc, ◌<◌, ◌≤◌, ltb, length, get_or, drop, replicate}
 use Rattle.terms.specs.Term.{Occurrence}
 use Rattle.wire.specs.Reply.{outside}
 use Rattle.wire.specs.Vocabulary.{Vocabulary}
@@ -33,10 +33,6 @@ use Rattle.reader.specs.Nodes.{number_of, place_of}
 use Rattle.reader.specs.declared.refusal.TermRefusal.{TermRefusal}
 use Rattle.cursors.specs.Cursors.{complete_in, gap_in}
 use Rattle.cursors.specs.declared.Cursor.{Cursor}
-use Rattle.reader.specs.declared.term.Step.{Step}
-use Rattle.reader.specs.declared.term.Step.TheVariants as S
-use Rattle.reader.specs.declared.term.Reading.{Reading}
-use Rattle.reader.specs.declared.term.Reading.TheVariants as R
 
 pub record Passed (v t frames : List ℕ) (c : Cursor) (frames' : List ℕ) (c' : Cursor) : Type 0 where
   pub going : Going v t frames' c'
@@ -68,9 +64,9 @@ pub record Follows (v t : List ℕ) (k : ℕ) (c : Cursor) (names frames names' 
   pub entries : length names' ≡ length names
   pub leads : (seen : List Occurrence) → Named names seen → Leads v t names' frames' c' (node_run (vocabulary_in v) v t frames seen false k c)
 
-pub record NodeAnswers (v t : List ℕ) (k : ℕ) (c : Cursor) (names frames names' frames' : List ℕ) (x : Step) : Type 0 where
-  pub went : (c' : Cursor) → x ≡ S.Went c' → Follows v t k c names frames names' frames' c'
-  pub fault : (why : TermRefusal) → x ≡ S.Fault why → (seen : List Occurrence) → Named names seen →
+pub record NodeAnswers (v t : List ℕ) (k : ℕ) (c : Cursor) (names frames names' frames' : List ℕ) (x : Result Cursor TermRefusal) : Type 0 where
+  pub went : (c' : Cursor) → x ≡ Ok c' → Follows v t k c names frames names' frames' c'
+  pub fault : (why : TermRefusal) → x ≡ Err why → (seen : List Occurrence) → Named names seen →
       Refuses t why (node_run (vocabulary_in v) v t frames seen false k c)
 
 -- A vocabulary whose tables these are, and under which the cursor is one that a reading comes to.
@@ -80,7 +76,7 @@ pub record Under (v t : List ℕ) (n : ℕ) (offsets results maps frames : List 
   pub bytes : (i : ℕ) → get_or v i 0 < 256
   pub going : Going v t frames c
 
-abbrev pub NodeRead : List ℕ → ℕ → List ℕ → List ℕ → List ℕ → ℕ → Cursor → List ℕ → List ℕ → List ℕ → List ℕ → Step → Type 0
+abbrev pub NodeRead : List ℕ → ℕ → List ℕ → List ℕ → List ℕ → ℕ → Cursor → List ℕ → List ℕ → List ℕ → List ℕ → Result Cursor TermRefusal → Type 0
 NodeRead t n offsets results maps k c names frames names' frames' x =
     (v : List ℕ) → Under v t n offsets results maps frames c → k < 256 → NodeAnswers v t k c names frames names' frames' x
 
@@ -92,11 +88,11 @@ pub record Ends (t names : List ℕ) (c : Cursor) (g : Got Scanned) : Type 0 whe
   pub inside : c.at ≤ length t
   pub near : complete_in c ≡ false → gap_in c ≤ length t
 
-abbrev pub Answers : List ℕ → List ℕ → Got Scanned → Reading → Type 0
-Answers t names g (R.Read c) = Ends t names c g
-Answers t names g (R.Fault why) = Refuses t why g
+abbrev pub Answers : List ℕ → List ℕ → Got Scanned → Result Cursor TermRefusal → Type 0
+Answers t names g (Ok c) = Ends t names c g
+Answers t names g (Err why) = Refuses t why g
 
-abbrev pub NodesRead : List ℕ → List ℕ → List ℕ → Cursor → ℕ → List ℕ → Reading → Type 0
+abbrev pub NodesRead : List ℕ → List ℕ → List ℕ → Cursor → ℕ → List ℕ → Result Cursor TermRefusal → Type 0
 NodesRead v t names c k names' r =
     (seen : List Occurrence) → Named names seen → Answers t names' (node_run (vocabulary_in v) v t (replicate 32 0) seen false k c) r
 
@@ -104,7 +100,7 @@ pub record WholeAt (t : List ℕ) (at : ℕ) (r : Bool) : Type 0 where
   pub there : r ≡ true → (at < length t) × (get_or t at 0 ≡ whole_byte)
   pub other : r ≡ false → get_or (drop at t) 0 0 ≡ whole_byte → ⊥
 
-abbrev pub TermRead : List ℕ → List ℕ → ℕ → ℕ → List ℕ → List ℕ → Reading → Type 0
+abbrev pub TermRead : List ℕ → List ℕ → ℕ → ℕ → List ℕ → List ℕ → Result Cursor TermRefusal → Type 0
 TermRead v t from k names names' r =
     (seen : List Occurrence) → Named names seen → Answers t names' (run (vocabulary_in v) (root_due k ∷ []) seen no_tally (drop from t)) r
 
@@ -114,5 +110,5 @@ root_run W t = run W (root_due (get_or t 0 0) ∷ []) [] no_tally (drop 1 t)
 abbrev pub front_run : Vocabulary → List ℕ → Got Scanned
 front_run W t = cond (outside least_bytes most_bytes (length t)) (stop 7 t) (cond (ltb (get_or t 0 0) W.kinds) (root_run W t) (stop 8 t))
 
-abbrev pub FrontRead : List ℕ → List ℕ → List ℕ → Reading → Type 0
+abbrev pub FrontRead : List ℕ → List ℕ → List ℕ → Result Cursor TermRefusal → Type 0
 FrontRead v t names r = Answers t names (front_run (vocabulary_in v) t) r

@@ -8,7 +8,7 @@
 --   whole_told r        the same of an answer
 --   WholeRead W b names r   the answer r tells that, and where b is accepted names is the table of its names
 --
-use Rattle.std.specs.Prelude.{◌≡◌, Bool, true, false, List, ℕ, length}
+use Rattle.std.specs.Prelude.{Result, Ok, Err, ◌≡◌, Bool, true, false, List, ℕ, length}
 use Rattle.std.proofs.Math.Option.{Option, some, none}
 use Rattle.wire.specs.Reply.{Kinded}
 use Rattle.wire.specs.Vocabulary.{Vocabulary}
@@ -20,8 +20,7 @@ use Rattle.wire.specs.Scan.{has_short}
 use Rattle.reader.specs.Names.{TableOf}
 use Rattle.reader.specs.Nodes.{number_of, place_of}
 use Rattle.reader.specs.declared.whole.Extent.{Extent}
-use Rattle.reader.specs.declared.whole.Whole.{Whole}
-use Rattle.reader.specs.declared.whole.Whole.TheVariants as W
+use Rattle.reader.specs.declared.refusal.TermRefusal.{TermRefusal}
 
 abbrev pub no_gap : Option ℕ → Bool
 no_gap none = true
@@ -43,10 +42,10 @@ told_by U n (refuse m q) = refuse m q
 abbrev pub told : Vocabulary → List ℕ → Reading Extent
 told U b = told_by U (length b) (checked_term U b)
 
-abbrev pub whole_told : Whole → Reading Extent
-whole_told (W.Read x) = accept x
-whole_told (W.Refused why) = refuse (number_of why) (place_of why)
+abbrev pub whole_told : Result Extent TermRefusal → Reading Extent
+whole_told (Ok x) = accept x
+whole_told (Err why) = refuse (number_of why) (place_of why)
 
-pub record WholeRead (U : Vocabulary) (b names : List ℕ) (r : Whole) : Type 0 where
+pub record WholeRead (U : Vocabulary) (b names : List ℕ) (r : Result Extent TermRefusal) : Type 0 where
   pub told : whole_told r ≡ told U b
   pub table : (k : Kinded) → checked_term U b ≡ accept k → TableOf U k.kind k.term names

@@ -4,16 +4,15 @@
 ghost use Rattle.std.specs.Prelude.{◌≡◌};
 ghost use Rattle.wire.specs.Checking.{TermPromise};
 ghost use Rattle.wire.specs.CheckComputed.{term_reply};
-ghost use Rattle.signature.specs.Tables.{Tables};
 ghost use Rattle.reader.specs.Answers.{term_numbers};
 ghost use Rattle.reader.specs.Books.{BookRead};
 ghost use Rattle.reader.specs.Loaded.{PatternLoaded};
 ghost use Rattle.reader.specs.Values.{PatternFilling, FillingJudged, FillingRead};
 ghost use Rattle.reader.specs.Pairs.{PairRead};
+ghost use Rattle.reader.specs.declared.CheckRefusal.TheVariants.{Vocabulary, Term};
 
-use book::Patterns;
-use signature::{Missing, SettledAnswer, VocabularyAnswer, VocabularyRefusal};
-use whole::Whole;
+use signature::VocabularyRefusal;
+use words::Words;
 
 pub mod book;
 pub mod filling;
@@ -22,67 +21,99 @@ pub mod pair;
 pub mod refusal;
 mod term;
 pub mod whole;
+mod words;
 
-pub use book::{BookAnswer, BookRefusal};
-pub use filling::{FillingAnswer, FillingRefusal};
-pub use pair::PairAnswer;
+pub use book::{BookInputRefusal, BookRefusal};
+pub use filling::FillingRefusal;
+pub use pair::PairRefusal;
 pub use refusal::TermRefusal;
 pub use whole::Extent;
 
 // An accepted term's number of words, its deepest level, whether it is complete and its first gap, which is its length where it
-// is, or why it or the vocabulary is refused.
-#[derive(Drop)]
-pub enum TermAnswer {
-    Accepted(usize, usize, bool, usize),
+// is.
+#[derive(Clone, Copy)]
+pub struct CheckedTerm {
+    pub words: usize,
+    pub deepest: usize,
+    pub complete: bool,
+    pub gap: usize,
+}
+
+// Why a vocabulary or a term under it is refused.
+#[derive(Clone, Copy)]
+pub enum CheckRefusal {
     Vocabulary(VocabularyRefusal),
     Term(TermRefusal),
 }
 
-// A vocabulary and a pattern to be listed are in order, with the lowest kind without complete situations, or one of them is refused.
-#[derive(Drop)]
-pub enum PatternAnswer {
-    Loaded(Missing),
-    Vocabulary(VocabularyRefusal),
-    Pattern(TermRefusal),
+impl From<VocabularyRefusal> for CheckRefusal {
+    ghost from_gives = { λ why r. r ≡ Vocabulary why };
+
+    fn from(why: VocabularyRefusal) -> CheckRefusal {
+        CheckRefusal::Vocabulary(why)
+    }
+}
+
+impl From<TermRefusal> for CheckRefusal {
+    ghost from_gives = { λ why r. r ≡ Term why };
+
+    fn from(why: TermRefusal) -> CheckRefusal {
+        CheckRefusal::Term(why)
+    }
 }
 
 // Checks a term under a vocabulary.
-pub fn check_term(vocabulary: &[u8], term: &[u8]) -> TermAnswer
+pub fn check_term(vocabulary: &[u8], term: &[u8]) -> Result<CheckedTerm, CheckRefusal>
     ensures term_promise { TermPromise vocabulary.now term.now (term_numbers result) }
     ensures result_value { term_numbers result ≡ term_reply vocabulary.now term.now }
 {
     let mut offsets = [0u16; 96];
     let mut results = [0u8; 96];
     let mut maps = [0u8; 96];
-    match signature::load(vocabulary, &mut offsets, &mut results, &mut maps) {
-        VocabularyAnswer::Refused(why) => TermAnswer::Vocabulary(why),
-        VocabularyAnswer::Accepted => {
-            let words = node::wide(vocabulary[1]);
-            match whole::read(vocabulary, term, words, &offsets, &results, &maps) {
-                Whole::Refused(why) => TermAnswer::Term(why),
-                Whole::Read(x) => TermAnswer::Accepted(x.words, x.deepest, x.complete, x.gap),
-            }
-        }
-    }
+    signature::load(vocabulary, &mut offsets, &mut results, &mut maps)?;
+    let w = Words {
+        v: vocabulary,
+        count: vocabulary[1] as usize,
+        offsets: &offsets,
+        results: &results,
+        maps: &maps,
+    };
+    let x = whole::read(w, term)?;
+    Ok(CheckedTerm {
+        words: x.words,
+        deepest: x.deepest,
+        complete: x.complete,
+        gap: x.gap,
+    })
 }
 
 // Reads a vocabulary and a pattern to be listed, and leaves the table of result kinds by which listings go in the lent one.
-pub fn load_pattern(vocabulary: &[u8], pattern: &[u8], settled: &mut [u8; 96]) -> PatternAnswer
+pub fn load_pattern(
+    vocabulary: &[u8],
+    pattern: &[u8],
+    settled: &mut [u8; 96],
+) -> Result<Option<usize>, CheckRefusal>
     ensures { PatternLoaded vocabulary.now pattern.now settled.old settled.new result }
 {
     let mut offsets = [0u16; 96];
     let mut results = [0u8; 96];
     let mut maps = [0u8; 96];
-    match signature::load_settled(vocabulary, &mut offsets, &mut results, &mut maps, settled) {
-        SettledAnswer::Refused(why) => PatternAnswer::Vocabulary(why),
-        SettledAnswer::Loaded(missing) => {
-            let words = node::wide(vocabulary[1]);
-            match whole::read(vocabulary, pattern, words, &offsets, &results, &maps) {
-                Whole::Refused(why) => PatternAnswer::Pattern(why),
-                Whole::Read(_) => PatternAnswer::Loaded(missing),
-            }
-        }
-    }
+    let missing = signature::load_settled(
+        vocabulary,
+        &mut offsets,
+        &mut results,
+        &mut maps,
+        settled,
+    )?;
+    let w = Words {
+        v: vocabulary,
+        count: vocabulary[1] as usize,
+        offsets: &offsets,
+        results: &results,
+        maps: &maps,
+    };
+    whole::read(w, pattern)?;
+    Ok(missing)
 }
 
 // Reads a pattern and a situation under one loading of a vocabulary: the vocabulary first, then the one, then the other. Where
@@ -93,45 +124,36 @@ pub fn read_pair(
     second: &[u8],
     spans: &[u16; 128],
     agreed: bool,
-) -> PairAnswer
+) -> Result<(), PairRefusal>
     ensures { PairRead vocabulary.now first.now second.now spans.now agreed result }
 {
     let mut offsets = [0u16; 96];
     let mut results = [0u8; 96];
     let mut maps = [0u8; 96];
-    match signature::load(vocabulary, &mut offsets, &mut results, &mut maps) {
-        VocabularyAnswer::Refused(why) => PairAnswer::Vocabulary(why),
-        VocabularyAnswer::Accepted => {
-            let words = node::wide(vocabulary[1]);
-            pair::read(
-                vocabulary, first, second, spans, agreed, words, &offsets, &results, &maps,
-            )
-        }
-    }
+    signature::load(vocabulary, &mut offsets, &mut results, &mut maps)?;
+    let w = Words {
+        v: vocabulary,
+        count: vocabulary[1] as usize,
+        offsets: &offsets,
+        results: &results,
+        maps: &maps,
+    };
+    pair::read(w, first, second, spans, agreed)
 }
 
 // Reads a pattern under an accepted vocabulary, and a filling file for it.
 fn read_pattern_filling<'a>(
-    v: &[u8],
+    w: Words<'a>,
     pattern: &[u8],
     filling: &[u8],
     starts: &mut [usize; 65],
     depths: &mut [u8; 64],
-    words: usize,
-    offsets: &'a [u16; 96],
-    results: &'a [u8; 96],
-    maps: &'a [u8; 96],
-) -> FillingAnswer
-    requires { Tables v.now words offsets.now results.now maps.now }
-    ensures { PatternFilling v.now pattern.now filling.now starts.new depths.new result }
+) -> Result<usize, FillingRefusal>
+    ensures { PatternFilling w.entry.v.now pattern.now filling.now starts.new depths.new result }
 {
     let mut names = [65535u16; 64];
-    match whole::read_named(v, pattern, &mut names, words, offsets, results, maps) {
-        Whole::Refused(why) => FillingAnswer::Refused(FillingRefusal::Pattern(why)),
-        Whole::Read(x) => filling::read_file(
-            v, filling, &names, starts, depths, x.deepest, words, offsets, results, maps,
-        ),
-    }
+    let x = whole::read_named(w, pattern, &mut names)?;
+    filling::read_file(w, filling, &names, starts, depths, x.deepest)
 }
 
 // Reads a vocabulary, a pattern and a filling file for it, in this order.
@@ -141,21 +163,21 @@ fn judge_filling(
     filling: &[u8],
     starts: &mut [usize; 65],
     depths: &mut [u8; 64],
-) -> FillingAnswer
+) -> Result<usize, FillingRefusal>
     ensures { FillingJudged vocabulary.now pattern.now filling.now starts.new depths.new result }
 {
     let mut offsets = [0u16; 96];
     let mut results = [0u8; 96];
     let mut maps = [0u8; 96];
-    match signature::load(vocabulary, &mut offsets, &mut results, &mut maps) {
-        VocabularyAnswer::Refused(why) => FillingAnswer::Refused(FillingRefusal::Vocabulary(why)),
-        VocabularyAnswer::Accepted => {
-            let words = node::wide(vocabulary[1]);
-            read_pattern_filling(
-                vocabulary, pattern, filling, starts, depths, words, &offsets, &results, &maps,
-            )
-        }
-    }
+    signature::load(vocabulary, &mut offsets, &mut results, &mut maps)?;
+    let w = Words {
+        v: vocabulary,
+        count: vocabulary[1] as usize,
+        offsets: &offsets,
+        results: &results,
+        maps: &maps,
+    };
+    read_pattern_filling(w, pattern, filling, starts, depths)
 }
 
 // Reads a vocabulary, a pattern and a filling file for it, in this order. Where all are in order the answer tells the
@@ -167,34 +189,42 @@ pub fn read_filling(
     filling: &[u8],
     starts: &mut [usize; 65],
     depths: &mut [u8; 64],
-) -> FillingAnswer
+) -> Result<usize, FillingRefusal>
     ensures { FillingRead vocabulary.now pattern.now filling.now starts.new depths.new result }
 {
-    match judge_filling(vocabulary, pattern, filling, starts, depths) {
-        FillingAnswer::Read(deepest) => FillingAnswer::Read(deepest),
-        FillingAnswer::Refused(why) => {
-            *starts = [0usize; 65];
-            *depths = [0u8; 64];
-            FillingAnswer::Refused(why)
-        }
+    let read = judge_filling(vocabulary, pattern, filling, starts, depths);
+    if read.is_err() {
+        *starts = [0usize; 65];
+        *depths = [0u8; 64];
     }
+    read
 }
 
 // Reads a vocabulary and a book under it, and leaves the table of result kinds by which listings go in the lent one.
-pub fn read_book(vocabulary: &[u8], book: &[u8], settled: &mut [u8; 96]) -> BookAnswer
+pub fn read_book(
+    vocabulary: &[u8],
+    book: &[u8],
+    settled: &mut [u8; 96],
+) -> Result<Option<usize>, BookInputRefusal>
     ensures { BookRead vocabulary.now book.now settled.old settled.new result }
 {
     let mut offsets = [0u16; 96];
     let mut results = [0u8; 96];
     let mut maps = [0u8; 96];
-    match signature::load_settled(vocabulary, &mut offsets, &mut results, &mut maps, settled) {
-        SettledAnswer::Refused(why) => BookAnswer::Vocabulary(why),
-        SettledAnswer::Loaded(missing) => {
-            let words = node::wide(vocabulary[1]);
-            match book::read(vocabulary, book, words, &offsets, &results, &maps) {
-                Patterns::Refused(why) => BookAnswer::Book(why),
-                Patterns::Read => BookAnswer::Read(missing),
-            }
-        }
-    }
+    let missing = signature::load_settled(
+        vocabulary,
+        &mut offsets,
+        &mut results,
+        &mut maps,
+        settled,
+    )?;
+    let w = Words {
+        v: vocabulary,
+        count: vocabulary[1] as usize,
+        offsets: &offsets,
+        results: &results,
+        maps: &maps,
+    };
+    book::read(w, book)?;
+    Ok(missing)
 }

@@ -1,5 +1,5 @@
 // Why a term is refused, with the place where it is not fixed: document 01, lines 7 to 15.
-#[derive(Drop)]
+#[derive(Clone, Copy)]
 pub enum TermRefusal {
     Size,
     NoSuchKind,

@@ -1,6 +1,5 @@
 // One term read node by node, from its first byte to its last: the core of every reading.
 ghost use Rattle.std.specs.Prelude.{◌≡◌, ◌+◌, ◌<◌, ◌≤◌, length, replicate};
-ghost use Rattle.signature.specs.Tables.{Tables};
 ghost use Rattle.reader.specs.Cursors.{Going};
 ghost use Rattle.reader.specs.Full.{FullTest};
 ghost use Rattle.reader.specs.Terms.{Passed, NodeRead, NodesRead, WholeAt, TermRead};
@@ -8,21 +7,8 @@ ghost use Rattle.reader.specs.Terms.{Passed, NodeRead, NodesRead, WholeAt, TermR
 use crate::node;
 use crate::node::Node;
 use crate::refusal::TermRefusal;
+use crate::words::Words;
 use cursors::Cursor;
-
-// How a reading goes on behind a node, or what is wrong there.
-#[derive(Drop)]
-enum Step {
-    Went(Cursor),
-    Fault(TermRefusal),
-}
-
-// Where the reading of a whole term ended, or what is wrong.
-#[derive(Drop)]
-pub(crate) enum Reading {
-    Read(Cursor),
-    Fault(TermRefusal),
-}
 
 // Whether a word of a kind stands at the front of the rest of a term, with all its places written.
 pub(crate) fn full_word<'a>(
@@ -38,33 +24,21 @@ pub(crate) fn full_word<'a>(
     if rest.len() < maps::NODE {
         return false;
     }
-    let f = node::wide(rest[0]);
-    if words <= f {
-        return false;
-    }
-    if results[f] != kind {
-        return false;
-    }
-    maps::read(rest, 1) == maps[f]
+    let f = rest[0] as usize;
+    f < words && results[f] == kind && maps::read(rest, 1) == maps[f]
 }
 
 // Reads on over full words, up to a place where another node stands or level 33 would begin. The rest of the term is
-// handed on for each.
-pub(crate) fn full_words<'a>(
-    v: &[u8],
-    t: &[u8],
-    frames: &mut [u64; 32],
-    from: Cursor,
-    words: usize,
-    offsets: &'a [u16; 96],
-    results: &'a [u8; 96],
-    maps: &'a [u8; 96],
-) -> Cursor
-    requires tables { Tables v.now words offsets.now results.now maps.now }
-    requires going { Going v.now t.now frames.old from }
-    ensures { Passed v.now t.now frames.old from frames.new result }
+// handed on for each. It is put in place where it is called: a call that hands the tables on costs more than a name's step.
+#[inline(always)]
+pub(crate) fn full_words<'a>(w: Words<'a>, t: &[u8], frames: &mut [u64; 32], from: Cursor) -> Cursor
+    requires { Going w.v.now t.now frames.old from }
+    ensures { Passed w.entry.v.now t.now frames.old from frames.new result }
 {
+    let maps = w.maps;
+    let offsets = w.offsets;
     let mut c = from;
+    // Kept: no index is counted; a turn goes up a level, or on to the next place, or past a word, until no place is due.
     while 0 < c.depth {
         let depth = c.depth;
         let due = c.due;
@@ -76,14 +50,14 @@ pub(crate) fn full_words<'a>(
             }
         } else {
             let at = c.at;
-            let kind = v[frames::kinds(due)];
+            let kind = w.v[frames::kinds(due)];
             if 31 < depth {
                 return c;
             }
-            if !full_word(&t[at..], kind, words, results, maps) {
+            if !full_word(&t[at..], kind, w.count, w.results, maps) {
                 return c;
             }
-            let f = node::wide(t[at]);
+            let f = t[at] as usize;
             let rest = frames::passed(due);
             c = c.onto(rest).whole_word();
             if maps[f] != 0 {
@@ -98,88 +72,64 @@ pub(crate) fn full_words<'a>(
 // Reads the node that stands where a term of a kind is due. The frame of a word with written places comes on top of
 // the one that the cursor has.
 fn read_node<'a>(
+    w: Words<'a>,
     t: &[u8],
     names: &mut [u16; 64],
     frames: &mut [u64; 32],
     c: Cursor,
     kind: u8,
-    words: usize,
-    offsets: &'a [u16; 96],
-    results: &'a [u8; 96],
-    maps: &'a [u8; 96],
-) -> Step
-    requires words_bound { words ≤ 96 }
+) -> Result<Cursor, TermRefusal>
+    requires words_bound { w.count ≤ 96 }
     requires names_len { (length names.old ≡ 64) × (length frames.old ≡ 32) }
     requires at_in_bounds { (c.at ≤ length t.now) × (c.words ≤ c.at) × (length t.now ≤ 4096) }
-    ensures { NodeRead t.now words offsets.now results.now maps.now kind c names.old frames.old names.new frames.new result }
+    ensures { NodeRead t.now w.entry.count w.entry.offsets.now w.entry.results.now w.entry.maps.now kind c names.old frames.old names.new frames.new result }
 {
     let at = c.at;
     let depth = c.depth;
-    match node::node_at(&t[at..], at, depth, kind, words, results, maps) {
-        Node::Fault(why) => Step::Fault(why),
+    match node::node_at(&t[at..], at, depth, kind, w.count, w.results, w.maps)? {
         Node::Name(n) => {
             if node::clashes(names[n], kind) {
-                return Step::Fault(TermRefusal::Clashes(at));
+                return Err(TermRefusal::Clashes(at));
             }
             names[n] = kind as u16;
-            Step::Went(c.leaf())
+            Ok(c.leaf())
         }
         Node::Word(f, written) => {
-            let map = maps[f];
+            let map = w.maps[f];
             let past = c.word(written == map);
             if written == 0 {
-                return Step::Went(past);
+                return Ok(past);
             }
             frames[depth] = c.due;
-            Step::Went(past.down(frames::of_word(written, map, offsets[f])))
+            Ok(past.down(frames::of_word(written, map, w.offsets[f])))
         }
     }
 }
 
 // Reads the node of a kind that is due at a cursor, and all that is due behind it.
 fn read_nodes<'a>(
-    v: &[u8],
+    w: Words<'a>,
     t: &[u8],
     names: &mut [u16; 64],
     from: Cursor,
     first: u8,
-    words: usize,
-    offsets: &'a [u16; 96],
-    results: &'a [u8; 96],
-    maps: &'a [u8; 96],
-) -> Reading
-    requires tables { Tables v.now words offsets.now results.now maps.now }
-    requires names_len { (length names.old ≡ 64) × Going v.now t.now (replicate 32 0) from × (length t.now ≤ 4096) }
-    ensures { NodesRead v.now t.now names.old from first names.new result }
+) -> Result<Cursor, TermRefusal>
+    requires { (length names.old ≡ 64) × Going w.v.now t.now (replicate 32 0) from × (length t.now ≤ 4096) }
+    ensures { NodesRead w.entry.v.now t.now names.old from first names.new result }
 {
     let mut frames = [0u64; 32];
     let mut c = from;
     let mut kind = first;
+    // Kept: no index is counted; how many bytes a turn passes is known once its node and the full words behind it are read.
     loop {
-        match read_node(
-            t,
-            names,
-            &mut frames,
-            c,
-            kind,
-            words,
-            offsets,
-            results,
-            maps,
-        ) {
-            Step::Fault(why) => {
-                return Reading::Fault(why);
-            }
-            Step::Went(x) => {
-                let past = full_words(v, t, &mut frames, x, words, offsets, results, maps);
-                let due = past.due;
-                if past.depth == 0 {
-                    return Reading::Read(past);
-                }
-                kind = v[frames::kinds(due)];
-                c = past.onto(frames::passed(due));
-            }
+        let x = read_node(w, t, names, &mut frames, c, kind)?;
+        let past = full_words(w, t, &mut frames, x);
+        let due = past.due;
+        if past.depth == 0 {
+            return Ok(past);
         }
+        kind = w.v[frames::kinds(due)];
+        c = past.onto(frames::passed(due));
     }
 }
 
@@ -187,32 +137,24 @@ fn read_nodes<'a>(
 fn whole_at(t: &[u8], at: usize) -> bool
     ensures { WholeAt t.now at result }
 {
-    if t.len() <= at {
-        return false;
-    }
-    t[at] == 255
+    at < t.len() && t[at] == 255
 }
 
 // Reads the term of a kind that stands at an offset of some bytes. The table tells at which kinds names stood before,
 // and at the end also the names of this term. Bytes may follow the term.
 pub(crate) fn read_term<'a>(
-    v: &[u8],
+    w: Words<'a>,
     t: &[u8],
     from: usize,
     kind: u8,
     names: &mut [u16; 64],
-    words: usize,
-    offsets: &'a [u16; 96],
-    results: &'a [u8; 96],
-    maps: &'a [u8; 96],
-) -> Reading
-    requires tables { Tables v.now words offsets.now results.now maps.now }
-    requires from_in_bounds { (from ≤ length t.now) × (length names.old ≡ 64) × (length t.now ≤ 4096) }
-    ensures { TermRead v.now t.now from kind names.old names.new result }
+) -> Result<Cursor, TermRefusal>
+    requires { (from ≤ length t.now) × (length names.old ≡ 64) × (length t.now ≤ 4096) }
+    ensures { TermRead w.entry.v.now t.now from kind names.old names.new result }
 {
     let c = cursors::start(from);
     if whole_at(t, from) {
-        return Reading::Read(c.leaf());
+        return Ok(c.leaf());
     }
-    read_nodes(v, t, names, c, kind, words, offsets, results, maps)
+    read_nodes(w, t, names, c, kind)
 }

@@ -1,6 +1,6 @@
 -- Repeating: one pass over a pattern's bytes finds the earliest byte at which a name stands for the second time.
 use mathlib.Core.Path.{◌≡◌, refl, sym, ap, ◌∙◌}
-use mathlib.Core.Bool.{Bool, true, false, not, cond, ◌||◌}
+use mathlib.Core.Bool.{Bool, true, false, cond, ◌||◌}
 use mathlib.Core.List.{List, [], ◌∷◌}
 use mathlib.Core.Option.{some, none}
 use Prim.Native.Nat.{ℕ, ◌+◌, ◌-◌, ◌<◌, ◌≤◌}
@@ -20,52 +20,48 @@ use Rattle.repeats.proofs.Passing.{name-byte, low_byte, high_byte, skip_one, pas
 
 -- ---- the table of names seen
 
-pub record Marked (seen names : List ℕ) : Type 0 where
+pub record Marked (seen : List Bool) (names : List ℕ) : Type 0 where
   pub size : length seen ≡ 64
-  pub each : (k : ℕ) → k < 64 → eqb (get_or seen k 0) 0 ≡ not (occurs k names)
+  pub each : (k : ℕ) → k < 64 → get_or seen k false ≡ occurs k names
 
-marked_none : Marked (replicate 64 0) []
-marked_none = record { size = refl; each = λ k b. ap (λ (x : ℕ). eqb x 0) (get_or-replicate 64 k 0 0 b) }
+marked_none : Marked (replicate 64 false) []
+marked_none = record { size = refl; each = λ k b. get_or-replicate 64 k false false b }
 
-marked_more : (seen l : List ℕ) (n : ℕ) → n < 64 → Marked seen l → Marked (set seen n 1) (n ∷ l)
+marked_more : (seen : List Bool) (l : List ℕ) (n : ℕ) → n < 64 → Marked seen l → Marked (set seen n true) (n ∷ l)
 marked_more seen l n h m = record {
-  size = length-set seen n 1 ∙ m.size;
+  size = length-set seen n true ∙ m.size;
   each = λ k b. elim (ℕ_discrete k n) [ yes e ↦ here k b e | no e ↦ there k b e ];
 }
   where
-    here : (k : ℕ) → k < 64 → k ≡ n → eqb (get_or (set seen n 1) k 0) 0 ≡ not (occurs k (n ∷ l))
+    here : (k : ℕ) → k < 64 → k ≡ n → get_or (set seen n true) k false ≡ occurs k (n ∷ l)
     here k b e =
-        ap (λ i. eqb (get_or (set seen n 1) i 0) 0) e
-        ∙ ap (λ (x : ℕ). eqb x 0) (get_or-set_same seen n 1 0 (omega (arith, m.size)))
-        ∙ sym (ap not (or_left (eqb k n) (occurs k l) (eq-eqb k n e)))
+        ap (λ i. get_or (set seen n true) i false) e
+        ∙ get_or-set_same seen n true false (omega (arith, m.size))
+        ∙ sym (or_left (eqb k n) (occurs k l) (eq-eqb k n e))
 
-    there : (k : ℕ) → k < 64 → (k ≡ n → ⊥) → eqb (get_or (set seen n 1) k 0) 0 ≡ not (occurs k (n ∷ l))
+    there : (k : ℕ) → k < 64 → (k ≡ n → ⊥) → get_or (set seen n true) k false ≡ occurs k (n ∷ l)
     there k b e =
-        ap (λ (x : ℕ). eqb x 0) (get_or-set_other seen n k 1 0 e)
+        get_or-set_other seen n k true false e
         ∙ m.each k b
-        ∙ sym (ap (λ t. not (t || occurs k l)) (ne_eqb k n e))
-
-not_flip : (a b : Bool) → a ≡ not b → b ≡ not a
-not_flip a true e = ap not (sym e)
-not_flip a false e = ap not (sym e)
+        ∙ sym (ap (λ t. t || occurs k l) (ne_eqb k n e))
 
 -- ---- the loop
 
 -- The names before the offset `at` are marked, and none of them stood twice.
-pub record Searched (p : List ℕ) (words : ℕ) (seen : List ℕ) (at : ℕ) : Type 0 where
+pub record Searched (p : List ℕ) (words : ℕ) (seen : List Bool) (at : ℕ) : Type 0 where
   pub before : List ℕ
   pub marked : Marked seen before
   pub same : first_repeat words p ≡ repeated_in before (sightings_in words 0 (drop at p) at)
 
 module _ {p : List ℕ} {words : ℕ} where
-  pub searched_none : Searched p words (replicate 64 0) 1
+  pub searched_none : Searched p words (replicate 64 false) 1
   searched_none = record { before = []; marked = marked_none; same = ap (repeated_in []) (skip_one words p 0) }
 
-  pub searched_all : {seen : List ℕ} {at : ℕ} → Searched p words seen at → length p ≤ at → none ≡ first_repeat words p
+  pub searched_all : {seen : List Bool} {at : ℕ} → Searched p words seen at → length p ≤ at → none ≡ first_repeat words p
   searched_all {seen} {at} s k =
       sym (s.same ∙ ap (λ l. repeated_in s.before (sightings_in words 0 l at)) (drop_of_length-le p {i = at} k))
 
-  module _ {seen : List ℕ} {at : ℕ} (s : Searched p words seen at) (inside : at < length p) where
+  module _ {seen : List Bool} {at : ℕ} (s : Searched p words seen at) (inside : at < length p) where
     abbrev b : ℕ
     b = get_or p at 0
 
@@ -98,23 +94,17 @@ module _ {p : List ℕ} {words : ℕ} where
           ∙ ap (repeated_in s.before)
           (pass_name words p at inside k (name-byte b low high))
 
-      mark-known : eqb (get_or seen (b - 128) 0) 0 ≡ not (occurs (b - 128) s.before)
+      mark-known : get_or seen (b - 128) false ≡ occurs (b - 128) s.before
       mark-known = s.marked.each (b - 128) (omega arith)
 
       -- It stood before.
-      pub searched_found : (get_or seen (b - 128) 0 ≡ 0 → ⊥) → some at ≡ first_repeat words p
-      searched_found e =
-          sym (at_this
-          ∙ cond_true (occurs (b - 128) s.before) _ _
-          (not_flip (eqb (get_or seen (b - 128) 0) 0) (occurs (b - 128) s.before) mark-known ∙ ap not (ne_eqb (get_or seen (b - 128) 0) 0 e)))
+      pub searched_found : get_or seen (b - 128) false ≡ true → some at ≡ first_repeat words p
+      searched_found e = sym (at_this ∙ cond_true (occurs (b - 128) s.before) _ _ (sym mark-known ∙ e))
 
       -- It is seen for the first time.
-      pub searched_name : get_or seen (b - 128) 0 ≡ 0 → Searched p words (set seen (b - 128) 1) (at + 1)
+      pub searched_name : get_or seen (b - 128) false ≡ false → Searched p words (set seen (b - 128) true) (at + 1)
       searched_name e = record {
         before = (b - 128) ∷ s.before;
         marked = marked_more seen s.before (b - 128) (omega arith) s.marked;
-        same =
-            at_this
-            ∙ cond_false (occurs (b - 128) s.before) _ _
-            (not_flip (eqb (get_or seen (b - 128) 0) 0) (occurs (b - 128) s.before) mark-known ∙ ap not (eq-eqb (get_or seen (b - 128) 0) 0 e));
+        same = at_this ∙ cond_false (occurs (b - 128) s.before) _ _ (sym mark-known ∙ e);
       }

@@ -8,7 +8,8 @@
 --   repeat_of r                the same, of an answer
 --   PatternRepeats            of a good pattern this is the first repeated name of its term
 --
-use Rattle.std.specs.Prelude.{◌≡◌, cond, List, [], ◌∷◌, ℕ, zero, suc, ◌+◌, ◌-◌, ltb, length}
+use Rattle.std.specs.Prelude as std
+use Rattle.std.specs.Prelude.{Some, None, ◌≡◌, cond, List, [], ◌∷◌, ℕ, zero, suc, ◌+◌, ◌-◌, ltb, length}
 use Rattle.std.proofs.Math.Option.{Option, some, none}
 use Rattle.terms.specs.Term.{Term}
 use Rattle.wire.specs.Map.{map_bytes}
@@ -17,8 +18,6 @@ use Rattle.wire.specs.TermBytes.{first_name_byte, encode_term, GoodTerm}
 use Rattle.wire.specs.PatternLines.{Sighting, sightings}
 use Rattle.wire.specs.Parser.{is_name}
 use Rattle.wire.specs.ListComputed.{repeated_in}
-use Rattle.repeats.specs.declared.Repeat.{Repeat}
-use Rattle.repeats.specs.declared.Repeat.TheVariants.{At, Nothing}
 
 abbrev pub sightings_in : ℕ → ℕ → List ℕ → ℕ → List Sighting
 sightings_in n skip [] at = []
@@ -31,9 +30,9 @@ sightings_in n zero (b ∷ l) at =
 abbrev pub first_repeat : ℕ → List ℕ → Option ℕ
 first_repeat n p = repeated_in [] (sightings_in n 1 p 0)
 
-abbrev pub repeat_of : Repeat → Option ℕ
-repeat_of (At q) = some q
-repeat_of Nothing = none
+abbrev pub repeat_of : std.Option ℕ → Option ℕ
+repeat_of (Some q) = some q
+repeat_of None = none
 
 abbrev pub PatternRepeats : Type 0
 PatternRepeats = (W : Vocabulary) → InOrder W → (s : ℕ) (t : Term) → GoodTerm W s t →

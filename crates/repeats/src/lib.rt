@@ -4,38 +4,28 @@
 ghost use Rattle.std.specs.Prelude.{◌≡◌};
 ghost use Rattle.repeats.specs.FirstRepeat.{first_repeat, repeat_of};
 
-// Where a name stands for the second time.
-#[derive(Drop)]
-pub enum Repeat {
-    At(usize),
-    Nothing,
-}
-
 // The earliest byte of a pattern at which a name stands for the second time, in one pass over its bytes, where the numbers
 // below `words` are words.
-pub fn first_repeat(p: &[u8], words: usize) -> Repeat
+pub fn first_repeat(p: &[u8], words: usize) -> Option<usize>
     ensures { repeat_of result ≡ first_repeat words p.now }
 {
-    let mut seen = [0u8; 64];
+    let mut seen = [false; 64];
+    // Kept: a step passes one byte or two, so no iterator counts it, and the offset is the answer.
     let mut at = 1;
     while at < p.len() {
-        let b = p[at] as usize;
         let here = at;
+        let b = p[here] as usize;
         if b < words {
-            at = here + maps::NODE;
+            at += maps::NODE;
         } else {
-            at = here + 1;
-            if 128 <= b {
-                if b < 192 {
-                    let n = b - 128;
-                    let mark = seen[n];
-                    if mark != 0 {
-                        return Repeat::At(here);
-                    }
-                    seen[n] = 1;
+            at += 1;
+            if 128 <= b && b < 192 {
+                if seen[b - 128] {
+                    return Some(here);
                 }
+                seen[b - 128] = true;
             }
         }
     }
-    Repeat::Nothing
+    None
 }

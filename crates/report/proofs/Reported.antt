@@ -1,7 +1,7 @@
 -- Reported: the text of list's answer, put together from the bytes in the lent slice, is the text that is printed, and it is
 -- never longer than what is lent for it.
 --
---   total, lines_length, total_entries, entries-long    how long the lines are
+--   lines_length, entries-long    how long the lines are, and how many
 --   Shown r out text           the text for the reply r, with out in the lent slice, is the given one and has room
 --   listing-shown, pattern-shown, vocabulary-shown, shown    it is for each reply that list computes
 --   answer-put, answer-room    what is put for list's answer is what is printed, and has room
@@ -46,32 +46,25 @@ use Rattle.report.specs.Putting.{Put, cut_text, answer_text, TextFits}
 
 -- ---- how long the lines are
 
-total : List (List ℕ) → ℕ
-total [] = 0
-total (e ∷ es) = length e + total es
-
--- A number below 100,000 has at most 5 digits.
-lines_length : (i : ℕ) (es : List (List ℕ)) → i + length es ≤ 100000 → length (entry_lines i es) ≤ 7 * length es + 2 * total es
-unfolding total
-lines_length i [] h = omega arith
-lines_length i (e ∷ es) h =
-    let rest = lines_length (suc i) es (omega arith) in
-    omega (
-      arith,
-      length-append (entry_line i e) (entry_lines (suc i) es),
-      length-append (decimal i) (ascii " " ++ (hexadecimal e ++ newline)),
-      length-append (hexadecimal e) (newline),
-      hexadecimal-length e,
-      decimal-short 4 i (omega arith),
-    )
-
 abbrev written : Vocabulary → Kinded → List ℕ
 written W e = encode_term W e.kind e.term
 
-total_entries : (W : Vocabulary) (l : List Kinded) → total (map (written W) l) ≡ length (entries_bytes W l)
-unfolding total
-total_entries W [] = refl
-total_entries W (e ∷ l) = let r = total_entries W l in omega (arith, length-append (written W e) (entries_bytes W l))
+-- A number below 100,000 has at most 5 digits.
+lines_length : (W : Vocabulary) (i : ℕ) (l : List Kinded) → i + length l ≤ 100000 →
+    length (entry_lines i (map (written W) l)) ≤ 7 * length l + 2 * length (entries_bytes W l)
+lines_length W i [] h = omega arith
+lines_length W i (e ∷ l) h =
+    let rest = lines_length W (suc i) l (omega arith) in
+    let line = entry_line i (written W e) in
+    omega (
+      arith,
+      length-append line (entry_lines (suc i) (map (written W) l)),
+      length-append (decimal i) (ascii " " ++ (hexadecimal (written W e) ++ newline)),
+      length-append (hexadecimal (written W e)) newline,
+      hexadecimal-length (written W e),
+      decimal-short 4 i (omega arith),
+      length-append (written W e) (entries_bytes W l),
+    )
 
 entries-long : (W : Vocabulary) (l : List Kinded) → 2 * length l ≤ length (entries_bytes W l)
 entries-long W [] = omega arith
@@ -118,8 +111,8 @@ module _ (before : List ℕ) (long : length before ≡ 65536) where
               let most = leb-true (length b) (length before) e in
               let whole = long in
               let digits = decimal-short 4 (length es) (omega arith) in
-              let lines = lines_length 1 es (omega arith) in
-              omega (arith, length-append (decimal (length es)) (newline ++ entry_lines 1 es), total_entries W l)
+              let lines = lines_length W 1 l (omega arith) in
+              omega (arith, length-append (decimal (length es)) (newline ++ entry_lines 1 es))
 
   module _ (p : List ℕ) (bp : IsBytes p) where
     pattern-shown : (W : Vocabulary) → InOrder W → (r : Reading Kinded) → checked_linear W p ≡ r →

@@ -1,9 +1,7 @@
 -- Shared: words that two lists of bytes share, one by one and by blocks.
 --
---   node-shared                           two nodes of one number, whose word is low
---   words_none, words-one                 none, and one
 --   words-node, words_block               one more, and a block more
---   block_none, block_more                two blocks compared: no byte yet, and one more
+--   block_more                            two blocks compared: one more byte
 --
 use mathlib.Core.Path.{◌≡◌, refl, sym, ap, ◌∙◌, subst, subst₂}
 use mathlib.Core.Bool.{Bool, true, false}
@@ -15,27 +13,11 @@ use lib.Dec.{ltb}
 use lib.ListN.{length, get_or}
 use borrow.Author.Tests.{ltb-true, ltb-false}
 use Rattle.wire.specs.Map.{map_bytes}
-use Rattle.runs.specs.Shared.{SharedNode, SharedWords, NodeNumber, SharedBlock}
-
-pub node-shared : {a b : List ℕ} {i j x y : ℕ} → NodeNumber a i x → NodeNumber b j y → x % 256 < 128 → x ≡ y → SharedNode a b i j
-node-shared g h low e = record {
-  word = omega (arith, g.word);
-  same = sym g.word ∙ ap (λ z. z % 256) e ∙ h.word;
-  map = sym g.map ∙ ap (λ z. z / 256) e ∙ h.map;
-}
+use Rattle.runs.specs.Shared.{SharedNode, SharedWords, SharedBlock}
 
 -- ---- words
 
 module _ (a b : List ℕ) (i j : ℕ) where
-  pub words_none : SharedWords a b i j 0
-  words_none = record {
-    nodes = 0;
-    whole = omega arith;
-    inside_first = λ h. omega arith;
-    inside_second = λ h. omega arith;
-    each = λ k l. absurd (omega arith);
-  }
-
   module _ (n : ℕ) (c : SharedWords a b i j n) where
     more : (m : ℕ) → i + n + (1 + map_bytes) * m ≤ length a → j + n + (1 + map_bytes) * m ≤ length b →
         ((k : ℕ) → k < m → SharedNode a b (i + n + (1 + map_bytes) * k) (j + n + (1 + map_bytes) * k)) → SharedWords a b i j (n + (1 + map_bytes) * m)
@@ -73,13 +55,6 @@ module _ (a b : List ℕ) (i j : ℕ) where
         next : (t : List ℕ) (o k : ℕ) → get_or t (o + ((1 + map_bytes) * k + 1)) 0 ≡ get_or t (o + (1 + map_bytes) * k + 1) 0
         next t o k = ap (λ i. get_or t i 0) (let e : o + ((1 + map_bytes) * k + 1) ≡ o + (1 + map_bytes) * k + 1 = omega arith in e)
 
-  -- One word.
-  pub words-one : i + (1 + map_bytes) ≤ length a → j + (1 + map_bytes) ≤ length b → SharedNode a b i j → SharedWords a b i j (1 + map_bytes)
-  words-one h k node = words-node 0 words_none (omega arith) (omega arith) (subst₂ (SharedNode a b) (start i) (start j) node)
-    where
-      start : (o : ℕ) → o ≡ o + 0
-      start o = omega arith
-
 -- ---- two blocks compared
 
 xor_none : (x y : ℕ) → bit_xor x y ≡ 0 → x ≡ y
@@ -100,9 +75,6 @@ unmarked x l e =
     no-bit (suc zero) l e = e
     no-bit (suc (suc q)) l e = absurd (omega arith)
 
-pub block_none : (a b : List ℕ) (i j : ℕ) → SharedBlock a b i j 0
-block_none a b i j = record { same = λ k l. absurd (omega arith); words = λ k l. absurd (omega arith) }
-
 module _ (a b : List ℕ) (i j n : ℕ) {d m : ℕ} (so_far : d ≡ 0 → SharedBlock a b i j n) (byte : get_or a (i + n) 0 < 256) (marks : n % 2 ≡ 0 → m ≡ 128) where
   abbrev x : ℕ
   x = get_or a (i + n) 0
@@ -110,15 +82,15 @@ module _ (a b : List ℕ) (i j n : ℕ) {d m : ℕ} (so_far : d ≡ 0 → Shared
   abbrev y : ℕ
   y = get_or b (j + n) 0
 
-  pub block_more : bit_or (bit_or d (bit_xor x y)) (bit_and x m) ≡ 0 → SharedBlock a b i j (n + 1)
+  pub block_more : bit_or d (bit_or (bit_xor x y) (bit_and x m)) ≡ 0 → SharedBlock a b i j (n + 1)
   block_more e =
-      let outer = or_none (bit_or d (bit_xor x y)) (bit_and x m) e in
-      let inner = or_none d (bit_xor x y) outer.0 in
-      let before = so_far inner.0 in
+      let outer = or_none d (bit_or (bit_xor x y) (bit_and x m)) e in
+      let inner = or_none (bit_xor x y) (bit_and x m) outer.1 in
+      let before = so_far outer.0 in
       record {
-        same = last (λ k. get_or a (i + k) 0 ≡ get_or b (j + k) 0) before.same (xor_none x y inner.1);
+        same = last (λ k. get_or a (i + k) 0 ≡ get_or b (j + k) 0) before.same (xor_none x y inner.0);
         words = last (λ k. k % 2 ≡ 0 → get_or a (i + k) 0 < 128) before.words
-            (λ even. unmarked x byte (subst (λ m. bit_and x m ≡ 0) (marks even) outer.1));
+            (λ even. unmarked x byte (subst (λ m. bit_and x m ≡ 0) (marks even) inner.1));
       }
     where
       last : (P : ℕ → Type 0) → ((k : ℕ) → k < n → P k) → P n → (k : ℕ) → k < n + 1 → P k

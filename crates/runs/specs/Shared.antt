@@ -5,10 +5,9 @@
 --
 -- What the private functions promise each other:
 --
---   NodeNumber t at x       x is the word's byte and the map at an offset of the bytes t, as one number
 --   SharedBlock a b i j n   the n bytes are the same, and words stand at the even ones
 --
-use Rattle.std.specs.Prelude.{◌≡◌, List, ℕ, ◌+◌, ◌*◌, ◌/◌, ◌%◌, ◌<◌, ◌≤◌, length, get_or}
+use Rattle.std.specs.Prelude.{◌≡◌, List, ℕ, ◌+◌, ◌*◌, ◌%◌, ◌<◌, ◌≤◌, length, get_or}
 use Rattle.wire.specs.Map.{map_bytes}
 use Rattle.wire.specs.TermBytes.{first_name_byte}
 
@@ -24,10 +23,6 @@ pub record SharedWords (a b : List ℕ) (i j n : ℕ) : Type 0 where
   pub inside_first : i ≤ length a → i + n ≤ length a
   pub inside_second : j ≤ length b → j + n ≤ length b
   pub each : (k : ℕ) → k < nodes → SharedNode a b (i + (1 + map_bytes) * k) (j + (1 + map_bytes) * k)
-
-pub record NodeNumber (t : List ℕ) (at x : ℕ) : Type 0 where
-  pub word : x % 256 ≡ get_or t at 0
-  pub map : x / 256 ≡ get_or t (at + 1) 0
 
 pub record SharedBlock (a b : List ℕ) (i j n : ℕ) : Type 0 where
   pub same : (k : ℕ) → k < n → get_or a (i + k) 0 ≡ get_or b (j + k) 0

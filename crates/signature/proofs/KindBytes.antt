@@ -11,7 +11,8 @@ use Rattle.wire.specs.Parser.{got, stop, read_kind, read_kinds}
 use Rattle.wire.specs.VocabularyLines.{byte_at}
 use Rattle.wire.proofs.Row.{row_stopped}
 use Rattle.wire.proofs.WordsInverse.{kinds_inverse}
-use Rattle.signature.specs.declared.WordRead.TheVariants.{Whole, Ends, NoSuchKind}
+use Rattle.std.specs.Prelude.{Ok, Err}
+use Rattle.signature.specs.declared.VocabularyRefusal.TheVariants.{Ends, NoSuchKind}
 use Rattle.signature.specs.Loading.{KindsRead}
 
 module _ (k : ℕ) where
@@ -46,19 +47,19 @@ module _ (v : List ℕ) (at k : ℕ) where
   kinds_at_stopped n i m r h s a e =
       sym (kinds_stopped k n i m (drop at v) r h (rw length-drop (omega arith)) (kinds-drop i a) (rw drop-drop e))
 
-  pub kinds-read_whole : (n : ℕ) → at + n ≤ length v → KindsAt n → KindsRead v at n k (Whole n)
+  pub kinds-read_whole : (n : ℕ) → at + n ≤ length v → KindsAt n → KindsRead v at n k (Ok n)
   kinds-read_whole n h a = record {
     reads = sym (kinds-whole k n (drop at v) (rw length-drop (omega arith)) (kinds-drop n a) ∙ rw drop-drop);
     inside = (refl, h);
   }
 
-  pub kinds_read_ends : (n i : ℕ) → i < n → length v ≤ at + i → at + i ≤ length v → KindsAt i → KindsRead v at n k Ends
+  pub kinds_read_ends : (n i : ℕ) → i < n → length v ≤ at + i → at + i ≤ length v → KindsAt i → KindsRead v at n k (Err (Ends (length v)))
   kinds_read_ends n i h m s a = record {
     reads = kinds_at_stopped n i 3 [] h s a (rw (drop_of_length-le v m));
-    inside = tt;
+    inside = refl;
   }
 
-  pub kinds_read_unknown : (n i : ℕ) → i < n → at + i < length v → KindsAt i → k ≤ byte_at v (at + i) → KindsRead v at n k (NoSuchKind (at + i))
+  pub kinds_read_unknown : (n i : ℕ) → i < n → at + i < length v → KindsAt i → k ≤ byte_at v (at + i) → KindsRead v at n k (Err (NoSuchKind (at + i)))
   kinds_read_unknown n i h m a e = record {
     reads = kinds_at_stopped n i 4 (drop (at + i) v) h (omega arith) a (rw (drop-cons v (at + i) 0 m, le-ltb (byte_at v (at + i)) k e));
     inside = m;

@@ -18,20 +18,20 @@ use Rattle.signature.proofs.Rounds.{entry-covers, places_are}
 abbrev kinds_at : List ℕ → ℕ → ℕ → List ℕ
 kinds_at v n f = (get_or (records_in v n) f no_word).kinds
 
-pub record Moved (v : List ℕ) (n w e : ℕ) (marked before after : List ℕ) : Type 0 where
+pub record Moved (v : List ℕ) (n w e : ℕ) (marked : List Bool) (before after : List ℕ) : Type 0 where
   pub passed : w ≤ n
   pub size : length after ≡ length before
   pub behind : (f : ℕ) → w ≤ f → get_or after f 0 ≡ get_or before f 0
   pub done : (l : List ℕ) → Marks marked l → (f : ℕ) → f < w → get_or after f 0 ≡ cond (covered (kinds_at v n f) l) (get_or before f 0) e
 
-pub moved_none : (v : List ℕ) (n e : ℕ) (marked before : List ℕ) → Moved v n 0 e marked before before
+pub moved_none : (v : List ℕ) (n e : ℕ) (marked : List Bool) (before : List ℕ) → Moved v n 0 e marked before before
 moved_none v n e marked before = record { passed = omega arith; size = refl; behind = λ f h. refl; done = λ l m f h. absurd (omega arith) }
 
-pub moved_all : (v : List ℕ) (n w e : ℕ) (marked before after : List ℕ) → Moved v n w e marked before after → n ≤ w → MovesWords v n e marked before after
+pub moved_all : (v : List ℕ) (n w e : ℕ) (marked : List Bool) (before after : List ℕ) → Moved v n w e marked before after → n ≤ w → MovesWords v n e marked before after
 moved_all v n w e marked before after m h =
     (m.size, (λ f b. m.behind f (let p = m.passed in omega arith)), λ l k f b. m.done l k f (omega arith))
 
-module _ (v : List ℕ) (n : ℕ) (o r c : List ℕ) (reach : FilledCounted v n o r c) (w e : ℕ) (b : w < n) (marked before after : List ℕ)
+module _ (v : List ℕ) (n : ℕ) (o r c : List ℕ) (reach : FilledCounted v n o r c) (w e : ℕ) (b : w < n) (marked : List Bool) (before after : List ℕ)
     (moved : Moved v n w e marked before after) (t : Bool) (covers : PlacesCovered v (get_or o w 0) (get_or c w 0) marked t) where
   covered-here : (l : List ℕ) → Marks marked l → t ≡ covered (kinds_at v n w) l
   covered-here l marks = entry-covers v _ _ _ _ _ (reach.filled.entries w b) (places_are v n o r c reach w b) marked l t covers marks

@@ -1,5 +1,5 @@
 -- RecordBytes: reading one record, from what stands at its bytes.
-use mathlib.Core.Path.{◌≡◌, sym, ◌∙◌, ap, subst}
+use mathlib.Core.Path.{◌≡◌, refl, sym, ◌∙◌, ap, subst}
 use mathlib.Core.List.{List, ◌∷◌}
 use Prim.Native.Nat.{ℕ, suc, ◌+◌, ◌<◌, ◌≤◌}
 use native.Mathlib.Omega.{arith}
@@ -17,8 +17,9 @@ use Rattle.wire.proofs.Inverse.{ReadOff}
 use Rattle.wire.proofs.WordsInverse.{word_inverse}
 use Rattle.maps.specs.Reading.{map_at}
 use Rattle.maps.proofs.Reading.{map_at_lem}
-use Rattle.signature.specs.declared.WordRead.{WordRead}
-use Rattle.signature.specs.declared.WordRead.TheVariants.{Whole, Ends, NoSuchKind}
+use Rattle.std.specs.Prelude.{Result, Ok, Err}
+use Rattle.signature.specs.declared.VocabularyRefusal.{VocabularyRefusal}
+use Rattle.signature.specs.declared.VocabularyRefusal.TheVariants.{Head, WordCount, Ends, NoSuchKind, Continues}
 use Rattle.signature.specs.Loading.{kinds_got, KindsRead, word_got, RecordRead}
 use Rattle.signature.proofs.KindBytes.{kinds-read_whole}
 
@@ -30,16 +31,16 @@ module _ (v : List ℕ) (at k : ℕ) where
   first_byte : at < length v → drop at v ≡ byte_at v at ∷ drop (at + 1) v
   first_byte h = byte-cons v at (at + 1) (omega arith) h
 
-  pub record_missing : length v ≤ at → RecordRead v at k Ends
-  record_missing h = record { reads = rw (drop_of_length-le v h); inside = tt }
+  pub record_missing : length v ≤ at → RecordRead v at k (Err (Ends (length v)))
+  record_missing h = record { reads = rw (drop_of_length-le v h); inside = refl }
 
-  pub record-unknown : at < length v → k ≤ byte_at v at → RecordRead v at k (NoSuchKind at)
+  pub record-unknown : at < length v → k ≤ byte_at v at → RecordRead v at k (Err (NoSuchKind at))
   record-unknown h e = record { reads = rw (first_byte h, le-ltb (byte_at v at) k e); inside = h }
 
-  pub record-short : at < length v → byte_at v at < k → length v ≤ at + 1 → RecordRead v at k Ends
+  pub record-short : at < length v → byte_at v at < k → length v ≤ at + 1 → RecordRead v at k (Err (Ends (length v)))
   record-short h e s = record {
     reads = rw (first_byte h, lt-ltb (byte_at v at) k e, drop_of_length-le v s);
-    inside = tt;
+    inside = refl;
   }
 
   -- Behind a result kind and a map stand the kinds of the places.
@@ -61,13 +62,13 @@ module _ (v : List ℕ) (at k : ℕ) where
     word_read_lem = rw (first_byte (omega arith), lt-ltb (byte_at v at) k result, map-cons)
 
     -- The record is read as its kinds are.
-    reads_as : (r : WordRead) → KindsRead v (at + 2) n k r → and_then (kinds_got v (at + 2) r) with_kinds ≡ read_word k (drop at v)
+    reads_as : (r : Result ℕ VocabularyRefusal) → KindsRead v (at + 2) n k r → and_then (kinds_got v (at + 2) r) with_kinds ≡ read_word k (drop at v)
     reads_as r read = sym (word_read_lem ∙ ap (λ g. and_then g with_kinds) (sym read.reads))
 
-    behind-map : (r : WordRead) → KindsRead v (at + 2) n k r → RecordRead v at k r
+    behind-map : (r : Result ℕ VocabularyRefusal) → KindsRead v (at + 2) n k r → RecordRead v at k r
     unfolding n with_kinds
-    behind-map (Whole m) read =
-        let reads : word_got v at (Whole m) ≡ read_word k (drop at v) = reads_as (Whole m) read in
+    behind-map (Ok m) read =
+        let reads : word_got v at (Ok m) ≡ read_word k (drop at v) = reads_as (Ok m) read in
         record {
           reads = reads;
           inside = (
@@ -75,15 +76,18 @@ module _ (v : List ℕ) (at k : ℕ) where
             (subst (ReadOff encode_word (WordInOrder k) (drop at v)) (sym reads) ((word_inverse k).read (drop at v) (all_drop (λ b. b < 256) at v (bytes_of v small)))).0,
           );
         }
-    behind-map Ends read = record { reads = reads_as Ends read; inside = tt }
-    behind-map (NoSuchKind q) read = record { reads = reads_as (NoSuchKind q) read; inside = read.inside }
+    behind-map (Err Head) read = absurd read.inside
+    behind-map (Err WordCount) read = absurd read.inside
+    behind-map (Err (Ends q)) read = record { reads = reads_as (Err (Ends q)) read; inside = read.inside }
+    behind-map (Err (NoSuchKind q)) read = record { reads = reads_as (Err (NoSuchKind q)) read; inside = read.inside }
+    behind-map (Err (Continues q)) read = absurd read.inside
 
     -- The map as it is read.
     module _ (map : ℕ) (is : map ≡ map_at v (at + 1)) where
-      pub record-kinds : (r : WordRead) (places : ℕ) → places ≡ ones (flags map) → KindsRead v (at + 2) places k r → RecordRead v at k r
+      pub record-kinds : (r : Result ℕ VocabularyRefusal) (places : ℕ) → places ≡ ones (flags map) → KindsRead v (at + 2) places k r → RecordRead v at k r
       unfolding n
       record-kinds r places counted read = behind-map r (rw (counted, is) at read)
 
       -- A map of no places.
-      pub record-bare : map ≡ 0 → RecordRead v at k (Whole 0)
-      record-bare e = record-kinds (Whole 0) 0 (sym (ap (λ m. ones (flags m)) e)) (kinds-read_whole v (at + 2) k 0 (omega arith) (below_none _))
+      pub record-bare : map ≡ 0 → RecordRead v at k (Ok 0)
+      record-bare e = record-kinds (Ok 0) 0 (sym (ap (λ m. ones (flags m)) e)) (kinds-read_whole v (at + 2) k 0 (omega arith) (below_none _))

@@ -27,19 +27,16 @@ use Rattle.signature.specs.Answers.{vocabulary_refused}
 use Rattle.signature.specs.Tables.{offsets_of, results_of, maps_of, place_count, counts_of, laid, Laid}
 use Rattle.signature.specs.declared.VocabularyRefusal.{VocabularyRefusal}
 use Rattle.signature.specs.declared.VocabularyRefusal.TheVariants as R
-use Rattle.signature.specs.declared.VocabularyAnswer.{VocabularyAnswer}
-use Rattle.signature.specs.declared.VocabularyAnswer.TheVariants.{Accepted, Refused}
-use Rattle.signature.specs.declared.WordRead.{WordRead}
-use Rattle.signature.specs.declared.WordRead.TheVariants.{Whole, Ends, NoSuchKind}
+use Rattle.std.specs.Prelude.{⊤, Result, Ok, Err}
 use Rattle.signature.specs.Loading.{RecordRead, word_at, records_in, checks_reply, Entry, Filled, Sized, WordsLoaded, WordsCounted}
 use Rattle.signature.proofs.Laid.{laid_more, map_range_more}
 use Rattle.signature.proofs.WordsUpTo.{UpTo, words-up_to}
 
 -- What is answered of a record, by the answer's case.
-pub record_as : {v : List ℕ} {at k j : ℕ} {r s : WordRead} → RecordRead v at k r → r ≡ s → k ≡ j → RecordRead v at j s
+pub record_as : {v : List ℕ} {at k j : ℕ} {r s : Result ℕ VocabularyRefusal} → RecordRead v at k r → r ≡ s → k ≡ j → RecordRead v at j s
 record_as read e d = rw (e, d) at read
 
-pub whole-inside : {v : List ℕ} {at k : ℕ} {r : WordRead} {p : ℕ} → RecordRead v at k r → r ≡ Whole p → at + 2 + p ≤ length v
+pub whole-inside : {v : List ℕ} {at k : ℕ} {r : Result ℕ VocabularyRefusal} {p : ℕ} → RecordRead v at k r → r ≡ Ok p → at + 2 + p ≤ length v
 whole-inside read e = (record_as read e refl).inside.0
 
 -- The tables o₀, r₀, m₀ and c₀ were lent.
@@ -80,14 +77,14 @@ tabled_none v n o r m c h = record {
 -- What loading the records answers.
 module _ {v : List ℕ} {n : ℕ} {o₀ r₀ m₀ o r m : List ℕ} where
   loaded_refused : (why : VocabularyRefusal) → vocabulary_refused why ≡ checks_reply v n → Laid v (records_in v n) o₀ r₀ m₀ o r m →
-      WordsLoaded v n o₀ r₀ m₀ o r m (Refused why)
+      WordsLoaded v n o₀ r₀ m₀ o r m (Err why)
   loaded_refused why h holds = record {
     refused = λ other d. let same : why ≡ other = cc in rw same at h;
     filled = λ d. absurd (let z : ◌≡◌ {A = ℕ} 0 1 = cc in omega arith);
     holds = holds;
   }
 
-  loaded_filled : Filled v n o r m → Laid v (records_in v n) o₀ r₀ m₀ o r m → WordsLoaded v n o₀ r₀ m₀ o r m Accepted
+  loaded_filled : Filled v n o r m → Laid v (records_in v n) o₀ r₀ m₀ o r m → WordsLoaded v n o₀ r₀ m₀ o r m (Ok tt)
   loaded_filled filled holds = record {
     refused = λ why d. absurd (let z : ◌≡◌ {A = ℕ} 0 1 = cc in omega arith);
     filled = λ d. filled;
@@ -137,27 +134,28 @@ module _ (v : List ℕ) (n w at : ℕ) (o₀ r₀ m₀ c₀ o r m c : List ℕ) 
   laid_as e = rw e tabled.holds
 
   -- What loading the records gives: answer and tables.
-  abbrev RecordsGive : VocabularyAnswer → Type 0
+  abbrev RecordsGive : Result ⊤ VocabularyRefusal → Type 0
   RecordsGive a = WordsLoaded v n o₀ r₀ m₀ o r m a × WordsCounted v n c₀ c
 
   counts_as : records_in v n ≡ tabled.words → WordsCounted v n c₀ c
   counts_as e = rw e tabled.counts
 
-  ends-reply : (b : w < n) → RecordRead v at (byte_at v 0) Ends → vocabulary_refused (R.Ends (length v)) ≡ checks_reply v n
-  ends-reply b read = rw (stopped 3 [] b read.reads) (ap (refused 3 0) (omega arith))
-
-  pub tabled-ends : w < n → RecordRead v at (byte_at v 0) Ends → RecordsGive (Refused (R.Ends (length v)))
-  tabled-ends b read =
-      let words = stopped_words 3 [] b read.reads in
-      (loaded_refused (R.Ends (length v)) (ends-reply b read) (laid_as words), counts_as words)
-
-  unknown-reply : (q : ℕ) → w < n → RecordRead v at (byte_at v 0) (NoSuchKind q) → vocabulary_refused (R.NoSuchKind q) ≡ checks_reply v n
-  unknown-reply q b read = rw (stopped 4 (drop q v) b read.reads) (ap (refused 4 0) (omega (arith, read.inside, length-drop q v)))
-
-  pub tabled-unknown : (q : ℕ) → w < n → RecordRead v at (byte_at v 0) (NoSuchKind q) → RecordsGive (Refused (R.NoSuchKind q))
-  tabled-unknown q b read =
-      let words = stopped_words 4 (drop q v) b read.reads in
-      (loaded_refused (R.NoSuchKind q) (unknown-reply q b read) (laid_as words), counts_as words)
+  -- The record at `at` is not in order.
+  pub tabled-stops : w < n → (why : VocabularyRefusal) → RecordRead v at (byte_at v 0) (Err why) → RecordsGive (Err why)
+  tabled-stops b R.Head read = absurd read.inside
+  tabled-stops b R.WordCount read = absurd read.inside
+  tabled-stops b (R.Ends q) read =
+      let words = stopped_words 3 [] b read.reads in (
+        loaded_refused (R.Ends q) (rw (stopped 3 [] b read.reads) (ap (refused 3 0) (read.inside ∙ omega arith))) (laid_as words),
+        counts_as words,
+      )
+  tabled-stops b (R.NoSuchKind q) read =
+      let words = stopped_words 4 (drop q v) b read.reads in (
+        loaded_refused (R.NoSuchKind q)
+            (rw (stopped 4 (drop q v) b read.reads) (ap (refused 4 0) (omega (arith, read.inside, length-drop q v)))) (laid_as words),
+        counts_as words,
+      )
+  tabled-stops b (R.Continues q) read = absurd read.inside
 
   module _ (h : n ≤ w) where
     done : w ≡ n
@@ -172,7 +170,7 @@ module _ (v : List ℕ) (n w at : ℕ) (o₀ r₀ m₀ c₀ o r m c : List ℕ) 
     continues_reply : at < length v → vocabulary_refused (R.Continues at) ≡ checks_reply v n
     continues_reply b = rw (all, drop-cons v at 0 b) (ap (refused 5 0) (omega (arith, length-drop (suc at) v)))
 
-    pub tabled_continues : at < length v → RecordsGive (Refused (R.Continues at))
+    pub tabled_continues : at < length v → RecordsGive (Err (R.Continues at))
     tabled_continues b = (loaded_refused (R.Continues at) (continues_reply b) (laid_as all_words), counts_as all_words)
 
     filled : length v ≤ at → Filled v n o r m
@@ -182,7 +180,7 @@ module _ (v : List ℕ) (n w at : ℕ) (o₀ r₀ m₀ c₀ o r m c : List ℕ) 
       entries = λ f c. rw all_words (tabled.entries f (omega arith));
     }
 
-    pub tabled-filled : length v ≤ at → RecordsGive Accepted
+    pub tabled-filled : length v ≤ at → RecordsGive (Ok tt)
     tabled-filled b = (loaded_filled (filled b) (laid_as all_words), counts_as all_words)
 
   -- The tables have an entry for the next record.
@@ -195,7 +193,7 @@ module _ (v : List ℕ) (n w at : ℕ) (o₀ r₀ m₀ c₀ o r m c : List ℕ) 
   )
 
   -- One record more.
-  module _ (few : n ≤ 96) (sized : Sized o₀ r₀ m₀ c₀) (b : w < n) (p : ℕ) (read : RecordRead v at (byte_at v 0) (Whole p)) where
+  module _ (few : n ≤ 96) (sized : Sized o₀ r₀ m₀ c₀) (b : w < n) (p : ℕ) (read : RecordRead v at (byte_at v 0) (Ok p)) where
     room : w < 96
     room = omega arith
 

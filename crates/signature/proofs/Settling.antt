@@ -10,7 +10,7 @@
 --   refused-settled, loaded_settled    what loading a vocabulary for a listing gives, by what loading it gives
 --
 use mathlib.Core.Path.{◌≡◌, refl, sym, ◌∙◌, ap, subst}
-use mathlib.Core.Bool.{cond}
+use mathlib.Core.Bool.{Bool, cond}
 use mathlib.Core.List.{List, []}
 use Prim.Native.Nat.{ℕ, ◌≤◌}
 use native.Mathlib.Omega.{arith}
@@ -31,13 +31,8 @@ use Rattle.signature.specs.Answers.{vocabulary_refused, vocabulary_numbers}
 use Rattle.signature.specs.Tables.{vocabulary_in, Tabled, Tables, PlacesCounted, LoadedFrom}
 use Rattle.signature.specs.Settled.{found_kind, Settles, SettledFrom}
 use Rattle.signature.specs.declared.VocabularyRefusal.{VocabularyRefusal}
-use Rattle.signature.specs.declared.VocabularyAnswer.{VocabularyAnswer}
-use Rattle.signature.specs.declared.VocabularyAnswer.TheVariants.{Accepted}
-use Rattle.signature.specs.declared.SettledAnswer.{SettledAnswer}
-use Rattle.signature.specs.declared.SettledAnswer.TheVariants.{Loaded, Refused}
+use Rattle.std.specs.Prelude.{⊤, Option, Some, None, Result, Ok, Err}
 use Rattle.signature.specs.Loading.{records_in, vocabulary_of, Filled, FilledCounted, Marks, Searched, MovesWords}
-use Rattle.signature.specs.declared.Missing.{Missing}
-use Rattle.signature.specs.declared.Missing.TheVariants.{Kind, Nothing}
 use Rattle.signature.proofs.WordsUpTo.{UpTo, words-up_to}
 
 module _ (v : List ℕ) (bytes : IsBytes v) (n : ℕ) (o r m : List ℕ) (tables : Tables v n o r m) where
@@ -85,24 +80,24 @@ module _ (v : List ℕ) (bytes : IsBytes v) (n : ℕ) (o r m : List ℕ) (tables
     let e = held.in_order.few_words in omega (arith, tables.tabled.words),
   )
 
-  module _ (marked : List ℕ) (x : Missing) (searched : Searched v n marked x) where
-    found : {y : Missing} → x ≡ y → found_kind y ≡ first_empty (signature W)
+  module _ (marked : List Bool) (x : Option ℕ) (searched : Searched v n marked x) where
+    found : {y : Option ℕ} → x ≡ y → found_kind y ≡ first_empty (signature W)
     found e = ap found_kind (sym e) ∙ searched.found ∙ ap (λ U. first_empty (signature U)) tables-vocabulary
 
-    marks : (k : ℕ) → x ≡ Kind k → Marks marked (reached (signature W) W.kinds)
+    marks : (k : ℕ) → x ≡ Some k → Marks marked (reached (signature W) W.kinds)
     marks k e = subst (λ (U : Vocabulary). Marks marked (reached (signature U) U.kinds)) tables-vocabulary (searched.marks k e)
 
-    pub settles-same : x ≡ Nothing → Settles v n r r Nothing
+    pub settles-same : x ≡ None → Settles v n r r x
     settles-same e =
-        let q : first_empty (signature W) ≡ found_kind Nothing = sym (found e) in
-        record {
+        let q : first_empty (signature W) ≡ found_kind None = sym (found e) in
+        subst (Settles v n r r) (sym e) (record {
           of = record { tabled = subst (λ U. Tabled U n r) (sym (settled_same W q)) tables.tabled; found = sym q };
           behind = λ f b. refl;
-        }
+        })
 
-    pub settles-moved : (k : ℕ) → x ≡ Kind k → (s : List ℕ) → MovesWords v n k marked r s → Settles v n r s (Kind k)
+    pub settles-moved : (k : ℕ) → x ≡ Some k → (s : List ℕ) → MovesWords v n k marked r s → Settles v n r s (Some k)
     settles-moved k e s moves =
-        let q : first_empty (signature W) ≡ found_kind (Kind k) = sym (found e) in
+        let q : first_empty (signature W) ≡ found_kind (Some k) = sym (found e) in
         let S : Signature = signature W in
         record {
           of = record {
@@ -126,8 +121,8 @@ pub counted_as : {W : Vocabulary} {c : List ℕ} {n n' : ℕ} → n ≡ n' → P
 counted_as {W} {c} e counted = subst (λ n. PlacesCounted W n c) (sym e) counted
 
 module _ {v o r m s o' r' m' : List ℕ} where
-  pub refused-settled : {a : VocabularyAnswer} {why : VocabularyRefusal} → LoadedFrom v o r m o' r' m' a → vocabulary_refused why ≡ vocabulary_reply v →
-      SettledFrom v o r m s o' r' m' s (Refused why)
+  pub refused-settled : {a : Result ⊤ VocabularyRefusal} {why : VocabularyRefusal} → LoadedFrom v o r m o' r' m' a → vocabulary_refused why ≡ vocabulary_reply v →
+      SettledFrom v o r m s o' r' m' s (Err why)
   refused-settled loaded told = record {
     answer = told;
     holds = loaded.holds;
@@ -136,8 +131,8 @@ module _ {v o r m s o' r' m' : List ℕ} where
     kept = λ why d. refl;
   }
 
-  pub loaded_settled : {a : VocabularyAnswer} {n : ℕ} {s' : List ℕ} {k : Missing} → LoadedFrom v o r m o' r' m' a → a ≡ Accepted →
-      n ≡ byte_at v 1 → Settles v n r' s' k → SettledFrom v o r m s o' r' m' s' (Loaded k)
+  pub loaded_settled : {a : Result ⊤ VocabularyRefusal} {n : ℕ} {s' : List ℕ} {k : Option ℕ} → LoadedFrom v o r m o' r' m' a → a ≡ Ok tt →
+      n ≡ byte_at v 1 → Settles v n r' s' k → SettledFrom v o r m s o' r' m' s' (Ok k)
   loaded_settled {n = n} {s' = s'} {k = k} loaded e number settles = record {
     answer = sym (ap vocabulary_numbers e) ∙ loaded.answer;
     holds = loaded.holds;
@@ -148,6 +143,6 @@ module _ {v o r m s o' r' m' : List ℕ} where
     kept = λ why d. absurd (let z : ◌≡◌ {A = ℕ} 0 1 = cc in omega arith);
   }
     where
-      missing_in : SettledAnswer → Missing
-      missing_in (Loaded j) = j
-      missing_in (Refused why) = Nothing
+      missing_in : Result (Option ℕ) VocabularyRefusal → Option ℕ
+      missing_in (Ok j) = j
+      missing_in (Err why) = None

@@ -14,8 +14,7 @@ use Rattle.signature.specs.Answers.{vocabulary_refused}
 use Rattle.signature.specs.Tables.{words_before, place_count, LoadedFrom, CountedFrom}
 use Rattle.signature.specs.declared.VocabularyRefusal.{VocabularyRefusal}
 use Rattle.signature.specs.declared.VocabularyRefusal.TheVariants.{Head, WordCount}
-use Rattle.signature.specs.declared.VocabularyAnswer.{VocabularyAnswer}
-use Rattle.signature.specs.declared.VocabularyAnswer.TheVariants.{Accepted, Refused}
+use Rattle.std.specs.Prelude.{⊤, Result, Ok, Err}
 use Rattle.signature.specs.Loading.{records_in, vocabulary_of, checks_in, WordsLoaded, WordsCounted}
 use Rattle.signature.proofs.Laid.{laid-at}
 
@@ -56,11 +55,11 @@ head-rest (k ∷ []) h e d = absurd (omega arith)
 head-rest (k ∷ n ∷ l) h e d = (rw (e, d), rw (e, d))
 
 -- What loading v gives: answer and tables.
-abbrev Gives : (v o r m c o' r' m' c' : List ℕ) → VocabularyAnswer → Type 0
+abbrev Gives : (v o r m c o' r' m' c' : List ℕ) → Result ⊤ VocabularyRefusal → Type 0
 Gives v o r m c o' r' m' c' a = LoadedFrom v o r m o' r' m' a × CountedFrom v c c' a
 
 module _ (v o r m c : List ℕ) where
-  refused-head : (n q : ℕ) (why : VocabularyRefusal) → HeadRefused v n q → vocabulary_refused why ≡ refused n 0 q → Gives v o r m c o r m c (Refused why)
+  refused-head : (n q : ℕ) (why : VocabularyRefusal) → HeadRefused v n q → vocabulary_refused why ≡ refused n 0 q → Gives v o r m c o r m c (Err why)
   refused-head n q why e h = (
     record {
       answer = rw e.0 h;
@@ -70,15 +69,15 @@ module _ (v o r m c : List ℕ) where
     record { holds = rw e.1 refl; counted = λ d. absurd (let z : ◌≡◌ {A = ℕ} 0 1 = cc in omega arith) },
   )
 
-  pub refused-short : length v < 2 → Gives v o r m c o r m c (Refused Head)
+  pub refused-short : length v < 2 → Gives v o r m c o r m c (Err Head)
   refused-short h = refused-head 1 0 Head (head-short v h) refl
 
   module _ (long : 2 ≤ length v) where
-    pub refused-kinds : outside 1 16 (byte_at v 0) ≡ true → Gives v o r m c o r m c (Refused Head)
+    pub refused-kinds : outside 1 16 (byte_at v 0) ≡ true → Gives v o r m c o r m c (Err Head)
     refused-kinds h = refused-head 1 0 Head (head-kinds v long h) refl
 
     module _ (some : 1 ≤ byte_at v 0) (few : byte_at v 0 ≤ 16) (n : ℕ) (number : n ≡ byte_at v 1) where
-      pub refused-words : outside 1 96 n ≡ true → Gives v o r m c o r m c (Refused WordCount)
+      pub refused-words : outside 1 96 n ≡ true → Gives v o r m c o r m c (Err WordCount)
       refused-words h = refused-head 2 1 WordCount (head-words v long (in_range 1 16 (byte_at v 0) some few) (rw number at h)) refl
 
       -- What is left to lines 3 to 5.
@@ -88,9 +87,9 @@ module _ (v o r m c : List ℕ) where
             rw number
             (head-rest v long (in_range 1 16 (byte_at v 0) some few) (in_range 1 96 (byte_at v 1) (omega arith) (omega arith)))
 
-        pub loaded_rest : (o' r' m' c' : List ℕ) (a : VocabularyAnswer) → WordsLoaded v n o r m o' r' m' a → WordsCounted v n c c' →
+        pub loaded_rest : (o' r' m' c' : List ℕ) (a : Result ⊤ VocabularyRefusal) → WordsLoaded v n o r m o' r' m' a → WordsCounted v n c c' →
             Gives v o r m c o' r' m' c' a
-        loaded_rest o' r' m' c' (Refused why) loaded counts = (
+        loaded_rest o' r' m' c' (Err why) loaded counts = (
           record {
             answer = rw left.0 (loaded.refused why refl);
             holds = rw left.1 loaded.holds;
@@ -98,7 +97,7 @@ module _ (v o r m c : List ℕ) where
           },
           record { holds = rw left.1 counts; counted = λ d. absurd (let z : ◌≡◌ {A = ℕ} 0 1 = cc in omega arith) },
         )
-        loaded_rest o' r' m' c' Accepted loaded counts =
+        loaded_rest o' r' m' c' (Ok u) loaded counts =
             let filled = loaded.filled refl in
             let whole : read_vocabulary v ≡ accept (vocabulary_of v n) = left.0 ∙ ap (line5 v (byte_at v 0)) filled.read in
             let number_of : byte_at v 1 ≡ length (records_in v n) = sym number ∙ sym filled.count in (

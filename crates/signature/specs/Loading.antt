@@ -1,5 +1,7 @@
 -- Loading: what the functions that load a vocabulary promise each other; no public contract cites it.
 --
+--   record_stop v why      what is wrong in a record, as a Got
+--   StopInside v why       the place that it names is v's length, or lies within v
 --   kinds_got v at r        what read_kinds answers of the kind bytes at an offset, as a Got
 --   KindsInside            the place that read_kinds names lies within v
 --   KindsRead              it is what read_kinds gives, and lies within v
@@ -33,7 +35,7 @@
 --   Prepared v n o r c     v is accepted, its records stand in the tables o and r, with some table of maps, and c has the numbers
 --                          of their places
 --
-use Rattle.std.specs.Prelude.{◌≡◌, Bool, false, not, cond, List, [], map, ℕ, ◌+◌, ◌<◌, ◌≤◌, eqb, length, get_or, take, drop}
+use Rattle.std.specs.Prelude.{⊤, Option, Some, Result, Ok, Err, ◌≡◌, Bool, false, not, cond, List, [], map, ℕ, ◌+◌, ◌<◌, ◌≤◌, length, get_or, take, drop}
 use Rattle.terms.specs.Lists.{occurs, range, keep}
 use Rattle.terms.specs.Signature.{Symbol, Signature}
 use Rattle.terms.specs.Emptiness.{covered, grow, reached, first, first_empty}
@@ -48,47 +50,51 @@ use Rattle.signature.specs.Answers.{vocabulary_refused}
 use Rattle.signature.specs.Tables.{vocabulary_in, words_up_to, counts_of, laid, Laid, Tables, PlacesCounted}
 use Rattle.signature.specs.Settled.{found_kind}
 use Rattle.signature.specs.declared.VocabularyRefusal.{VocabularyRefusal}
-use Rattle.signature.specs.declared.VocabularyAnswer.{VocabularyAnswer}
-use Rattle.signature.specs.declared.VocabularyAnswer.TheVariants.{Accepted, Refused}
-use Rattle.signature.specs.declared.WordRead.{WordRead}
-use Rattle.signature.specs.declared.WordRead.TheVariants.{Whole, Ends, NoSuchKind}
-use Rattle.signature.specs.declared.Missing.{Missing}
-use Rattle.signature.specs.declared.Missing.TheVariants.{Kind}
+use Rattle.signature.specs.declared.VocabularyRefusal.TheVariants.{Head, WordCount, Ends, NoSuchKind, Continues}
 
--- read_kinds
+-- read_kinds, read_word
 
-abbrev pub kinds_got : List ℕ → ℕ → WordRead → Got (List ℕ)
-kinds_got v at (Whole n) = got (take n (drop at v)) (drop (at + n) v)
-kinds_got v at Ends = stop 3 []
-kinds_got v at (NoSuchKind q) = stop 4 (drop q v)
+-- Lines 3 and 4 alone are found in a record.
+abbrev pub record_stop : {A : Type 0} → List ℕ → VocabularyRefusal → Got A
+record_stop v Head = stop 1 []
+record_stop v WordCount = stop 2 []
+record_stop v (Ends q) = stop 3 []
+record_stop v (NoSuchKind q) = stop 4 (drop q v)
+record_stop v (Continues q) = stop 5 []
+
+abbrev pub StopInside : List ℕ → VocabularyRefusal → Type 0
+StopInside v Head = ⊥
+StopInside v WordCount = ⊥
+StopInside v (Ends q) = q ≡ length v
+StopInside v (NoSuchKind q) = q < length v
+StopInside v (Continues q) = ⊥
+
+abbrev pub kinds_got : List ℕ → ℕ → Result ℕ VocabularyRefusal → Got (List ℕ)
+kinds_got v at (Ok n) = got (take n (drop at v)) (drop (at + n) v)
+kinds_got v at (Err why) = record_stop v why
 
 -- The n kinds from the offset `at` on, or the byte that is no kind, lie within v.
-abbrev pub KindsInside : List ℕ → ℕ → ℕ → WordRead → Type 0
-KindsInside v at n (Whole m) = (m ≡ n) × (at + n ≤ length v)
-KindsInside v at n Ends = Unit {0}
-KindsInside v at n (NoSuchKind q) = q < length v
+abbrev pub KindsInside : List ℕ → ℕ → ℕ → Result ℕ VocabularyRefusal → Type 0
+KindsInside v at n (Ok m) = (m ≡ n) × (at + n ≤ length v)
+KindsInside v at n (Err why) = StopInside v why
 
-pub record KindsRead (v : List ℕ) (at n kinds : ℕ) (r : WordRead) : Type 0 where
+pub record KindsRead (v : List ℕ) (at n kinds : ℕ) (r : Result ℕ VocabularyRefusal) : Type 0 where
   pub reads : kinds_got v at r ≡ read_kinds kinds n (drop at v)
   pub inside : KindsInside v at n r
-
--- read_word
 
 -- The word whose record stands at an offset and has n places.
 abbrev pub word_at : List ℕ → ℕ → ℕ → Word
 word_at v at n = record { result = byte_at v at; place_map = map_at v (at + 1); kinds = take n (drop (at + (1 + map_bytes)) v) }
 
-abbrev pub word_got : List ℕ → ℕ → WordRead → Got Word
-word_got v at (Whole n) = got (word_at v at n) (drop (at + (1 + map_bytes) + n) v)
-word_got v at Ends = stop 3 []
-word_got v at (NoSuchKind q) = stop 4 (drop q v)
+abbrev pub word_got : List ℕ → ℕ → Result ℕ VocabularyRefusal → Got Word
+word_got v at (Ok n) = got (word_at v at n) (drop (at + (1 + map_bytes) + n) v)
+word_got v at (Err why) = record_stop v why
 
-abbrev pub RecordInside : List ℕ → ℕ → ℕ → WordRead → Type 0
-RecordInside v at kinds (Whole n) = (at + (1 + map_bytes) + n ≤ length v) × WordInOrder kinds (word_at v at n)
-RecordInside v at kinds Ends = Unit {0}
-RecordInside v at kinds (NoSuchKind q) = q < length v
+abbrev pub RecordInside : List ℕ → ℕ → ℕ → Result ℕ VocabularyRefusal → Type 0
+RecordInside v at kinds (Ok n) = (at + (1 + map_bytes) + n ≤ length v) × WordInOrder kinds (word_at v at n)
+RecordInside v at kinds (Err why) = StopInside v why
 
-pub record RecordRead (v : List ℕ) (at kinds : ℕ) (r : WordRead) : Type 0 where
+pub record RecordRead (v : List ℕ) (at kinds : ℕ) (r : Result ℕ VocabularyRefusal) : Type 0 where
   pub reads : word_got v at r ≡ read_word kinds (drop at v)
   pub inside : RecordInside v at kinds r
 
@@ -125,9 +131,9 @@ pub record Sized (o r m c : List ℕ) : Type 0 where
   pub counts : length c ≡ most_words
 
 -- The tables before and after.
-pub record WordsLoaded (v : List ℕ) (n : ℕ) (o r m o' r' m' : List ℕ) (a : VocabularyAnswer) : Type 0 where
-  pub refused : (why : VocabularyRefusal) → a ≡ Refused why → vocabulary_refused why ≡ checks_reply v n
-  pub filled : a ≡ Accepted → Filled v n o' r' m'
+pub record WordsLoaded (v : List ℕ) (n : ℕ) (o r m o' r' m' : List ℕ) (a : Result ⊤ VocabularyRefusal) : Type 0 where
+  pub refused : (why : VocabularyRefusal) → a ≡ Err why → vocabulary_refused why ≡ checks_reply v n
+  pub filled : a ≡ Ok tt → Filled v n o' r' m'
   pub holds : Laid v (records_in v n) o r m o' r' m'
 
 -- The table before and after.
@@ -136,15 +142,15 @@ WordsCounted v n c c' = c' ≡ laid (counts_of (records_in v n)) c
 
 -- covered, places_covered, mark_round, first_missing
 
-pub record Marks (marked l : List ℕ) : Type 0 where
+pub record Marks (marked : List Bool) (l : List ℕ) : Type 0 where
   pub size : length marked ≡ 16
-  pub each : (k : ℕ) → k < 16 → eqb (get_or marked k 0) 0 ≡ not (occurs k l)
+  pub each : (k : ℕ) → k < 16 → get_or marked k false ≡ occurs k l
 
 -- Each of the n bytes from an offset on may be marked.
 abbrev pub Markable : List ℕ → ℕ → ℕ → Type 0
 Markable v at n = (j : ℕ) → j < n → byte_at v (at + j) < 16
 
-abbrev pub Covers : List ℕ → ℕ → ℕ → List ℕ → Bool → Type 0
+abbrev pub Covers : List ℕ → ℕ → ℕ → List Bool → Bool → Type 0
 Covers v at n marked r = (l : List ℕ) → Marks marked l → r ≡ covered (take n (drop at v)) l
 
 pub record FilledCounted (v : List ℕ) (n : ℕ) (o r c : List ℕ) : Type 0 where
@@ -157,21 +163,21 @@ pub record PlacesInside (v : List ℕ) (o k : ℕ) : Type 0 where
   pub inside : o + (1 + map_bytes) + k ≤ length v
   pub markable : Markable v (o + (1 + map_bytes)) k
 
-abbrev pub PlacesCovered : List ℕ → ℕ → ℕ → List ℕ → Bool → Type 0
+abbrev pub PlacesCovered : List ℕ → ℕ → ℕ → List Bool → Bool → Type 0
 PlacesCovered v o k marked r = Covers v (o + (1 + map_bytes)) k marked r
 
 abbrev pub symbols_in : List ℕ → ℕ → List Symbol
 symbols_in v n = map symbol_of (records_in v n)
 
 -- One round of marking follows one round of grow.
-abbrev pub Grows : List ℕ → ℕ → List ℕ → List ℕ → Type 0
+abbrev pub Grows : List ℕ → ℕ → List Bool → List Bool → Type 0
 Grows v n before after = (l : List ℕ) → Marks before l → Marks after (grow (symbols_in v n) l)
 
-pub record Round (v : List ℕ) (n : ℕ) (before after : List ℕ) (changed : Bool) : Type 0 where
+pub record Round (v : List ℕ) (n : ℕ) (before after : List Bool) (changed : Bool) : Type 0 where
   pub grows : Grows v n before after
   pub unchanged : changed ≡ false → after ≡ before
 
-abbrev pub FirstMissing : ℕ → List ℕ → Missing → Type 0
+abbrev pub FirstMissing : ℕ → List Bool → Option ℕ → Type 0
 FirstMissing kinds marked r = (l : List ℕ) → Marks marked l → found_kind r ≡ first (keep (λ k. not (occurs k l)) (range 0 kinds))
 
 -- empty_kind, move_words
@@ -179,12 +185,12 @@ FirstMissing kinds marked r = (l : List ℕ) → Marks marked l → found_kind r
 abbrev pub signature_in : List ℕ → ℕ → Signature
 signature_in v n = signature (vocabulary_of v n)
 
-pub record Searched (v : List ℕ) (n : ℕ) (marked : List ℕ) (r : Missing) : Type 0 where
+pub record Searched (v : List ℕ) (n : ℕ) (marked : List Bool) (r : Option ℕ) : Type 0 where
   pub found : found_kind r ≡ first_empty (signature_in v n)
-  pub marks : (k : ℕ) → r ≡ Kind k → Marks marked (reached (signature_in v n) (byte_at v 0))
+  pub marks : (k : ℕ) → r ≡ Some k → Marks marked (reached (signature_in v n) (byte_at v 0))
 
 -- The table before and after.
-abbrev pub MovesWords : List ℕ → ℕ → ℕ → List ℕ → List ℕ → List ℕ → Type 0
+abbrev pub MovesWords : List ℕ → ℕ → ℕ → List Bool → List ℕ → List ℕ → Type 0
 MovesWords v n e marked before after =
     (length after ≡ length before) ×
     ((f : ℕ) → n ≤ f → get_or after f 0 ≡ get_or before f 0) ×

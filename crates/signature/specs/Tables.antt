@@ -22,7 +22,7 @@
 --                       serve to read its records
 --   CountedFrom v       what loading v leaves in a table of counts, for every v; where v is accepted these are its words'
 --
-use Rattle.std.specs.Prelude.{◌≡◌, cond, List, [], ◌∷◌, ◌++◌, map, ℕ, zero, suc, ◌+◌, ◌<◌, ◌≤◌, length, get_or, take, drop}
+use Rattle.std.specs.Prelude.{⊤, Result, Ok, ◌≡◌, cond, List, [], ◌∷◌, ◌++◌, map, ℕ, zero, suc, ◌+◌, ◌<◌, ◌≤◌, length, get_or, take, drop}
 use Rattle.terms.specs.Lists.{range}
 use Rattle.wire.specs.Map.{map_bytes, flags, ones}
 use Rattle.wire.specs.Parser.{Reading, accept, refuse, Got, got, stop, read_word, read_vocabulary}
@@ -31,8 +31,7 @@ use Rattle.wire.specs.Vocabulary.{Word, Vocabulary, word, most_kinds, most_words
 use Rattle.wire.specs.VocabularyLines.{byte_at, record_at}
 use Rattle.wire.specs.CheckComputed.{vocabulary_reply}
 use Rattle.signature.specs.Answers.{vocabulary_numbers}
-use Rattle.signature.specs.declared.VocabularyAnswer.{VocabularyAnswer}
-use Rattle.signature.specs.declared.VocabularyAnswer.TheVariants.{Accepted}
+use Rattle.signature.specs.declared.VocabularyRefusal.{VocabularyRefusal}
 
 abbrev pub accepted_in : Reading Vocabulary → Vocabulary
 accepted_in (accept W) = W
@@ -100,12 +99,12 @@ pub record PlacesCounted (W : Vocabulary) (n : ℕ) (counts : List ℕ) : Type 0
   pub words : n ≡ length W.words
   pub count : (f : ℕ) → f < n → get_or counts f 0 ≡ place_count (word W f)
 
-pub record LoadedFrom (v o r m o' r' m' : List ℕ) (a : VocabularyAnswer) : Type 0 where
+pub record LoadedFrom (v o r m o' r' m' : List ℕ) (a : Result ⊤ VocabularyRefusal) : Type 0 where
   pub answer : vocabulary_numbers a ≡ vocabulary_reply v
   pub holds : Laid v (words_before v) o r m o' r' m'
-  pub tables : a ≡ Accepted → Tables v (byte_at v 1) o' r' m'
+  pub tables : a ≡ Ok tt → Tables v (byte_at v 1) o' r' m'
 
 -- The table before and after.
-pub record CountedFrom (v c c' : List ℕ) (a : VocabularyAnswer) : Type 0 where
+pub record CountedFrom (v c c' : List ℕ) (a : Result ⊤ VocabularyRefusal) : Type 0 where
   pub holds : c' ≡ laid (counts_of (words_before v)) c
-  pub counted : a ≡ Accepted → PlacesCounted (vocabulary_in v) (byte_at v 1) c'
+  pub counted : a ≡ Ok tt → PlacesCounted (vocabulary_in v) (byte_at v 1) c'

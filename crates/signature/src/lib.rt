@@ -12,7 +12,7 @@ ghost use Rattle.signature.specs.Settled.{Settles, SettledFrom};
 ghost use Rattle.signature.specs.Loading.{KindsRead, RecordRead, Sized, WordsLoaded, WordsCounted, Markable, Covers, FilledCounted, PlacesInside, PlacesCovered, Round, FirstMissing, Searched, MovesWords, Prepared};
 
 // Why a vocabulary is refused, with the place where it is not fixed: document 01, lines 1 to 5.
-#[derive(Drop)]
+#[derive(Clone, Copy)]
 pub enum VocabularyRefusal {
     Head,
     WordCount,
@@ -21,82 +21,46 @@ pub enum VocabularyRefusal {
     Continues(usize),
 }
 
-#[derive(Drop)]
-pub enum VocabularyAnswer {
-    Accepted,
-    Refused(VocabularyRefusal),
-}
-
-// A record that is in order and has so many places, or what is wrong with it.
-#[derive(Drop)]
-enum WordRead {
-    Whole(usize),
-    Ends,
-    NoSuchKind(usize),
-}
-
-// The lowest kind without complete situations, where there is one.
-#[derive(Clone, Copy)]
-pub enum Missing {
-    Kind(usize),
-    Nothing,
-}
-
-// A vocabulary is loaded, with such a kind or without, or is refused.
-#[derive(Drop)]
-pub enum SettledAnswer {
-    Loaded(Missing),
-    Refused(VocabularyRefusal),
-}
-
-fn wide(b: u8) -> usize
-    ensures { result ≡ b }
-{
-    b as usize
-}
-
 // Reads n kind bytes from an offset on.
-fn read_kinds(v: &[u8], at: usize, n: usize, kinds: u8) -> WordRead
+fn read_kinds(v: &[u8], at: usize, n: usize, kinds: u8) -> Result<usize, VocabularyRefusal>
     requires { at ≤ length v.now }
     ensures { KindsRead v.now at n kinds result }
 {
-    let mut i = 0;
-    while i < n {
+    for i in 0..n {
         if v.len() <= at + i {
-            return WordRead::Ends;
+            return Err(VocabularyRefusal::Ends(v.len()));
         }
         if kinds <= v[at + i] {
-            return WordRead::NoSuchKind(at + i);
+            return Err(VocabularyRefusal::NoSuchKind(at + i));
         }
-        i += 1;
     }
-    WordRead::Whole(n)
+    Ok(n)
 }
 
-// Reads the record at an offset. Here a word's places are counted.
-fn read_word(v: &[u8], at: usize, kinds: u8) -> WordRead
+// Reads the record at an offset, and counts the word's places.
+fn read_word(v: &[u8], at: usize, kinds: u8) -> Result<usize, VocabularyRefusal>
     requires { at ≤ length v.now }
     ensures { RecordRead v.now at kinds result }
 {
     if v.len() <= at {
-        return WordRead::Ends;
+        return Err(VocabularyRefusal::Ends(v.len()));
     }
     if kinds <= v[at] {
-        return WordRead::NoSuchKind(at);
+        return Err(VocabularyRefusal::NoSuchKind(at));
     }
     if v.len() - at < maps::NODE {
-        return WordRead::Ends;
+        return Err(VocabularyRefusal::Ends(v.len()));
     }
     let map = maps::read(v, at + 1);
     if map == 0 {
-        return WordRead::Whole(0);
+        return Ok(0);
     }
     let places = maps::count(map);
     read_kinds(v, at + maps::NODE, places as usize, kinds)
 }
 
 // Reads all records into the tables, and sees that nothing follows the last. An array that is lent on as a slice is known by
-// its length.
+// its length. Kept: four tables, as `load` and `load_settled` are lent them and promise the entries of each, old and new.
 fn read_words(
     v: &[u8],
     words: usize,
@@ -105,7 +69,7 @@ fn read_words(
     results: &mut [u8],
     maps: &mut [u8],
     counts: &mut [u8],
-) -> VocabularyAnswer
+) -> Result<(), VocabularyRefusal>
     requires in_bounds { 2 ≤ length v.now }
     requires kinds_value { kinds ≡ byte_at v.now 0 }
     requires words_bound { words ≤ 96 }
@@ -114,43 +78,30 @@ fn read_words(
     ensures words_counted { WordsCounted v.now words counts.old counts.new }
 {
     let mut at = 2;
-    let mut w = 0;
-    while w < words {
-        match read_word(v, at, kinds) {
-            WordRead::Whole(places) => {
-                offsets[w] = at as u16;
-                results[w] = v[at];
-                maps[w] = maps::read(v, at + 1);
-                counts[w] = places as u8;
-                at = at + maps::NODE + places;
-                w += 1;
-            }
-            WordRead::Ends => {
-                return VocabularyAnswer::Refused(VocabularyRefusal::Ends(v.len()));
-            }
-            WordRead::NoSuchKind(q) => {
-                return VocabularyAnswer::Refused(VocabularyRefusal::NoSuchKind(q));
-            }
-        }
+    for w in 0..words {
+        let places = read_word(v, at, kinds)?;
+        offsets[w] = at as u16;
+        results[w] = v[at];
+        maps[w] = maps::read(v, at + 1);
+        counts[w] = places as u8;
+        at = at + maps::NODE + places;
     }
     if at < v.len() {
-        return VocabularyAnswer::Refused(VocabularyRefusal::Continues(at));
+        return Err(VocabularyRefusal::Continues(at));
     }
-    VocabularyAnswer::Accepted
+    Ok(())
 }
 
 // Whether each of n kind bytes from an offset on is marked.
-fn covered(v: &[u8], at: usize, n: usize, marked: &[u8; 16]) -> bool
+fn covered(v: &[u8], at: usize, n: usize, marked: &[bool; 16]) -> bool
     requires n_in_bounds { at + n ≤ length v.now }
     requires markable { Markable v.now at n }
     ensures { Covers v.now at n marked.now result }
 {
-    let mut i = 0;
-    while i < n {
-        if marked[wide(v[at + i])] == 0 {
+    for i in 0..n {
+        if !marked[v[at + i] as usize] {
             return false;
         }
-        i += 1;
     }
     true
 }
@@ -161,29 +112,26 @@ fn places_covered<'a>(
     w: usize,
     offsets: &'a [u16; 96],
     counts: &'a [u8; 96],
-    marked: &[u8; 16],
+    marked: &[bool; 16],
 ) -> bool
     requires w_bound { w < 96 }
     requires places_inside { PlacesInside v.now (get_or offsets.now w 0) (get_or counts.now w 0) }
     ensures { PlacesCovered v.now (get_or offsets.now w 0) (get_or counts.now w 0) marked.now result }
 {
-    let n = counts[w];
-    if n == 0 {
-        return true;
-    }
-    let at = offsets[w] as usize;
-    covered(v, at + maps::NODE, n as usize, marked)
+    let n = counts[w] as usize;
+    n == 0 || covered(v, offsets[w] as usize + maps::NODE, n, marked)
 }
 
 // One round: marks the result kind of every word whose places' kinds are marked, and says whether one was marked. A word of a
-// marked kind adds nothing.
+// marked kind adds nothing. Kept: the tables apart from one another, here and in `empty_kind`; `move_words` knows the same of
+// the table that it changes in place of `results`, and `settle` is told a stronger fact, so that one struct would not serve them.
 fn mark_round<'a>(
     v: &[u8],
     words: usize,
     offsets: &'a [u16; 96],
     results: &'a [u8; 96],
     counts: &'a [u8; 96],
-    marked: &mut [u8; 16],
+    marked: &mut [bool; 16],
 ) -> bool
     requires words_bound { words ≤ 96 }
     requires v_bound { byte_at v.now 0 ≤ 16 }
@@ -191,33 +139,22 @@ fn mark_round<'a>(
     ensures { Round v.now words marked.old marked.new result }
 {
     let mut changed = false;
-    let mut w = 0;
-    while w < words {
-        let kind = wide(results[w]);
-        if marked[kind] == 0 {
-            if places_covered(v, w, offsets, counts, marked) {
-                marked[kind] = 1;
-                changed = true;
-            }
+    for w in 0..words {
+        let kind = results[w] as usize;
+        if !marked[kind] && places_covered(v, w, offsets, counts, marked) {
+            marked[kind] = true;
+            changed = true;
         }
-        w += 1;
     }
     changed
 }
 
 // The lowest kind that is not marked.
-fn first_missing(kinds: usize, marked: &[u8; 16]) -> Missing
+fn first_missing(kinds: usize, marked: &[bool; 16]) -> Option<usize>
     requires { kinds ≤ 16 }
     ensures { FirstMissing kinds marked.now result }
 {
-    let mut k = 0;
-    while k < kinds {
-        if marked[k] == 0 {
-            return Missing::Kind(k);
-        }
-        k += 1;
-    }
-    Missing::Nothing
+    marked[..kinds].iter().position(|&m| !m)
 }
 
 // The lowest kind without complete situations: as many rounds as there are kinds mark all others. A round takes no
@@ -229,29 +166,21 @@ fn empty_kind<'a>(
     offsets: &'a [u16; 96],
     results: &'a [u8; 96],
     counts: &'a [u8; 96],
-    marked: &mut [u8; 16],
-) -> Missing
+    marked: &mut [bool; 16],
+) -> Option<usize>
     requires words_bound { words ≤ 96 }
     requires kinds_bound { kinds ≤ 16 }
     requires kinds_value { kinds ≡ byte_at v.now 0 }
     requires filled_counted { FilledCounted v.now words offsets.now results.now counts.now }
     ensures { Searched v.now words marked.new result }
 {
-    *marked = [0u8; 16];
-    let mut round = 0;
-    while round < kinds {
+    *marked = [false; 16];
+    for _round in 0..kinds {
         let changed = mark_round(v, words, offsets, results, counts, marked);
-        match first_missing(kinds, marked) {
-            Missing::Nothing => {
-                return Missing::Nothing;
-            }
-            Missing::Kind(k) => {
-                if !changed {
-                    return Missing::Kind(k);
-                }
-            }
+        let missing = first_missing(kinds, marked);
+        if missing.is_none() || !changed {
+            return missing;
         }
-        round += 1;
     }
     first_missing(kinds, marked)
 }
@@ -263,7 +192,7 @@ fn move_words<'a>(
     e: u8,
     offsets: &'a [u16; 96],
     counts: &'a [u8; 96],
-    marked: &[u8; 16],
+    marked: &[bool; 16],
     settled: &mut [u8],
 )
     requires settled_len { length settled.old ≡ 96 }
@@ -272,12 +201,10 @@ fn move_words<'a>(
     requires filled_counted { FilledCounted v.now words offsets.now settled.old counts.now }
     ensures { MovesWords v.now words e marked.now settled.old settled.new }
 {
-    let mut w = 0;
-    while w < words {
+    for w in 0..words {
         if !places_covered(v, w, offsets, counts, marked) {
             settled[w] = e;
         }
-        w += 1;
     }
 }
 
@@ -291,22 +218,20 @@ fn settle<'a>(
     results: &'a [u8; 96],
     counts: &'a [u8; 96],
     settled: &mut [u8; 96],
-) -> Missing
+) -> Option<usize>
     requires words_bound { words ≤ 96 }
     requires kinds_bound { kinds ≤ 16 }
     requires kinds_value { kinds ≡ byte_at v.now 0 }
     requires prepared { Prepared v.now words offsets.now results.now counts.now }
     ensures { Settles v.now words results.now settled.new result }
 {
-    let mut marked = [0u8; 16];
+    let mut marked = [false; 16];
     *settled = *results;
-    match empty_kind(v, kinds, words, offsets, results, counts, &mut marked) {
-        Missing::Nothing => Missing::Nothing,
-        Missing::Kind(e) => {
-            move_words(v, words, e as u8, offsets, counts, &marked, settled);
-            Missing::Kind(e)
-        }
+    let missing = empty_kind(v, kinds, words, offsets, results, counts, &mut marked);
+    if let Some(e) = missing {
+        move_words(v, words, e as u8, offsets, counts, &marked, settled);
     }
+    missing
 }
 
 // Reads a vocabulary into the lent tables, one of which has the number of each word's places, or says why it is refused. Each
@@ -317,26 +242,20 @@ fn load_counted(
     results: &mut [u8; 96],
     maps: &mut [u8; 96],
     counts: &mut [u8; 96],
-) -> VocabularyAnswer
+) -> Result<(), VocabularyRefusal>
     ensures loaded_from { LoadedFrom v.now offsets.old results.old maps.old offsets.new results.new maps.new result }
     ensures counted_from { CountedFrom v.now counts.old counts.new result }
 {
     if v.len() < 2 {
-        return VocabularyAnswer::Refused(VocabularyRefusal::Head);
+        return Err(VocabularyRefusal::Head);
     }
     let kinds = v[0];
-    let words = wide(v[1]);
-    if kinds < 1 {
-        return VocabularyAnswer::Refused(VocabularyRefusal::Head);
+    let words = v[1] as usize;
+    if kinds < 1 || 16 < kinds {
+        return Err(VocabularyRefusal::Head);
     }
-    if 16 < kinds {
-        return VocabularyAnswer::Refused(VocabularyRefusal::Head);
-    }
-    if words < 1 {
-        return VocabularyAnswer::Refused(VocabularyRefusal::WordCount);
-    }
-    if 96 < words {
-        return VocabularyAnswer::Refused(VocabularyRefusal::WordCount);
+    if words < 1 || 96 < words {
+        return Err(VocabularyRefusal::WordCount);
     }
     read_words(v, words, kinds, offsets, results, maps, counts)
 }
@@ -347,7 +266,7 @@ pub fn load(
     offsets: &mut [u16; 96],
     results: &mut [u8; 96],
     maps: &mut [u8; 96],
-) -> VocabularyAnswer
+) -> Result<(), VocabularyRefusal>
     ensures { LoadedFrom v.now offsets.old results.old maps.old offsets.new results.new maps.new result }
 {
     let mut counts = [0u8; 96];
@@ -363,26 +282,18 @@ pub fn load_settled(
     results: &mut [u8; 96],
     maps: &mut [u8; 96],
     settled: &mut [u8; 96],
-) -> SettledAnswer
+) -> Result<Option<usize>, VocabularyRefusal>
     ensures { SettledFrom v.now offsets.old results.old maps.old settled.old offsets.new results.new maps.new settled.new result }
 {
     let mut counts = [0u8; 96];
-    match load_counted(v, offsets, results, maps, &mut counts) {
-        VocabularyAnswer::Refused(why) => SettledAnswer::Refused(why),
-        VocabularyAnswer::Accepted => SettledAnswer::Loaded(settle(
-            v,
-            wide(v[0]),
-            wide(v[1]),
-            offsets,
-            results,
-            &counts,
-            settled,
-        )),
-    }
+    load_counted(v, offsets, results, maps, &mut counts)?;
+    let kinds = usize::from(v[0]);
+    let words = usize::from(v[1]);
+    Ok(settle(v, kinds, words, offsets, results, &counts, settled))
 }
 
 // Checks a vocabulary.
-pub fn check_vocabulary(vocabulary: &[u8]) -> VocabularyAnswer
+pub fn check_vocabulary(vocabulary: &[u8]) -> Result<(), VocabularyRefusal>
     ensures vocabulary_promise { VocabularyPromise vocabulary.now (vocabulary_numbers result) }
     ensures result_value { vocabulary_numbers result ≡ vocabulary_reply vocabulary.now }
 {

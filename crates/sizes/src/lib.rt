@@ -1,27 +1,15 @@
 // How large a listing is, by the bytes of its pattern.
 #![tactic(auto)]
 
-ghost use Rattle.std.specs.Prelude.{◌≡◌, ◌≤◌, ◌<◌, min, length};
+ghost use Rattle.std.specs.Prelude.{◌≡◌, ◌≤◌, ◌<◌, length};
 ghost use Rattle.kinds.specs.Kinds.{others_in, Tallied};
 ghost use Rattle.sizes.specs.Sizes.{Summed, Measured};
 
 // The number of a listing's entries and of its bytes.
-#[derive(Drop)]
+#[derive(Clone, Copy)]
 pub struct Size {
     pub entries: usize,
     pub bytes: usize,
-}
-
-fn wide(b: u8) -> usize
-    ensures { result ≡ b }
-{
-    b as usize
-}
-
-fn least(a: usize, b: usize) -> usize
-    ensures { result ≡ min a b }
-{
-    if a < b { a } else { b }
 }
 
 // How many other words have the result kind of f: all that the tally has of this kind but f.
@@ -31,8 +19,8 @@ fn sibling_count(f: usize, words: usize, results: &[u8; 96], counts: &[u8; 16]) 
     requires tallied { Tallied words results.now counts.now }
     ensures { result ≡ length (others_in words results.now f) }
 {
-    let kind = wide(results[f]) % 16;
-    wide(counts[kind]) - 1
+    let kind = results[f] as usize % 16;
+    counts[kind] as usize - 1
 }
 
 // Sums up in one pass over the bytes: each word has an entry for every other word of its kind, as long as what stands
@@ -45,9 +33,10 @@ fn measure_front(p: &[u8], words: usize, results: &[u8; 96]) -> Size
     let counts = kinds::tally(words, results);
     let mut entries = 0;
     let mut bytes = 0;
+    // Kept: a word takes two bytes and a name one, so no iterator counts the offset, which goes into the sum.
     let mut at = 1;
     while at < p.len() {
-        let f = wide(p[at]);
+        let f = p[at] as usize;
         if f < words {
             let n = sibling_count(f, words, results, &counts);
             entries += n;
@@ -65,6 +54,6 @@ fn measure_front(p: &[u8], words: usize, results: &[u8; 96]) -> Size
 pub fn measure(p: &[u8], words: usize, results: &[u8; 96]) -> Size
     ensures { Measured words results.now p.now result.entries result.bytes }
 {
-    let end = least(p.len(), 4096);
-    measure_front(&p[..end], least(words, 96), results)
+    let end = p.len().min(4096);
+    measure_front(&p[..end], words.min(96), results)
 }

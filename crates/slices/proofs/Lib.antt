@@ -1,7 +1,4 @@
--- Two lists compared block by block.
-pub mod Blocks
--- One list copied into another, byte by byte and in blocks.
+-- One list copied into another.
 pub mod Copying
-pub mod Moving
 -- Bytes written one behind the other.
 pub mod Writing

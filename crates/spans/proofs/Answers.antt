@@ -10,6 +10,8 @@ use mathlib.Core.Path.{◌≡◌, refl, sym, ap}
 use mathlib.Core.List.{List}
 use Prim.Native.Nat.{ℕ, ◌≤◌}
 use native.Mathlib.Omega.{arith}
+use mathlib.Core.Bool.{true, false}
+use Rattle.std.specs.Prelude.{Result, Ok, Err}
 use Rattle.wire.specs.Reply.{Reply, accepted, refused}
 use Rattle.signature.specs.Answers.{vocabulary_refused}
 use Rattle.signature.specs.declared.VocabularyRefusal.{VocabularyRefusal}
@@ -20,10 +22,8 @@ use Rattle.reader.specs.declared.refusal.TermRefusal.TheVariants as T
 use Rattle.inputs.specs.Answers.{inputs_refused}
 use Rattle.inputs.specs.declared.InputsRefusal.{InputsRefusal}
 use Rattle.inputs.specs.declared.InputsRefusal.TheVariants as I
-use Rattle.inputs.specs.declared.InputsAnswer.TheVariants as A
 use Rattle.inputs.proofs.Answers.{inputs_answers_differ}
 use Rattle.spans.specs.Answers.{SpansAnswersDiffer}
-use Rattle.spans.specs.declared.SpansAnswer.TheVariants.{Fits, Differs, Refused}
 
 -- The line of a refusal: 0 where there is none.
 abbrev pub line_of : Reply → ℕ
@@ -64,12 +64,12 @@ pub not_accepted : (why : InputsRefusal) (l : List ℕ) → inputs_refused why �
 not_accepted why l e = let line : line_of (inputs_refused why) ≡ 0 = ap line_of e in omega (arith, (inputs-line why).some)
 
 pub spans_answers_differ : SpansAnswersDiffer
-spans_answers_differ Fits Fits e = refl
-spans_answers_differ Fits Differs e = absurd (let z : ◌≡◌ {A = ℕ} 0 1 = cc in omega arith)
-spans_answers_differ Fits (Refused why) e = absurd (not_accepted why _ (sym e))
-spans_answers_differ Differs Fits e = absurd (let z : ◌≡◌ {A = ℕ} 0 1 = cc in omega arith)
-spans_answers_differ Differs Differs e = refl
-spans_answers_differ Differs (Refused why) e = absurd (not_accepted why _ (sym e))
-spans_answers_differ (Refused why) Fits e = absurd (not_accepted why _ e)
-spans_answers_differ (Refused why) Differs e = absurd (not_accepted why _ e)
-spans_answers_differ (Refused why) (Refused other) e = let same = inputs_answers_differ (A.Refused why) (A.Refused other) e in cc
+spans_answers_differ (Ok true) (Ok true) e = refl
+spans_answers_differ (Ok true) (Ok false) e = absurd (let z : ◌≡◌ {A = ℕ} 0 1 = cc in omega arith)
+spans_answers_differ (Ok true) (Err why) e = absurd (not_accepted why _ (sym e))
+spans_answers_differ (Ok false) (Ok true) e = absurd (let z : ◌≡◌ {A = ℕ} 0 1 = cc in omega arith)
+spans_answers_differ (Ok false) (Ok false) e = refl
+spans_answers_differ (Ok false) (Err why) e = absurd (not_accepted why _ (sym e))
+spans_answers_differ (Err why) (Ok true) e = absurd (not_accepted why _ e)
+spans_answers_differ (Err why) (Ok false) e = absurd (not_accepted why _ e)
+spans_answers_differ (Err why) (Err other) e = let same : ◌≡◌ {A = Result (Unit {0}) InputsRefusal} (Err why) (Err other) = inputs_answers_differ (Err why) (Err other) e in cc

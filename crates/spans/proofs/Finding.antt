@@ -1,24 +1,27 @@
 -- Finding: the answers of finding the spans are those of match for a blank table.
 --
---   Lent v p s                            the lent inputs are bytes
+--   Lent v p s, lent_bytes                the lent inputs are bytes
 --   judged-clear, inputs_read             inputs that are not refused are read
 --   Ensured                               what finding the spans ensures of a reply
 --   find_refused, find_fits, find_differs    it does so of each answer
 --   walked_as                             what a walk says, by its answer
 --
-use mathlib.Core.Path.{◌≡◌, refl, sym, ap, ◌∙◌, subst}
+use mathlib.Core.Path.{◌≡◌, refl, sym, ap, subst}
 use mathlib.Core.Bool.{Bool, true, false, true≢false, false≢true}
 use mathlib.Core.List.{List, []}
 use mathlib.Core.Option.{Option, some, none}
 use Prim.Native.Nat.{ℕ}
 use native.Mathlib.Omega.{arith}
-use lib.ListN.{replicate}
+use mir.Syntax.{w8}
+use mir.Val.{Fits}
+use lib.ListN.{get_or, replicate}
 use Rattle.terms.specs.Filling.{Filling}
 use Rattle.terms.specs.Matcher.{matcher}
-use Rattle.wire.specs.Reply.{Reply, accepted, refused, IsBytes}
+use Rattle.wire.specs.Reply.{Reply, accepted, IsBytes}
 use Rattle.wire.specs.Matching.{Inputs, yes, no}
 use Rattle.wire.specs.Effect.{Effect, HasEffect}
-use Rattle.wire.specs.MatchComputed.{Judged, clear, refusal, judged, clear_reply, span_table, verdict, matched_with, matched}
+use Rattle.wire.specs.MatchComputed.{Judged, clear, refusal, judged, clear_reply, verdict, matched_with, matched}
+use Rattle.wire.proofs.Bytes.{bytes_of}
 use Rattle.wire.proofs.Inputs.{clear_is_held}
 use Rattle.inputs.specs.Answers.{inputs_refused}
 use Rattle.inputs.specs.declared.InputsRefusal.{InputsRefusal}
@@ -30,6 +33,13 @@ pub record Lent (v p s : List ℕ) : Type 0 where
   pub vocabulary : IsBytes v
   pub pattern : IsBytes p
   pub situation : IsBytes s
+
+pub lent_bytes : (v p s : List ℕ) → ((i : ℕ) → Fits w8 (get_or v i 0)) → ((i : ℕ) → Fits w8 (get_or p i 0)) → ((i : ℕ) → Fits w8 (get_or s i 0)) → Lent v p s
+lent_bytes v p s h k l = record {
+  vocabulary = bytes_of v (λ i. (h i).fits);
+  pattern = bytes_of p (λ i. (k i).fits);
+  situation = bytes_of s (λ i. (l i).fits);
+}
 
 judged-clear : (j : Judged) → accepted [] ≡ clear_reply j → (x : Inputs) × (j ≡ clear x)
 judged-clear (clear x) e = (x, refl)

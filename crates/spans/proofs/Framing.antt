@@ -1,7 +1,7 @@
 -- Framing: the turns of a walk through a word that has open places, over the frames of the words around a place.
 --
 --   Framing p s frames spans from x depth i j    what is due is as the frame x and those below it say; the word began at `from`
---   framing_begins, framing_ends, framing_fails  the frame of the word itself; none any more; there is no filling
+--   framing_begins, framing_ends                 the frame of the word itself; none any more
 --   framing_rest                                 the pattern ends
 --   Turn, Written                                a turn that takes the lowest place off the frame; one at a written place
 --   turn_leave, turn_gap, turn_opened            the frame is done; there is no place; it is open
@@ -13,7 +13,7 @@
 use mathlib.Core.Path.{◌≡◌, refl, sym, ap, ap₂, ◌∙◌, subst, subst₂}
 use mathlib.Core.Bool.{Bool, true, false}
 use mathlib.Core.List.{List, [], ◌∷◌, ◌++◌}
-use Prim.Native.Nat.{ℕ, zero, suc, ◌+◌, ◌-◌, ◌%◌, ◌<◌, ◌≤◌}
+use Prim.Native.Nat.{ℕ, suc, ◌+◌, ◌-◌, ◌%◌, ◌<◌, ◌≤◌}
 use native.Mathlib.Numerals.{add-one}
 use native.Mathlib.Omega.{arith}
 use lib.Dec.{eqb, ltb}
@@ -25,7 +25,7 @@ use Rattle.wire.specs.Matching.{Inputs}
 use Rattle.wire.proofs.GroundBytes.{joined}
 use Rattle.spans.specs.Frames.{map_at, written_in, places_in, TwoMaps}
 use Rattle.spans.specs.Spans.{Standing, ends}
-use Rattle.spans.specs.Walking.{InputsRead, Walked, WalkedOver, Side, AtSharedWord, WordWalked, AtPlace, PlacePassed}
+use Rattle.spans.specs.Walking.{InputsRead, Walked, WalkedOver, Side, AtSharedWord, WordBehind, AtPlace, PlacePassed, PlaceStopped}
 use Rattle.spans.proofs.Joined.{chained}
 use Rattle.spans.proofs.Marks.{Mark, marks, marks_of, marks_due, marks_none, Shifted, marks-place, marks-gap, marks-kept, marks-again, Marked}
 use Rattle.spans.proofs.Side.{Facing, facing, facing_inside, stands, turn_open}
@@ -46,10 +46,6 @@ pub record Framing (p s frames spans : List ℕ) (from due depth i j : ℕ) : Ty
   pub entries : length frames ≡ 32
   pub further : from < i
 
--- There is no filling.
-pub framing_fails : {p s after : List ℕ} {from r k : ℕ} → Walked p s after false → r ≡ 0 → WordWalked p s after from r k
-framing_fails h stopped = record { no = λ e. h; further = λ d. absurd (d stopped); on = λ d. absurd (d stopped) }
-
 pub framing_begins : {p s spans : List ℕ} {from at z : ℕ} → AtSharedWord p s spans from at → TwoMaps z (map_at p from) (map_at s at) →
     Framing p s (replicate 32 0) spans from z 1 (from + (1 + map_bytes)) (at + (1 + map_bytes))
 framing_begins {p} {s} {spans} {from} {at} {z} c z-maps = record {
@@ -68,11 +64,10 @@ framing_begins {p} {s} {spans} {from} {at} {z} c z-maps = record {
 }
 
 module _ {p s frames spans : List ℕ} {from due depth i j : ℕ} (c : Framing p s frames spans from due depth i j) where
-  pub framing_ends : depth ≤ 0 → WordWalked p s spans from i j
+  pub framing_ends : depth ≤ 0 → WordBehind p s spans from i j
   framing_ends none = record {
-    no = λ e. absurd (let further = c.further in omega arith);
-    further = λ d. c.further;
-    on = λ d a.
+    further = c.further;
+    on = λ a.
         let zero : depth ≡ 0 = omega arith in
         let over = c.over a in
         record {
@@ -84,11 +79,10 @@ module _ {p s frames spans : List ℕ} {from due depth i j : ℕ} (c : Framing p
   }
 
   -- Nothing but open places is due.
-  pub framing_rest : length p ≤ i → WordWalked p s spans from i j
+  pub framing_rest : length p ≤ i → WordBehind p s spans from i j
   framing_rest ends = record {
-    no = λ e. absurd (let further = c.further in omega arith);
-    further = λ d. c.further;
-    on = λ d a.
+    further = c.further;
+    on = λ a.
         let over = c.over a in
         record { terms = over.terms; grounds = over.grounds; side = over.side; shut = λ l. absurd (omega arith) };
   }
@@ -208,48 +202,48 @@ module _ {p s frames spans : List ℕ} {from due depth i j y : ℕ} (c : Written
   pub word_room : get_or p i 0 < 128 → InputsRead p s → depth < 32
   word_room low a = let deep = (turn_word low a).deep in omega arith
 
-  module _ {after : List ℕ} {r k : ℕ} (passed : PlacePassed p s spans after i j r k) where
-    pub turn_stopped : r ≡ 0 → Walked p s after false
-    turn_stopped stopped a = go (ltb (get_or p i 0) 128) refl
-      where
-        go : (b : Bool) → ltb (get_or p i 0) 128 ≡ b → WalkedOver a.inputs after false
-        go true e =
-            let low = ltb-true (get_or p i 0) 128 e in
-            walked_none (word-differs (in_order a) (turn_word low a) ((passed.word low).no stopped))
-        go false e =
-            let high = ltb-false (get_or p i 0) 128 e in
-            walked_none (name_none (turn_name high a) (in_order a) (passed.name high).covered ((passed.name high).no stopped))
+  pub turn_stopped : {after : List ℕ} → PlaceStopped p s spans after i j → Walked p s after false
+  turn_stopped {after} stopped a = go (ltb (get_or p i 0) 128) refl
+    where
+      go : (b : Bool) → ltb (get_or p i 0) 128 ≡ b → WalkedOver a.inputs after false
+      go true e =
+          let low = ltb-true (get_or p i 0) 128 e in
+          walked_none (word-differs (in_order a) (turn_word low a) (stopped.word low))
+      go false e =
+          let high = ltb-false (get_or p i 0) 128 e in
+          walked_none (name_none (turn_name high a) (in_order a) (stopped.name high))
 
+  module _ {after : List ℕ} {r k : ℕ} (passed : PlacePassed p s spans after i j r k) where
     -- ---- a word
 
-    module _ (low : get_or p i 0 < 128) (goes : r ≡ 0 → ⊥) where
+    module _ (low : get_or p i 0 < 128) where
       argued : {ns : List Mark} → marks (suc depth) (map_at s j) (map_at p i) ++ marks_due y frames depth ≡ ns → (a : InputsRead p s) →
           FramingOver a.inputs p s after ns r k
       argued {ns} e a =
           let word = passed.word low in
           let at = turn_word low a in
           subst (λ l. FramingOver a.inputs p s l ns r k) (sym word.kept)
-          (subst₂ (FramingOver a.inputs p s spans ns) (sym (word.behind goes).0) (sym (word.behind goes).1)
+          (subst₂ (FramingOver a.inputs p s spans ns) (sym word.behind.0) (sym word.behind.1)
           (record {
             terms = chained at.arguments at.terms;
             grounds = joined at.parts at.grounds;
-            side = word-goes (in_order a) at (word.shared goes);
-            marked = subst (Marked (chained at.arguments at.terms)) e (word-marked (in_order a) at (word.shared goes));
+            side = word-goes (in_order a) at word.shared;
+            marked = subst (Marked (chained at.arguments at.terms)) e (word-marked (in_order a) at word.shared);
           }))
 
       pub word-later : k ≡ j + (1 + map_bytes)
-      word-later = ((passed.word low).behind goes).1
+      word-later = (passed.word low).behind.1
 
       pub turn_leaf : map_at s j ≡ 0 → Framing p s frames after from y depth r k
       turn_leaf none =
           turned c.turn (argued (ap (λ l. l ++ marks_due y frames depth) (marks_none (suc depth) (map_at s j) (map_at p i) none)))
-          (let behind = ((passed.word low).behind goes).0 in omega arith)
+          (let behind = (passed.word low).behind.0 in omega arith)
 
       pub turn_pushed : InputsRead p s → (z : ℕ) → TwoMaps z (map_at p i) (map_at s j) → Framing p s (set frames depth y) after from z (depth + 1) r k
       turn_pushed a z maps =
           let room = word_room low a in
           let further = c.turn.inv.further in
-          let behind = ((passed.word low).behind goes).0 in
+          let behind = (passed.word low).behind.0 in
           record {
             over = argued
                 (ap₂ (λ q w. marks (suc depth) q w ++ marks_due y frames depth) (sym maps.places) (sym maps.written)
@@ -268,19 +262,19 @@ module _ {p s frames spans : List ℕ} {from due depth i j y : ℕ} (c : Written
 
     -- ---- a name
 
-    module _ (high : 128 ≤ get_or p i 0) (goes : r ≡ 0 → ⊥) where
+    module _ (high : 128 ≤ get_or p i 0) where
       pub turn_named : Framing p s frames after from y depth r k
       turn_named =
           let name = passed.name high in
-          let behind = (name.behind goes).0 in
+          let behind = name.behind in
           turned c.turn (λ a.
           let at = turn_name high a in
           record {
             terms = at.terms;
             grounds = at.grounds;
-            side = subst (λ i. Side a.inputs p s after at.terms at.grounds i k) (sym behind) (name-goes at (in_order a) name.covered (name.behind goes).1);
+            side = subst (λ i. Side a.inputs p s after at.terms at.grounds i k) (sym behind) (name-goes at (in_order a) name.covered);
             marked = at.rest;
           }) (omega arith)
 
       pub part-later : InputsRead p s → j ≤ k
-      part-later a = name-later (turn_name high a) (in_order a) (passed.name high).covered ((passed.name high).behind goes).1
+      part-later a = name-later (turn_name high a) (in_order a) (passed.name high).covered

@@ -11,7 +11,7 @@ use mathlib.Core.Bool.{true, false}
 use mathlib.Core.List.{List, []}
 use Prim.Native.Nat.{ℕ, zero, suc, ◌+◌, ◌-◌, ◌*◌, ◌<◌, ◌≤◌}
 use native.Mathlib.Omega.{arith}
-use lib.ListN.{length, get_or, take, drop, length-drop}
+use lib.ListN.{length, get_or, drop, length-drop}
 use lib.Seq.{get_or-take, get_or-drop, length-take-le}
 use Rattle.terms.specs.Term.{Term, Terms, cons, Ground, gapp, Grounds, gcons}
 use Rattle.nodes.specs.Same.{SameNodes}
@@ -19,7 +19,7 @@ use Rattle.wire.specs.Map.{map_bytes}
 use Rattle.wire.specs.Vocabulary.{InOrder}
 use Rattle.wire.proofs.GroundBytes.{known-word, joined}
 use Rattle.spans.specs.Frames.{rest, map_at}
-use Rattle.spans.specs.Spans.{Covered}
+use Rattle.spans.specs.Spans.{Covered, Uncovered}
 use Rattle.spans.specs.Walking.{InputsRead, Walked, Side, Going, AtSharedWord}
 use Rattle.spans.proofs.Joined.{chained}
 use Rattle.spans.proofs.Offsets.{one_byte}
@@ -77,17 +77,17 @@ module _ {p s spans : List ℕ} {i j : ℕ} (c : Going p s spans i j) (some : i 
           let at = going-name a in
           ((rw byte (name-known at), at.side.inside_situation, a.held.situation.limits.most), rw byte (name-spans at))
 
-      module _ {after : List ℕ} {r : ℕ} (covered : Covered s spans after (b - 128) j r) where
-        here : Covered s spans after (get_or p i 0 - 128) j r
-        here = rw byte at covered
-
-        pub going-named : (r ≡ 0 → ⊥) → Going p s after (i + 1) r
-        going-named goes a =
+      module _ {after : List ℕ} where
+        pub going-named : {r : ℕ} → Covered s spans after (b - 128) j r → Going p s after (i + 1) r
+        going-named {r} covered a =
             let at = going-name a in
-            record { terms = at.terms; grounds = at.grounds; side = name-goes at (in_order a) here goes; shut = λ l. at.rest }
+            let here : Covered s spans after (get_or p i 0 - 128) j r = rw byte at covered in
+            record { terms = at.terms; grounds = at.grounds; side = name-goes at (in_order a) here; shut = λ l. at.rest }
 
-        pub going_unnamed : r ≡ 0 → Walked p s after false
-        going_unnamed none a = walked_none (name_none (going-name a) (in_order a) here none)
+        pub going_unnamed : Uncovered s spans after (b - 128) j → Walked p s after false
+        going_unnamed stopped a =
+            let here : Uncovered s spans after (get_or p i 0 - 128) j = rw byte at stopped in
+            walked_none (name_none (going-name a) (in_order a) here)
 
 -- ---- nodes that are the same
 

@@ -30,7 +30,7 @@ use Rattle.wire.specs.Matching.{Inputs, size, span_all, span_from, span_in}
 use Rattle.wire.proofs.Words.{length_symbols}
 use Rattle.wire.proofs.GroundBytes.{size-least, ground-front}
 use Rattle.wire.proofs.Spans.{cover_else}
-use Rattle.spans.specs.Spans.{with_span, span_at, Covered, bound, Told}
+use Rattle.spans.specs.Spans.{with_span, span_at, Covered, Uncovered, bound, Told}
 use Rattle.spans.specs.Walking.{Side}
 use Rattle.spans.proofs.Joined.{onward, match_first}
 use Rattle.spans.proofs.Bound.{name_new, name-again, name-other, bound-more}
@@ -208,32 +208,32 @@ module _ {x : Inputs} {p s spans : List ℕ} {n : ℕ} {ts : Terms} {g : Ground}
       go (inl h) = subst (λ a. Side x p s a ts gs (i + 1) end) (sym e) (turn_new h)
       go (inr h) = absurd (h.long zero)
 
-  module _ (in_order : InOrder W) {after : List ℕ} {r : ℕ} (covered : Covered s spans after n j r) where
-    turn_name : (r ≡ 0 → ⊥) → (r ≡ end) × Side x p s after ts gs (i + 1) end
-    turn_name goes = go cases
+  module _ (in_order : InOrder W) {after : List ℕ} where
+    turn_name : {r : ℕ} → Covered s spans after n j r → (r ≡ end) × Side x p s after ts gs (i + 1) end
+    turn_name {r} covered = go cases
       where
         go : NotYet spans (bound c.filling.named n) n ⊎ Noted W s spans (bound c.filling.named n) n → (r ≡ end) × Side x p s after ts gs (i + 1) end
         go (inl h) =
             let new = covered.new h.zero (stands c in_order) in
-            let bytes : r - j ≡ long = omega (arith, new.0) in
-            (new.0, turn_first after h.zero (new.1 ∙ ap (with_span spans n j) bytes))
+            let bytes : r - j ≡ long = omega (arith, new) in
+            (new, turn_first after h.zero ((covered.noting h.zero).1 ∙ ap (with_span spans n j) bytes))
         go (inr h) =
-            let again = covered.yes h.long goes in
+            let again = covered.yes h.long in
             let e = same-part h in_order again.1 in
             let bytes : get_or spans (2 * n + 1) 0 ≡ long = h.holding.long ∙ ap (size W) e in
             (again.0 ∙ ap (λ l. j + l) bytes, subst (λ a. Side x p s a ts gs (i + 1) end) (sym (covered.kept h.long)) (turn_again h e))
 
-    turn_none : r ≡ 0 → matcher x.pattern x.situation ≡ none
-    turn_none zero = go cases
+    turn_none : Uncovered s spans after n j → matcher x.pattern x.situation ≡ none
+    turn_none stopped = go cases
       where
         go : NotYet spans (bound c.filling.named n) n ⊎ Noted W s spans (bound c.filling.named n) n → matcher x.pattern x.situation ≡ none
-        go (inl h) = absurd (let new = (covered.new h.zero (stands c in_order)).0 in omega (arith, size-least W g))
+        go (inl h) = absurd (stopped.new h.zero (stands c in_order))
         go (inr h) =
             turn_other h (λ e.
             let bytes : get_or spans (2 * n + 1) 0 ≡ long = h.holding.long ∙ ap (size W) e in
             let here : take (get_or spans (2 * n + 1) 0) (drop j s) ≡ encode_at W (as_term g) =
             ap (take (get_or spans (2 * n + 1) 0)) c.situation ∙ take_at (encode_at W (as_term g)) (encode_all W (as_terms gs)) (get_or spans (2 * n + 1) 0) (sym bytes) in
-            covered.no h.long zero (omega (arith, situation-inside c)) (part-noted h ∙ ap (λ k. encode_at W (as_term k)) e ∙ sym here))
+            stopped.no h.long (omega (arith, situation-inside c)) (part-noted h ∙ ap (λ k. encode_at W (as_term k)) e ∙ sym here))
 
 -- ---- a name that is due
 
@@ -285,17 +285,17 @@ module _ {x : Inputs} {p s spans : List ℕ} {ms : List Mark} {i j : ℕ} (at : 
       subst (Side x p s after at.terms at.grounds (i + 1)) (sym e)
       (turn_first at.side after (rw name-here at zero) (set ∙ ap₂ (λ n l. with_span spans n j l) name-here bytes))
 
-  module _ (in_order : InOrder x.vocabulary) {after : List ℕ} {r : ℕ} (covered : Covered s spans after (get_or p i 0 - 128) j r) where
-    covered-here : Covered s spans after at.name j r
-    covered-here = subst (λ n. Covered s spans after n j r) name-here covered
+  module _ (in_order : InOrder x.vocabulary) {after : List ℕ} where
+    covered-here : {r : ℕ} → Covered s spans after (get_or p i 0 - 128) j r → (r ≡ j + size x.vocabulary at.ground) × Side x p s after at.terms at.grounds (i + 1) (j + size x.vocabulary at.ground)
+    covered-here {r} covered = turn_name at.side in_order (subst (λ n. Covered s spans after n j r) name-here covered)
 
-    pub name-goes : (r ≡ 0 → ⊥) → Side x p s after at.terms at.grounds (i + 1) r
-    name-goes goes =
-        let go = turn_name at.side in_order covered-here goes in
+    pub name-goes : {r : ℕ} → Covered s spans after (get_or p i 0 - 128) j r → Side x p s after at.terms at.grounds (i + 1) r
+    name-goes covered =
+        let go = covered-here covered in
         subst (Side x p s after at.terms at.grounds (i + 1)) (sym go.0) go.1
 
-    pub name-later : (r ≡ 0 → ⊥) → j ≤ r
-    name-later goes = omega (arith, (turn_name at.side in_order covered-here goes).0)
+    pub name-later : {r : ℕ} → Covered s spans after (get_or p i 0 - 128) j r → j ≤ r
+    name-later covered = omega (arith, (covered-here covered).0)
 
-    pub name_none : r ≡ 0 → matcher x.pattern x.situation ≡ none
-    name_none zero = turn_none at.side in_order covered-here zero
+    pub name_none : Uncovered s spans after (get_or p i 0 - 128) j → matcher x.pattern x.situation ≡ none
+    name_none stopped = turn_none at.side in_order (subst (λ n. Uncovered s spans after n j) name-here stopped)

@@ -5,10 +5,10 @@
 --   words-pattern, words-situation, pattern-fits, situation-fits    .. end in both
 --   front-named, front-covered                     a name, whose part is noted then
 --   front_ends                                     the end of both: the situation is the pattern, with the parts in place of its names
---   front_pauses, front_none, front-blank          where the walk stops, it can go on later
+--   front_pauses, front-blank          where the walk stops, it can go on later
 --
 use mathlib.Core.Path.{◌≡◌, refl, sym, ap, ap₂, ◌∙◌, subst, subst₂}
-use mathlib.Core.Bool.{false, cond}
+use mathlib.Core.Bool.{cond}
 use mathlib.Core.List.{List, [], ◌∷◌, ◌++◌, append-nil}
 use Prim.Native.Nat.{ℕ, zero, suc, ◌+◌, ◌-◌, ◌*◌, ◌/◌, ◌<◌, ◌≤◌}
 use native.Mathlib.Decide.{ℕ_discrete}
@@ -25,8 +25,7 @@ use Rattle.runs.specs.Alike.{Alike}
 use Rattle.runs.specs.Shared.{SharedWords}
 use Rattle.spans.specs.Frames.{map_at}
 use Rattle.spans.specs.Spans.{with_span, Covered}
-use Rattle.spans.specs.Walking.{Walked}
-use Rattle.spans.specs.Front.{PartsInside, PartsGiven, AtFront, Paused}
+use Rattle.spans.specs.Front.{PartsInside, PartsGiven, AtFront, PausedAt}
 use Rattle.spans.proofs.Offsets.{offset-fits}
 use Rattle.spans.proofs.Noted.{set-length, set-offset, set_elsewhere}
 use Rattle.spans.proofs.Begin.{going-begins}
@@ -119,7 +118,7 @@ module _ {p s spans : List ℕ} where
 -- ---- a name
 
 module _ {p s spans after : List ℕ} {i j r : ℕ} (c : AtFront p s spans i j) (some : i < length p) (high : 128 ≤ get_or p i 0) (low : get_or p i 0 - 128 < 64)
-    (covered : Covered s spans after (get_or p i 0 - 128) j r) (goes : r ≡ 0 → ⊥) where
+    (covered : Covered s spans after (get_or p i 0 - 128) j r) where
   abbrev name : ℕ
   name = get_or p i 0 - 128
 
@@ -134,7 +133,7 @@ module _ {p s spans after : List ℕ} {i j r : ℕ} (c : AtFront p s spans i j) 
     new = with_span spans name j (r - j)
 
     noted : after ≡ new
-    noted = (covered.noting none goes).1
+    noted = (covered.noting none).1
 
     elsewhere : (n k : ℕ) → (n ≡ name → ⊥) → k < 2 → get_or new (2 * n + k) 0 ≡ get_or spans (2 * n + k) 0
     elsewhere n k d l = set_elsewhere spans name j (r - j) c.parts.entries low (2 * n + k) (λ e. d (omega arith)) (λ e. d (omega arith))
@@ -149,8 +148,8 @@ module _ {p s spans after : List ℕ} {i j r : ℕ} (c : AtFront p s spans i j) 
           arith,
           set-offset spans name j (r - j) c.parts.entries low,
           set-length spans name j (r - j) c.parts.entries low,
-          (covered.noting none goes).0,
-          covered.inside goes,
+          (covered.noting none).0,
+          covered.inside,
         ))
     inside-new n l (no d) = omega (arith, offset-kept n d, elsewhere n 1 d (omega arith), c.parts.inside n l)
 
@@ -160,7 +159,7 @@ module _ {p s spans after : List ℕ} {i j r : ℕ} (c : AtFront p s spans i j) 
         entries = length-set (set spans (2 * name) j) (2 * name + 1) (r - j) ∙ length-set spans (2 * name) j ∙ c.parts.entries;
         inside = λ n l. inside-new n l (ℕ_discrete n name);
       });
-      later = omega (arith, (covered.noting none goes).0);
+      later = omega (arith, (covered.noting none).0);
       given = λ F given. told F (subst (λ t. PartsGiven s t F) noted given);
     }
       where
@@ -170,14 +169,14 @@ module _ {p s spans after : List ℕ} {i j r : ℕ} (c : AtFront p s spans i j) 
               let other : n ≡ name → ⊥ = (λ e. d (ap (λ n. get_or spans (2 * n + 1) 0) e ∙ none)) in
               given n (λ e. d (sym (elsewhere n 1 other (omega arith)) ∙ e))
               ∙ ap₂ (λ o l. take l (drop o s)) (offset-kept n other) (elsewhere n 1 other (omega arith)),
-          given name (λ e. omega (arith, set-length spans name j (r - j) c.parts.entries low, (covered.noting none goes).0))
+          given name (λ e. omega (arith, set-length spans name j (r - j) c.parts.entries low, (covered.noting none).0))
               ∙ ap₂ (λ o l. take l (drop o s)) (set-offset spans name j (r - j) c.parts.entries low) (set-length spans name j (r - j) c.parts.entries low),
         )
 
   kept_again : (get_or spans (2 * name + 1) 0 ≡ 0 → ⊥) → Kept
   kept_again again =
       let same = covered.kept again in
-      let stands = covered.yes again goes in
+      let stands = covered.yes again in
       record {
         parts = subst (PartsInside s) (sym same) c.parts;
         later = omega (arith, stands.0);
@@ -200,7 +199,7 @@ module _ {p s spans after : List ℕ} {i j r : ℕ} (c : AtFront p s spans i j) 
     alike = c.alike;
     parts = kept.parts;
     inside_pattern = omega arith;
-    inside_situation = covered.inside goes;
+    inside_situation = covered.inside;
     so_far = λ F given e.
         let told = kept.given F given in
         c.so_far F told.0 (
@@ -208,13 +207,13 @@ module _ {p s spans after : List ℕ} {i j r : ℕ} (c : AtFront p s spans i j) 
         ∙ ap₂ {C = List ℕ} (λ x y. x ++ y) (sym told.1) (drop-drop (r - j) j s ∙ ap (λ n. drop n s) (let n : j + (r - j) ≡ r = omega (arith, kept.later) in n) ∙ e)
         ∙ sym (ap (spliced F) (one_off p i some) ∙ spliced-name F (get_or p i 0) (drop (i + 1) p) high)
         );
-    going = going-named c.going some high refl covered goes;
+    going = going-named c.going some high refl covered;
   }
 
 pub front-covered : {p s spans after : List ℕ} {i j b r : ℕ} → AtFront p s spans i j → i < length p → get_or p i 0 / 64 ≡ 2 → b ≡ get_or p i 0 →
-    Covered s spans after (b - 128) j r → (r ≡ 0 → ⊥) → AtFront p s after (i + 1) r
-front-covered {s = s} {spans = spans} {after = after} {j = j} {r = r} c some group byte covered goes =
-    front-named c some (omega arith) (omega arith) (subst (λ b. Covered s spans after (b - 128) j r) byte covered) goes
+    Covered s spans after (b - 128) j r → AtFront p s after (i + 1) r
+front-covered {s = s} {spans = spans} {after = after} {j = j} {r = r} c some group byte covered =
+    front-named c some (omega arith) (omega arith) (subst (λ b. Covered s spans after (b - 128) j r) byte covered)
 
 -- ---- where the walk stops
 
@@ -225,20 +224,9 @@ module _ {p s spans : List ℕ} where
     nodes = c.so_far (part_in s spans) (λ n d. refl) (drop_of_length-le s over2 ∙ sym (ap (spliced (part_in s spans)) (drop_of_length-le p over)));
   }
 
-  pub front_pauses : {i j : ℕ} → AtFront p s spans i j → 1 ≤ i → Paused p s spans i j
-  front_pauses c some = record {
-    no = λ e. absurd (omega arith);
-    on = λ d low. c.going;
-    root = λ d high. absurd (let low = c.alike.word in omega arith);
-  }
-
-  pub front_none : Walked p s spans false → Paused p s spans 0 0
-  front_none none = record { no = λ e. none; on = λ d. absurd (d refl); root = λ d. absurd (d refl) }
+  pub front_pauses : {i j : ℕ} → AtFront p s spans i j → PausedAt p s spans i j
+  front_pauses c = record { on = λ low. c.going; root = λ high. absurd (let low = c.alike.word in omega arith) }
 
   -- Nothing is looked at.
-  pub front-blank : spans ≡ replicate 128 0 → Paused p s spans 1 1
-  front-blank blank = record {
-    no = λ e. absurd (omega arith);
-    on = λ d low. going-begins p s spans blank low;
-    root = λ d high. blank;
-  }
+  pub front-blank : spans ≡ replicate 128 0 → PausedAt p s spans 1 1
+  front-blank blank = record { on = λ low. going-begins p s spans blank low; root = λ high. blank }

@@ -4,12 +4,15 @@
 --   PartsGiven s spans F       F gives each name that is noted the bytes of its part
 --   AtFront p s spans i j      up to i and j s is p, with the noted parts in place of the names, and these terms are due
 --                              of whatever inputs p and s write
---   Paused p s spans i j       the walk can go on at i and j once p and s are read, or 0 says that there is no filling
+--   PausedAt p s spans i j     the walk can go on at i and j once p and s are read
+--   Paused p s spans r         the same of how far the walk has come, or there is no filling
 --
-use Rattle.std.specs.Prelude.{◌≡◌, false, List, ℕ, ◌+◌, ◌*◌, ◌<◌, ◌≤◌, length, get_or, drop, replicate}
+use Rattle.std.specs.Prelude as P
+use Rattle.std.specs.Prelude.{Some, None, ◌≡◌, false, List, ℕ, ◌+◌, ◌*◌, ◌<◌, ◌≤◌, length, get_or, drop, replicate}
 use Rattle.wire.specs.Splicing.{spliced, part_in}
 use Rattle.runs.specs.Alike.{Alike}
 use Rattle.spans.specs.Walking.{Walked, Going}
+use Rattle.spans.specs.declared.Reached.{Reached}
 
 pub record PartsInside (s spans : List ℕ) : Type 0 where
   pub entries : length spans ≡ 128
@@ -27,7 +30,10 @@ pub record AtFront (p s spans : List ℕ) (i j : ℕ) : Type 0 where
   pub so_far : (F : ℕ → List ℕ) → PartsGiven s spans F → drop j s ≡ spliced F (drop i p) → drop 1 s ≡ spliced F (drop 1 p)
   pub going : Going p s spans i j
 
-pub record Paused (p s spans : List ℕ) (i j : ℕ) : Type 0 where
-  pub no : i ≡ 0 → Walked p s spans false
-  pub on : (i ≡ 0 → ⊥) → get_or p 1 0 < 128 → Going p s spans i j
-  pub root : (i ≡ 0 → ⊥) → 128 ≤ get_or p 1 0 → spans ≡ replicate 128 0
+pub record PausedAt (p s spans : List ℕ) (i j : ℕ) : Type 0 where
+  pub on : get_or p 1 0 < 128 → Going p s spans i j
+  pub root : 128 ≤ get_or p 1 0 → spans ≡ replicate 128 0
+
+abbrev pub Paused : List ℕ → List ℕ → List ℕ → P.Option Reached → Type 0
+Paused p s spans None = Walked p s spans false
+Paused p s spans (Some r) = PausedAt p s spans r.pattern r.situation

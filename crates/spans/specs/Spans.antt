@@ -5,13 +5,15 @@
 --   span_at spans n              the span noted for the name n, where there is one
 --   Standing s at               a ground term stands in the bytes s at an offset
 --   ends a                      where it ends
---   Covered                     what covering the part at an offset by a name does to the spans, and its answer
---   KnownEnd s spans name at r  .. where a part is noted already; it passes a byte only then
+--   Covered, Uncovered          what covering the part at an offset by a name does to the spans, where it ends and where it does not
+--   Covers                      one of these, by the answer
+--   KnownEnd s spans name at r  .. where a part is noted already; there is an end only then
 --   bound bs n                  what the bindings bs give the name n
 --   Holding W s x h             the span x of the bytes s holds the ground term h
 --   Told W s x o                a span is noted exactly where the name is bound, and it holds what the name is bound to
 --
-use Rattle.std.specs.Prelude.{◌≡◌, cond, List, [], ◌∷◌, ◌++◌, ℕ, ◌+◌, ◌-◌, ◌*◌, ◌<◌, ◌≤◌, eqb, length, get_or, take, drop, set}
+use Rattle.std.specs.Prelude as P
+use Rattle.std.specs.Prelude.{Some, None, ◌≡◌, cond, List, [], ◌∷◌, ◌++◌, ℕ, ◌+◌, ◌-◌, ◌*◌, ◌<◌, ◌≤◌, eqb, length, get_or, take, drop, set}
 use Rattle.std.proofs.Math.Option.{Option, some, none}
 use Rattle.terms.specs.Term.{Ground, SortedG, as_term}
 use Rattle.terms.specs.Filling.{Binding}
@@ -43,20 +45,29 @@ ends {at} a = at + size a.vocabulary a.ground
 
 pub record Covered (s before after : List ℕ) (name at end : ℕ) : Type 0 where
   -- The first time the part is noted.
-  pub new : get_or before (2 * name + 1) 0 ≡ 0 → (a : Standing s at) → (end ≡ ends a) × (after ≡ with_span before name at (end - at))
-  pub noting : get_or before (2 * name + 1) 0 ≡ 0 → (end ≡ 0 → ⊥) → (at < end) × (after ≡ with_span before name at (end - at))
-  pub inside : (end ≡ 0 → ⊥) → end ≤ length s
+  pub new : get_or before (2 * name + 1) 0 ≡ 0 → (a : Standing s at) → end ≡ ends a
+  pub noting : get_or before (2 * name + 1) 0 ≡ 0 → (at < end) × (after ≡ with_span before name at (end - at))
+  pub inside : end ≤ length s
   -- Later it must be the part that is noted.
   pub kept : (get_or before (2 * name + 1) 0 ≡ 0 → ⊥) → after ≡ before
-  pub yes : (get_or before (2 * name + 1) 0 ≡ 0 → ⊥) → (end ≡ 0 → ⊥) →
+  pub yes : (get_or before (2 * name + 1) 0 ≡ 0 → ⊥) →
       (end ≡ at + get_or before (2 * name + 1) 0)
       × (take (get_or before (2 * name + 1) 0) (drop (get_or before (2 * name) 0) s) ≡ take (get_or before (2 * name + 1) 0) (drop at s))
-  pub no : (get_or before (2 * name + 1) 0 ≡ 0 → ⊥) → end ≡ 0 → at + get_or before (2 * name + 1) 0 ≤ length s →
+
+-- The bytes end before the part does, or another part is noted.
+pub record Uncovered (s before after : List ℕ) (name at : ℕ) : Type 0 where
+  pub kept : after ≡ before
+  pub new : get_or before (2 * name + 1) 0 ≡ 0 → Standing s at → ⊥
+  pub no : (get_or before (2 * name + 1) 0 ≡ 0 → ⊥) → at + get_or before (2 * name + 1) 0 ≤ length s →
       take (get_or before (2 * name + 1) 0) (drop (get_or before (2 * name) 0) s) ≡ take (get_or before (2 * name + 1) 0) (drop at s) → ⊥
 
-pub record KnownEnd (s spans : List ℕ) (name at end : ℕ) : Type 0 where
-  pub noted : at < end → get_or spans (2 * name + 1) 0 ≡ 0 → ⊥
-  pub covered : (get_or spans (2 * name + 1) 0 ≡ 0 → ⊥) → Covered s spans spans name at end
+abbrev pub Covers : List ℕ → List ℕ → List ℕ → ℕ → ℕ → P.Option ℕ → Type 0
+Covers s before after name at None = Uncovered s before after name at
+Covers s before after name at (Some end) = Covered s before after name at end
+
+abbrev pub KnownEnd : List ℕ → List ℕ → ℕ → ℕ → P.Option ℕ → Type 0
+KnownEnd s spans name at None = (get_or spans (2 * name + 1) 0 ≡ 0 → ⊥) → Uncovered s spans spans name at
+KnownEnd s spans name at (Some end) = Covered s spans spans name at end
 
 abbrev pub bound : List Binding → ℕ → Option Ground
 bound [] n = none

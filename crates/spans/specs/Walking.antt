@@ -10,12 +10,15 @@
 --   GoingOver x p s spans i j     such terms are due; behind the pattern's last byte open places may be due too
 --   Going p s spans i j           the same of whatever inputs p and s write
 --   AtSharedWord p s spans i j    .. and the first two begin with the same word
---   WordWalked                    what going through a word answers: the same state behind it, or 0 where there is no filling
+--   WordBehind                    the same state behind a word
+--   WordWalked                    what going through a word answers: how far the walk has come then, if there is a filling
 --   AtPlace p s spans i j         a word or a name stands in the pattern at i, over a part of the situation at j
---   WordPassed, NamePassed        what passing it answers: how far the walk has come then, or 0 where it does not fit
---   PlacePassed                   one of these, by the byte that stands there
+--   WordPassed, NamePassed        how far the walk has come behind it
+--   PlacePassed, PlaceStopped     one of these, by the byte that stands there; it does not fit
+--   PlaceTold                     one of these, by what passing it answers
 --
-use Rattle.std.specs.Prelude.{◌≡◌, Bool, true, false, List, ℕ, ◌*◌, ◌+◌, ◌-◌, ◌<◌, ◌≤◌, length, get_or, drop}
+use Rattle.std.specs.Prelude as P
+use Rattle.std.specs.Prelude.{Some, None, ◌≡◌, Bool, true, false, List, ℕ, ◌*◌, ◌+◌, ◌-◌, ◌<◌, ◌≤◌, length, get_or, drop}
 use Rattle.std.proofs.Math.Option.{Option, some, none}
 use Rattle.terms.specs.Lists.{All, or_else}
 use Rattle.terms.specs.Term.{Terms, Grounds, SortedAll, SortedGs, names_all, as_terms}
@@ -27,7 +30,8 @@ use Rattle.wire.specs.TermBytes.{name_count, encode_all, levels_all}
 use Rattle.wire.specs.GapComputed.{some_open}
 use Rattle.wire.specs.Matching.{Inputs, HoldsInputs, span_from, span_all}
 use Rattle.wire.specs.MatchComputed.{span_table}
-use Rattle.spans.specs.Spans.{span_at, Standing, Covered, bound, Told}
+use Rattle.spans.specs.Spans.{span_at, Standing, Covered, Uncovered, bound, Told}
+use Rattle.spans.specs.declared.Reached.{Reached}
 
 pub record InputsRead (p s : List ℕ) : Type 0 where
   pub bytes : List ℕ
@@ -82,10 +86,13 @@ pub record AtSharedWord (p s spans : List ℕ) (i j : ℕ) : Type 0 where
   pub word : get_or p i 0 < 128
   pub shared : get_or p i 0 ≡ get_or s j 0
 
-pub record WordWalked (p s after : List ℕ) (i pattern situation : ℕ) : Type 0 where
-  pub no : pattern ≡ 0 → Walked p s after false
-  pub further : (pattern ≡ 0 → ⊥) → i < pattern
-  pub on : (pattern ≡ 0 → ⊥) → Going p s after pattern situation
+pub record WordBehind (p s after : List ℕ) (i pattern situation : ℕ) : Type 0 where
+  pub further : i < pattern
+  pub on : Going p s after pattern situation
+
+abbrev pub WordWalked : List ℕ → List ℕ → List ℕ → ℕ → P.Option Reached → Type 0
+WordWalked p s after i None = Walked p s after false
+WordWalked p s after i (Some r) = WordBehind p s after i r.pattern r.situation
 
 pub record AtPlace (p s spans : List ℕ) (i j : ℕ) : Type 0 where
   pub inside : i < length p
@@ -97,15 +104,21 @@ pub record AtPlace (p s spans : List ℕ) (i j : ℕ) : Type 0 where
 
 pub record WordPassed (p s before after : List ℕ) (i j pattern situation : ℕ) : Type 0 where
   pub kept : after ≡ before
-  pub no : pattern ≡ 0 → get_or p i 0 ≡ get_or s j 0 → ⊥
-  pub shared : (pattern ≡ 0 → ⊥) → get_or p i 0 ≡ get_or s j 0
-  pub behind : (pattern ≡ 0 → ⊥) → (pattern ≡ i + (1 + map_bytes)) × (situation ≡ j + (1 + map_bytes))
+  pub shared : get_or p i 0 ≡ get_or s j 0
+  pub behind : (pattern ≡ i + (1 + map_bytes)) × (situation ≡ j + (1 + map_bytes))
 
 pub record NamePassed (p s before after : List ℕ) (i j pattern situation : ℕ) : Type 0 where
   pub covered : Covered s before after (get_or p i 0 - 128) j situation
-  pub no : pattern ≡ 0 → situation ≡ 0
-  pub behind : (pattern ≡ 0 → ⊥) → (pattern ≡ i + 1) × (situation ≡ 0 → ⊥)
+  pub behind : pattern ≡ i + 1
 
 pub record PlacePassed (p s before after : List ℕ) (i j pattern situation : ℕ) : Type 0 where
   pub word : get_or p i 0 < 128 → WordPassed p s before after i j pattern situation
   pub name : 128 ≤ get_or p i 0 → NamePassed p s before after i j pattern situation
+
+pub record PlaceStopped (p s before after : List ℕ) (i j : ℕ) : Type 0 where
+  pub word : get_or p i 0 < 128 → get_or p i 0 ≡ get_or s j 0 → ⊥
+  pub name : 128 ≤ get_or p i 0 → Uncovered s before after (get_or p i 0 - 128) j
+
+abbrev pub PlaceTold : List ℕ → List ℕ → List ℕ → List ℕ → ℕ → ℕ → P.Option Reached → Type 0
+PlaceTold p s before after i j None = PlaceStopped p s before after i j
+PlaceTold p s before after i j (Some r) = PlacePassed p s before after i j r.pattern r.situation

@@ -6,12 +6,11 @@ ghost use Rattle.spans.specs.Front.{AtFront, Paused};
 
 use crate::Reached;
 
-// How far the walk has come in both, and whether it has come to their ends; 0 in the pattern says that it does not fit.
+// Whether the walk has come to the ends of both, and how far it has come; nowhere where the pattern does not fit.
 #[derive(Drop)]
 pub(crate) struct Front {
     pub(crate) agreed: bool,
-    pub(crate) pattern: usize,
-    pub(crate) situation: usize,
+    pub(crate) reached: Option<Reached>,
 }
 
 // Passes words that both share, and names whose part is noted and stands here again.
@@ -22,6 +21,7 @@ fn pass_known(p: &[u8], s: &[u8], spans: &[u16; 128], from: usize, at: usize) ->
 {
     let mut i = from;
     let mut j = at;
+    // Kept: a turn passes a run of words and a name, and two offsets move apart, so no iterator counts it.
     while i < p.len() {
         let n = runs::words(p, s, i, j);
         i += n;
@@ -39,13 +39,12 @@ fn pass_known(p: &[u8], s: &[u8], spans: &[u16; 128], from: usize, at: usize) ->
                 situation: j,
             };
         }
-        let end = crate::known_end(s, spans, crate::wide(b) - 128, j);
-        if end <= j {
+        let Some(end) = crate::known_end(s, spans, usize::from(b) - 128, j) else {
             return Reached {
                 pattern: i,
                 situation: j,
             };
-        }
+        };
         i += 1;
         j = end;
     }
@@ -60,17 +59,20 @@ fn pass_known(p: &[u8], s: &[u8], spans: &[u16; 128], from: usize, at: usize) ->
 pub(crate) fn walk_front(p: &[u8], s: &[u8], spans: &mut [u16; 128]) -> Front
     requires { spans.old ≡ replicate 128 0 }
     ensures agrees { result.agreed ≡ true → Agrees p.now s.now spans.new }
-    ensures paused { Paused p.now s.now spans.new result.pattern result.situation }
+    ensures paused { Paused p.now s.now spans.new result.reached }
 {
     if !runs::alike(p, s) {
         return Front {
             agreed: false,
-            pattern: 1,
-            situation: 1,
+            reached: Some(Reached {
+                pattern: 1,
+                situation: 1,
+            }),
         };
     }
     let mut i: usize = 1;
     let mut j: usize = 1;
+    // Kept: a turn passes words and a name, or a run of words, and two offsets move apart, so no iterator counts it.
     while i < p.len() {
         let reached = pass_known(p, s, spans, i, j);
         i = reached.pattern;
@@ -78,22 +80,23 @@ pub(crate) fn walk_front(p: &[u8], s: &[u8], spans: &mut [u16; 128]) -> Front
         if i < p.len() {
             let b = p[i];
             if b / 64 == 2 {
-                j = crate::cover(s, spans, crate::wide(b) - 128, j);
-                if j == 0 {
+                let Some(end) = crate::cover(s, spans, usize::from(b) - 128, j) else {
                     return Front {
                         agreed: false,
-                        pattern: 0,
-                        situation: 0,
+                        reached: None,
                     };
-                }
+                };
                 i += 1;
+                j = end;
             } else {
                 let n = runs::run(p, s, i, j);
                 if n == 0 {
                     return Front {
                         agreed: false,
-                        pattern: i,
-                        situation: j,
+                        reached: Some(Reached {
+                            pattern: i,
+                            situation: j,
+                        }),
                     };
                 }
                 i += n;
@@ -103,7 +106,9 @@ pub(crate) fn walk_front(p: &[u8], s: &[u8], spans: &mut [u16; 128]) -> Front
     }
     Front {
         agreed: s.len() <= j,
-        pattern: i,
-        situation: j,
+        reached: Some(Reached {
+            pattern: i,
+            situation: j,
+        }),
     }
 }

@@ -8,33 +8,13 @@ ghost use Rattle.wire.specs.MatchComputed.{matched};
 ghost use Rattle.spans.specs.Answers.{spans_numbers};
 ghost use Rattle.nodes.specs.Same.{SameNodes};
 ghost use Rattle.spans.specs.Frames.{most_offset, rest, map_at, places_in, written_in, TwoMaps};
-ghost use Rattle.spans.specs.Spans.{with_span, Standing, ends, Covered, KnownEnd};
-ghost use Rattle.spans.specs.Walking.{InputsRead, Walked, Going, AtSharedWord, WordWalked, AtPlace, PlacePassed};
+ghost use Rattle.spans.specs.Spans.{with_span, Standing, ends, Covers, KnownEnd};
+ghost use Rattle.spans.specs.Walking.{InputsRead, Walked, Going, AtSharedWord, WordWalked, AtPlace, PlaceTold};
 ghost use Rattle.spans.specs.Front.{Paused};
 
-use inputs::{InputsAnswer, InputsRefusal};
+use inputs::InputsRefusal;
 
 mod front;
-
-// Whether a pattern fits a situation, or why the inputs are refused.
-#[derive(Drop)]
-pub enum SpansAnswer {
-    Fits,
-    Differs,
-    Refused(InputsRefusal),
-}
-
-fn wide(b: u8) -> usize
-    ensures { result ≡ b }
-{
-    b as usize
-}
-
-fn wide16(x: u16) -> usize
-    ensures { (result ≡ x) × (result < 65536) }
-{
-    x as usize
-}
 
 // The map of the word at an offset, 0 where it is missing.
 fn map_at(t: &[u8], at: usize) -> u8
@@ -44,20 +24,11 @@ fn map_at(t: &[u8], at: usize) -> u8
     maps::read(t, at + 1)
 }
 
-// How many bits of a map stand.
-fn count(map: u8) -> usize
-    ensures { (result ≡ ones map) × (result ≤ 8) }
-{
-    maps::count(map) as usize
-}
-
 // How many bits of four maps stand.
 fn count_four(a: u8, b: u8, c: u8, d: u8) -> usize
     ensures { (result ≡ ones a + ones b + ones c + ones d) × (result ≤ 32) }
 {
-    let low = (a as u32) + 256 * (b as u32);
-    let high = (c as u32) + 256 * (d as u32);
-    u32::count_ones(low + 65536 * high) as usize
+    u32::from_le_bytes([a, b, c, d]).count_ones() as usize
 }
 
 // Where the term that begins at an offset ends: its words' maps say how many more terms are due. Where four are due the
@@ -66,11 +37,12 @@ fn end_of(s: &[u8], at: usize) -> usize
     requires { (at ≤ length s.now) × (length s.now ≤ 4096) }
     ensures { (at < result) × ((a : Standing s.now at) → result ≡ ends a) }
 {
-    let mut due = count(map_at(s, at));
+    let mut due = map_at(s, at).count_ones() as usize;
     let mut end = at + maps::NODE;
+    // Kept: how many words a turn passes depends on the maps of those before, so no iterator counts them.
     while 0 < due {
         if due < 4 {
-            due = due - 1 + count(map_at(s, end));
+            due = due - 1 + map_at(s, end).count_ones() as usize;
             end += maps::NODE;
         } else {
             let second = end + maps::NODE;
@@ -98,39 +70,38 @@ fn note(spans: &mut [u16; 128], name: usize, at: usize, n: usize)
     spans[2 * name + 1] = n as u16;
 }
 
-// Where the part that is noted for a name ends, if its bytes stand at an offset too, else 0. Where none is noted no byte
-// is passed.
-fn known_end(s: &[u8], spans: &[u16; 128], name: usize, at: usize) -> usize
+// Where the part that is noted for a name ends, if its bytes stand at an offset too.
+fn known_end(s: &[u8], spans: &[u16; 128], name: usize, at: usize) -> Option<usize>
     requires name_bound { (name < 64) × (at ≤ length s.now) × (length s.now ≤ 4096) }
     requires name_in_bounds { get_or spans.now (2 * name) 0 + get_or spans.now (2 * name + 1) 0 ≤ length s.now }
     ensures { KnownEnd s.now spans.now name at result }
 {
-    let n = wide16(spans[2 * name + 1]);
-    if s.len() - at < n {
-        return 0;
+    let n = usize::from(spans[2 * name + 1]);
+    if n == 0 || s.len() - at < n {
+        return None;
     }
-    let first = wide16(spans[2 * name]);
+    let first = usize::from(spans[2 * name]);
     if nodes::equal(&s[first..first + n], &s[at..at + n]) {
-        return at + n;
+        return Some(at + n);
     }
-    0
+    None
 }
 
 // Where the part that a name covers from an offset on ends. The first time it is noted. Later the bytes of that part
-// must stand here too, which then end where the part does; 0 says that they do not, or that the bytes end before.
-fn cover(s: &[u8], spans: &mut [u16; 128], name: usize, at: usize) -> usize
+// must stand here too, which then end where the part does; it ends nowhere where they do not, or the bytes end before.
+fn cover(s: &[u8], spans: &mut [u16; 128], name: usize, at: usize) -> Option<usize>
     requires name_bound { (name < 64) × (at ≤ length s.now) × (length s.now ≤ 4096) }
     requires name_in_bounds { get_or spans.old (2 * name) 0 + get_or spans.old (2 * name + 1) 0 ≤ length s.now }
-    ensures { Covered s.now spans.old spans.new name at result }
+    ensures { Covers s.now spans.old spans.new name at result }
 {
-    let n = wide16(spans[2 * name + 1]);
+    let n = usize::from(spans[2 * name + 1]);
     if n == 0 {
         let end = end_of(s, at);
         if s.len() < end {
-            return 0;
+            return None;
         }
         note(spans, name, at, end - at);
-        return end;
+        return Some(end);
     }
     known_end(s, spans, name, at)
 }
@@ -140,7 +111,7 @@ fn cover(s: &[u8], spans: &mut [u16; 128], name: usize, at: usize) -> usize
 fn frame(written: u8, places: u8) -> u16
     ensures { TwoMaps result written places }
 {
-    (written as u16) + 256 * (places as u16)
+    u16::from_le_bytes([written, places])
 }
 
 // The frame without its lowest place.
@@ -152,57 +123,50 @@ fn passed(frame: u16) -> u16
     written / 2 + 256 * (places / 2)
 }
 
-// How far a walk has come in the pattern and in the situation; 0 says that the pattern does not fit.
-#[derive(Drop)]
+// How far a walk has come in the pattern and in the situation.
+#[derive(Clone, Copy)]
 struct Reached {
     pattern: usize,
     situation: usize,
 }
 
-// Passes a place that the pattern writes: a word must be the same word, and a name covers the part.
-fn pass_place(p: &[u8], s: &[u8], spans: &mut [u16; 128], i: usize, j: usize) -> Reached
+// Passes a place that the pattern writes: a word must be the same word, and a name covers the part. Nothing is said where
+// the pattern does not fit.
+fn pass_place(p: &[u8], s: &[u8], spans: &mut [u16; 128], i: usize, j: usize) -> Option<Reached>
     requires { AtPlace p.now s.now spans.old i j }
-    ensures { PlacePassed p.now s.now spans.old spans.new i j result.pattern result.situation }
+    ensures { PlaceTold p.now s.now spans.old spans.new i j result }
 {
     let b = p[i];
     if b < 128 {
-        if b == s[j] {
-            return Reached {
-                pattern: i + maps::NODE,
-                situation: j + maps::NODE,
-            };
+        if b != s[j] {
+            return None;
         }
-        return Reached {
-            pattern: 0,
-            situation: 0,
-        };
+        return Some(Reached {
+            pattern: i + maps::NODE,
+            situation: j + maps::NODE,
+        });
     }
-    let end = cover(s, spans, wide(b) - 128, j);
-    if end == 0 {
-        return Reached {
-            pattern: 0,
-            situation: 0,
-        };
-    }
-    Reached {
+    let end = cover(s, spans, usize::from(b) - 128, j)?;
+    Some(Reached {
         pattern: i + 1,
         situation: end,
-    }
+    })
 }
 
 // Goes through a word that has open places side by side with the part of the situation that begins with the same word.
 // The places of the words around a place are kept in frames. It ends at the pattern's last byte too: behind it only
 // open places are due, which take the rest.
-fn walk_word(p: &[u8], s: &[u8], spans: &mut [u16; 128], from: usize, at: usize) -> Reached
+fn walk_word(p: &[u8], s: &[u8], spans: &mut [u16; 128], from: usize, at: usize) -> Option<Reached>
     requires inputs_read { InputsRead p.now s.now }
     requires at_shared_word { AtSharedWord p.now s.now spans.old from at }
-    ensures { WordWalked p.now s.now spans.new from result.pattern result.situation }
+    ensures { WordWalked p.now s.now spans.new from result }
 {
     let mut frames = [0u16; 32];
     let mut due = frame(map_at(p, from), map_at(s, at));
     let mut depth: usize = 1;
     let mut i = from + maps::NODE;
     let mut j = at + maps::NODE;
+    // Kept: a turn leaves a word or takes one of its places, and two offsets move apart, so no iterator counts it.
     while 0 < depth && i < p.len() {
         let places = due / 256 % 256;
         if places == 0 {
@@ -215,10 +179,7 @@ fn walk_word(p: &[u8], s: &[u8], spans: &mut [u16; 128], from: usize, at: usize)
                 if written == 0 {
                     j = end_of(s, j);
                 } else {
-                    let next = pass_place(p, s, spans, i, j);
-                    if next.pattern == 0 {
-                        return next;
-                    }
+                    let next = pass_place(p, s, spans, i, j)?;
                     if p[i] < 128 {
                         let map = map_at(s, j);
                         if map != 0 {
@@ -233,10 +194,10 @@ fn walk_word(p: &[u8], s: &[u8], spans: &mut [u16; 128], from: usize, at: usize)
             }
         }
     }
-    Reached {
+    Some(Reached {
         pattern: i,
         situation: j,
-    }
+    })
 }
 
 // How many bytes of nodes are the same in both from two offsets on.
@@ -256,6 +217,7 @@ fn walk_words(p: &[u8], s: &[u8], spans: &mut [u16; 128], from: usize, at: usize
 {
     let mut i = from;
     let mut j = at;
+    // Kept: a turn passes a run of words and what stands behind it, and two offsets move apart, so no iterator counts it.
     while i < p.len() {
         let n = same_nodes(p, s, i, j);
         i += n;
@@ -266,18 +228,17 @@ fn walk_words(p: &[u8], s: &[u8], spans: &mut [u16; 128], from: usize, at: usize
                 if b != s[j] {
                     return false;
                 }
-                let reached = walk_word(p, s, spans, i, j);
-                if reached.pattern == 0 {
+                let Some(reached) = walk_word(p, s, spans, i, j) else {
                     return false;
-                }
+                };
                 i = reached.pattern;
                 j = reached.situation;
             } else {
-                j = cover(s, spans, wide(b) - 128, j);
-                if j == 0 {
+                let Some(end) = cover(s, spans, usize::from(b) - 128, j) else {
                     return false;
-                }
+                };
                 i += 1;
+                j = end;
             }
         }
     }
@@ -286,20 +247,20 @@ fn walk_words(p: &[u8], s: &[u8], spans: &mut [u16; 128], from: usize, at: usize
 
 // Goes on where the walk over the unread bytes stopped. A name or 255 at the root covers the whole situation, so that its
 // end need not be looked for.
-fn walk(p: &[u8], s: &[u8], spans: &mut [u16; 128], from: usize, at: usize) -> bool
+fn walk(p: &[u8], s: &[u8], spans: &mut [u16; 128], from: Option<Reached>) -> bool
     requires inputs_read { InputsRead p.now s.now }
-    requires paused { Paused p.now s.now spans.old from at }
+    requires paused { Paused p.now s.now spans.old from }
     ensures { Walked p.now s.now spans.new result }
 {
-    if from == 0 {
+    let Some(from) = from else {
         return false;
-    }
+    };
     let root = p[1];
     if root < 128 {
-        return walk_words(p, s, spans, from, at);
+        return walk_words(p, s, spans, from.pattern, from.situation);
     }
     if root != 255 {
-        note(spans, wide(root) - 128, 1, s.len() - 1);
+        note(spans, usize::from(root) - 128, 1, s.len() - 1);
     }
     true
 }
@@ -311,21 +272,18 @@ pub fn find(
     pattern: &[u8],
     situation: &[u8],
     spans: &mut [u16; 128],
-) -> SpansAnswer
+) -> Result<bool, InputsRefusal>
     ensures { HasEffect (matched vocabulary.now pattern.now situation.now (replicate 128 0)) (spans_numbers result) spans.new }
 {
     *spans = [0u16; 128];
     let front = front::walk_front(pattern, situation, spans);
-    match inputs::judge(vocabulary, pattern, situation, spans, front.agreed) {
-        InputsAnswer::Refused(why) => {
-            *spans = [0u16; 128];
-            return SpansAnswer::Refused(why);
-        }
-        InputsAnswer::Clear => {}
+    if let Err(why) = inputs::judge(vocabulary, pattern, situation, spans, front.agreed) {
+        *spans = [0u16; 128];
+        return Err(why);
     }
-    if walk(pattern, situation, spans, front.pattern, front.situation) {
-        return SpansAnswer::Fits;
+    if walk(pattern, situation, spans, front.reached) {
+        return Ok(true);
     }
     *spans = [0u16; 128];
-    SpansAnswer::Differs
+    Ok(false)
 }

@@ -31,10 +31,8 @@ use Rattle.extents.proofs.Extents.{term-inside, term_extent}
 use Rattle.slices.proofs.Writing.{part, part_is}
 use Rattle.others.specs.Listed.{FitBehind}
 use Rattle.cuts.specs.Entries.{EntryOf}
-use Rattle.strikes.specs.Calls.{Put, LeftOf, leaves_of}
+use Rattle.strikes.specs.Calls.{Struck, leaving, full, Put, LeftOf, leaves_of}
 use Rattle.strikes.specs.Striking.{StrikeAt, StrikesEntry, EntryEnds, NotedAt}
-use Rattle.strikes.specs.declared.Left.{Left}
-use Rattle.strikes.specs.declared.Left.TheVariants.{Bytes, Full}
 use Rattle.others.proofs.Entries.{fits-first}
 use Rattle.strikes.proofs.Putting.{put_none, put_count, put-length, put_then, full-then, entries-few}
 
@@ -173,7 +171,7 @@ module _ {area pattern marks siblings : List ℕ} {copied : ℕ} (h : NotedAt ar
     left = sym (length-drop at area) ∙ ap length behind
 
     -- Behind the last entry the area ends.
-    pub walked_all : length area ≤ at → LeftOf (leaves_of W s h.at.term h.at.entries) 0 before now (Bytes n k)
+    pub walked_all : length area ≤ at → LeftOf (leaves_of W s h.at.term h.at.entries) 0 before now (leaving n k)
     walked_all end =
         subst (λ l. Put (leaves_of W s h.at.term l) 0 before now n k)
         (sym (w.split ∙ ap (λ l. w.done ++ l) (no-patterns W s w.rest (let l = left in omega arith)) ∙ append-nil w.done)) w.put
@@ -247,7 +245,7 @@ module _ {area pattern marks siblings : List ℕ} {copied : ℕ} (h : NotedAt ar
           small = subst (λ c. c ≤ most_extent) (sym kept) h.at.small;
         }
 
-        module _ (after : List ℕ) (r : Left) (strikes : StrikesEntry (take (end - at) (drop at area)) pattern marks siblings copies n now after r) where
+        module _ (after : List ℕ) (r : Struck) (strikes : StrikesEntry (take (end - at) (drop at area)) pattern marks siblings copies n now after r) where
           abbrev ones : List (List ℕ)
           ones = map (encode_term W s) (remains (signature W) h.at.term x.one)
 
@@ -255,7 +253,7 @@ module _ {area pattern marks siblings : List ℕ} {copied : ℕ} (h : NotedAt ar
           unfolding next_strike
           struck = strikes next_strike walked-room
 
-          pub walked_more : {n' j : ℕ} → r ≡ Bytes n' j → Walked end n' (k + j) before after
+          pub walked_more : {n' j : ℕ} → r ≡ leaving n' j → Walked end n' (k + j) before after
           walked_more {n'} {j} e = record {
             done = w.done ++ (x.one ∷ []);
             rest = x.more;
@@ -269,7 +267,7 @@ module _ {area pattern marks siblings : List ℕ} {copied : ℕ} (h : NotedAt ar
                 (put_then w.put (subst (LeftOf ones n now after) e struck));
           }
 
-          pub walked-full : r ≡ Full → LeftOf (leaves_of W s h.at.term h.at.entries) 0 before after Full
+          pub walked-full : r ≡ full → LeftOf (leaves_of W s h.at.term h.at.entries) 0 before after full
           walked-full e f =
               full-then w.put ones (subst (LeftOf ones n now after) e struck)
               (subst (λ l. FitBehind l 0 (length before)) (leaves_more W s h.at.term w.done x.one)
@@ -277,7 +275,7 @@ module _ {area pattern marks siblings : List ℕ} {copied : ℕ} (h : NotedAt ar
               (subst (λ l. FitBehind l 0 (length before)) (ap (leaves_of W s h.at.term) further ∙ leaves_append W s h.at.term (w.done ++ (x.one ∷ [])) x.more) f)))
 
           -- The slice is as long as before.
-          pub walked-over : {n' j : ℕ} → r ≡ Bytes n' j → length after - k < j → LeftOf (leaves_of W s h.at.term h.at.entries) 0 before after Full
+          pub walked-over : {n' j : ℕ} → r ≡ leaving n' j → length after - k < j → LeftOf (leaves_of W s h.at.term h.at.entries) 0 before after full
           walked-over e over f = let few = walked-few (walked_more e) in let same = put-length (walked_more e).put in omega arith
 
 -- What the loop keeps. The number of entries is at most that of the slice's bytes.

@@ -13,9 +13,8 @@ use Rattle.wire.specs.TermBytes.{encode_root}
 use Rattle.slices.proofs.Writing.{part, part_is}
 use Rattle.marks.specs.Marking.{marked, MarksOf}
 use Rattle.marks.proofs.Marks.{marks_right}
-use Rattle.strikes.specs.Calls.{LeftOf, leaves_of, AreaAt}
+use Rattle.strikes.specs.Calls.{Struck, LeftOf, leaves_of, AreaAt}
 use Rattle.strikes.specs.Striking.{NotedAt, StrikesNoted}
-use Rattle.strikes.specs.declared.Left.{Left}
 use Rattle.strikes.proofs.Striking.{some_bytes}
 
 module _ {area pattern siblings : List ℕ} {copied : ℕ} (h : AreaAt area pattern siblings copied) where
@@ -42,7 +41,7 @@ module _ {area pattern siblings : List ℕ} {copied : ℕ} (h : AreaAt area patt
             (marks_right W t.in_order t.results siblings t.tabled.result t.siblings h.term h.kind h.pattern_of.sorted h.pattern_of.low
             h.pattern_of.short [] marks (le_of_lt root-fits))
 
-    pub noted_struck : (before after : List ℕ) (r : Left) → StrikesNoted area pattern marks' siblings copied before after r →
+    pub noted_struck : (before after : List ℕ) (r : Struck) → StrikesNoted area pattern marks' siblings copied before after r →
         LeftOf (leaves_of W h.kind h.term h.entries) 0 before after r
     unfolding area-noted
     noted_struck before after r strikes = strikes area-noted

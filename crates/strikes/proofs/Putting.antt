@@ -19,25 +19,24 @@ use Rattle.slices.specs.Copied.{copied}
 use Rattle.slices.specs.Written.{Written}
 use Rattle.slices.proofs.Writing.{part, back, written-copied}
 use Rattle.others.specs.Listed.{together, FitBehind}
-use Rattle.strikes.specs.Calls.{Put, LeftOf}
-use Rattle.strikes.specs.declared.Left.TheVariants.{Bytes, Full}
+use Rattle.strikes.specs.Calls.{leaving, full, Put, LeftOf}
 use Rattle.others.proofs.Entries.{fits_second, listed_none, listed-end, listed-length, listed-both}
 
 pub put_none : (n : ℕ) (l : List ℕ) → n ≤ length l → Put [] n l l n 0
 put_none n l h = record { listed = listed_none l h; count = refl }
 
-pub full_none : (ls : List (List ℕ)) (n : ℕ) (l : List ℕ) → length l < n → LeftOf ls n l l Full
+pub full_none : (ls : List (List ℕ)) (n : ℕ) (l : List ℕ) → length l < n → LeftOf ls n l l full
 full_none ls n l less f = let a = f.all in omega arith
 
 module _ (e : List ℕ) (n : ℕ) (l : List ℕ) (h : n ≤ length l) where
   one-length : length (together (e ∷ [])) ≡ length e
   one-length = ap length (append-nil e)
 
-  pub full-one : length l - n < length e → LeftOf (e ∷ []) n l l Full
+  pub full-one : length l - n < length e → LeftOf (e ∷ []) n l l full
   full-one less f = let a = f.all in omega (arith, one-length)
 
   pub put_one : length e ≤ length l - n → length e ≤ most_bytes → {ys : List ℕ} → ys ≡ copied e (part n l) →
-      LeftOf (e ∷ []) n l (back n l ys) (Bytes (n + length e) 1)
+      LeftOf (e ∷ []) n l (back n l ys) (leaving (n + length e) 1)
   put_one room short {ys} c = record {
     listed = record {
       fits = record { each = (short, tt); all = omega (arith, one-length) };

@@ -18,16 +18,12 @@ use Rattle.wire.proofs.Words.{length_symbols}
 use Rattle.wire.proofs.Cond.{first_arm, second_arm}
 use Rattle.slices.proofs.Writing.{part, part_is}
 use Rattle.meetings.specs.Walking.{meeting}
-use Rattle.meetings.specs.declared.Meeting.{Meeting}
-use Rattle.meetings.specs.declared.Meeting.TheVariants.{Apart, Shares}
+use Rattle.std.specs.Prelude.{Option, Some, None, Result, Ok, Err}
 use Rattle.meetings.proofs.Meets.{meeting_right}
 use Rattle.cuts.specs.Calls.{CutAt, CutOf, CutsEntry}
-use Rattle.strikes.specs.Calls.{LeftOf}
+use Rattle.strikes.specs.Calls.{Struck, leaving, full, LeftOf}
 use Rattle.strikes.specs.Striking.{StrikeAt}
-use Rattle.cuts.specs.declared.Cut.{Cut}
-use Rattle.cuts.specs.declared.Cut.TheVariants as C
-use Rattle.strikes.specs.declared.Left.{Left}
-use Rattle.strikes.specs.declared.Left.TheVariants.{Bytes, Full}
+use Rattle.others.specs.declared.Full.{Full}
 use Rattle.strikes.proofs.Putting.{put_none}
 
 abbrev IsWord : Term → Type 0
@@ -54,11 +50,11 @@ no_word W (var m) (app g ps) h = absurd (h tt)
 no_word W (app f es) (app g ps) h = absurd (h tt)
 
 -- What a meeting tells.
-abbrev Tells : Bool → ℕ → Meeting → Type 0
-Tells apart n Apart = apart ≡ true
-Tells apart n (Shares k) = (apart ≡ false) × (k ≡ n)
+abbrev Tells : Bool → ℕ → Option ℕ → Type 0
+Tells apart n None = apart ≡ true
+Tells apart n (Some k) = (apart ≡ false) × (k ≡ n)
 
-tells : (apart : Bool) (n : ℕ) (m : Meeting) → m ≡ cond apart Apart (Shares n) → Tells apart n m
+tells : (apart : Bool) (n : ℕ) (m : Option ℕ) → m ≡ cond apart None (Some n) → Tells apart n m
 tells true n m e = subst (Tells true n) (sym e) refl
 tells false n m e = subst (Tells false n) (sym e) (refl, refl)
 
@@ -89,14 +85,14 @@ module _ {entry pattern marks siblings : List ℕ} {copied : ℕ} (h : StrikeAt 
   pub entry-short : length entry ≤ most_bytes
   entry-short = subst (λ l. length l ≤ most_bytes) (sym h.stands) h.entry_of.short
 
-  pub struck_by_all : 127 < get_or pattern 1 0 → (n : ℕ) (out : List ℕ) → n ≤ length out → LeftOf ones n out out (Bytes n 0)
+  pub struck_by_all : 127 < get_or pattern 1 0 → (n : ℕ) (out : List ℕ) → n ≤ length out → LeftOf ones n out out (leaving n 0)
   struck_by_all high n out room =
-      subst (λ l. LeftOf (map (encode_term W s) l) n out out (Bytes n 0))
+      subst (λ l. LeftOf (map (encode_term W s) l) n out out (leaving n 0))
       (sym (no_word W h.one h.term (root_high W h.tables.in_order s h.term h.pattern_of.sorted (pattern-root (λ b. 127 < b) high))))
       (put_none n out room)
 
   -- What stands behind the kind bytes is met.
-  module _ (m : Meeting) (meets : m ≡ meeting (part 1 entry) (part 1 pattern) marks) where
+  module _ (m : Option ℕ) (meets : m ≡ meeting (part 1 entry) (part 1 pattern) marks) where
     behind : (t : Term) (l : List ℕ) → l ≡ encode_term W s t → part 1 l ≡ encode_root W t ++ []
     behind t l e = part_is 1 l ∙ ap (drop 1) e ∙ sym (append-nil (encode_root W t))
 
@@ -113,8 +109,8 @@ module _ {entry pattern marks siblings : List ℕ} {copied : ℕ} (h : StrikeAt 
         (meets ∙ same
         ∙ meeting_right W h.tables.in_order h.one h.term s e.sorted p.sorted p.low (omega arith) (omega arith) [] [] marks h.marked)
 
-    module _ (n : ℕ) (out after : List ℕ) (r : Left) where
-      pub struck_kept : m ≡ Apart → LeftOf (entry ∷ []) n out after r → LeftOf ones n out after r
+    module _ (n : ℕ) (out after : List ℕ) (r : Struck) where
+      pub struck_kept : m ≡ None → LeftOf (entry ∷ []) n out after r → LeftOf ones n out after r
       struck_kept e = subst (λ l. LeftOf l n out after r) (sym same)
         where
           same : ones ≡ entry ∷ []
@@ -123,7 +119,7 @@ module _ {entry pattern marks siblings : List ℕ} {copied : ℕ} (h : StrikeAt 
               (first_arm (disjoint h.one h.term) (h.one ∷ []) (cut (signature W) h.one h.term) (subst (Tells (disjoint h.one h.term) _) e met))
               ∙ ap (λ l. l ∷ []) (sym h.stands)
 
-    module _ {todo : ℕ} (e : m ≡ Shares todo) where
+    module _ {todo : ℕ} (e : m ≡ Some todo) where
       told : (disjoint h.one h.term ≡ false) × (todo ≡ length (cut (signature W) h.one h.term))
       told = subst (Tells (disjoint h.one h.term) (length (cut (signature W) h.one h.term))) e met
 
@@ -149,16 +145,16 @@ module _ {entry pattern marks siblings : List ℕ} {copied : ℕ} (h : StrikeAt 
         same-list : ones ≡ cuts
         same-list = ap (map (encode_term W s)) (second_arm (disjoint h.one h.term) (h.one ∷ []) (cut (signature W) h.one h.term) told.0)
 
-        module _ (n : ℕ) (out after : List ℕ) (room : n ≤ length out) (r : Cut) (does : CutsEntry entry pattern siblings copied todo n out after r) where
+        module _ (n : ℕ) (out after : List ℕ) (room : n ≤ length out) (r : Result ℕ Full) (does : CutsEntry entry pattern siblings copied todo n out after r) where
           done : CutOf ones n out after r
           unfolding struck_cut
           done = subst (λ l. CutOf l n out after r) (sym same-list) (does struck_cut room)
 
-          pub struck_full : r ≡ C.Full → LeftOf ones n out after Full
+          pub struck_full : {e : Full} → r ≡ Err e → LeftOf ones n out after full
           struck_full e = subst (CutOf ones n out after) e done
 
-          pub struck_put : {end : ℕ} → r ≡ C.Bytes end → LeftOf ones n out after (Bytes end todo)
+          pub struck_put : {end : ℕ} → r ≡ Ok end → LeftOf ones n out after (leaving end todo)
           struck_put {end} e = record {
-            listed = let l : CutOf ones n out after (C.Bytes end) = subst (CutOf ones n out after) e done in l;
+            listed = let l : CutOf ones n out after (Ok end) = subst (CutOf ones n out after) e done in l;
             count = told.1 ∙ sym (length-map (cut (signature W) h.one h.term) (encode_term W s)) ∙ sym (ap length same-list);
           }

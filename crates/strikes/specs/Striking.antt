@@ -14,10 +14,9 @@ use Rattle.wire.specs.TermBytes.{encode_term, most_bytes}
 use Rattle.extents.specs.Extents.{most_extent, term_size}
 use Rattle.marks.specs.Marking.{MarksOf}
 use Rattle.cuts.specs.Entries.{EntryOf, PatternOf, TablesOf}
-use Rattle.strikes.specs.declared.Left.{Left}
-use Rattle.strikes.specs.Calls.{LeftOf, leaves_of, AreaAt}
+use Rattle.strikes.specs.Calls.{Struck, LeftOf, leaves_of, AreaAt}
 
-abbrev pub Keeps : List ℕ → ℕ → List ℕ → List ℕ → Left → Type 0
+abbrev pub Keeps : List ℕ → ℕ → List ℕ → List ℕ → Struck → Type 0
 Keeps entry n before after r = length entry ≤ most_bytes → LeftOf (entry ∷ []) n before after r
 
 pub record StrikeAt (entry pattern marks siblings : List ℕ) (copied : ℕ) : Type 0 where
@@ -34,7 +33,7 @@ pub record StrikeAt (entry pattern marks siblings : List ℕ) (copied : ℕ) : T
   pub copy : length (encode_term vocabulary kind one) + length (encode_term vocabulary kind term) ≤ copied
   pub small : copied ≤ most_extent
 
-abbrev pub StrikesEntry : List ℕ → List ℕ → List ℕ → List ℕ → ℕ → ℕ → List ℕ → List ℕ → Left → Type 0
+abbrev pub StrikesEntry : List ℕ → List ℕ → List ℕ → List ℕ → ℕ → ℕ → List ℕ → List ℕ → Struck → Type 0
 StrikesEntry entry pattern marks siblings copied n before after r =
     (h : StrikeAt entry pattern marks siblings copied) → n ≤ length before →
     LeftOf (map (encode_term h.vocabulary h.kind) (remains (signature h.vocabulary) h.term h.one)) n before after r
@@ -48,6 +47,6 @@ pub record NotedAt (area pattern marks siblings : List ℕ) (copied : ℕ) : Typ
   pub at : AreaAt area pattern siblings copied
   pub marked : MarksOf at.vocabulary at.term marks
 
-abbrev pub StrikesNoted : List ℕ → List ℕ → List ℕ → List ℕ → ℕ → List ℕ → List ℕ → Left → Type 0
+abbrev pub StrikesNoted : List ℕ → List ℕ → List ℕ → List ℕ → ℕ → List ℕ → List ℕ → Struck → Type 0
 StrikesNoted area pattern marks siblings copied before after r =
     (h : NotedAt area pattern marks siblings copied) → LeftOf (leaves_of h.at.vocabulary h.at.kind h.at.term h.at.entries) 0 before after r

@@ -5,28 +5,30 @@ ghost use Rattle.std.specs.Prelude.{◌≤◌, ◌<◌, length};
 ghost use Rattle.strikes.specs.Calls.{StrikesArea};
 ghost use Rattle.strikes.specs.Striking.{Keeps, StrikesEntry, EntryEnds, StrikesNoted};
 
-use cuts::Cut;
-use meetings::Meeting;
+use others::Full;
 
-// So many bytes are there now, and so many entries more; or an entry has no room or is too long.
-#[derive(Drop)]
-pub enum Left {
-    Bytes(usize, usize),
-    Full,
+// So many bytes are there now, and so many entries more.
+#[derive(Clone, Copy)]
+pub struct Left {
+    pub bytes: usize,
+    pub entries: usize,
 }
 
 // Keeps an entry: it is put behind the first n bytes.
-fn keep(entry: &[u8], n: usize, out: &mut [u8]) -> Left
+fn keep(entry: &[u8], n: usize, out: &mut [u8]) -> Result<Left, Full>
     ensures { Keeps entry.now n out.old out.new result }
 {
     if out.len() < n {
-        return Left::Full;
+        return Err(Full);
     }
     if out.len() - n < entry.len() {
-        return Left::Full;
+        return Err(Full);
     }
     slices::copy(entry, &mut out[n..]);
-    Left::Bytes(n + entry.len(), 1)
+    Ok(Left {
+        bytes: n + entry.len(),
+        entries: 1,
+    })
 }
 
 // What an entry leaves against a pattern: itself where they share nothing.
@@ -38,22 +40,23 @@ fn strike_entry(
     siblings: &[u8; 384],
     n: usize,
     out: &mut [u8],
-) -> Left
+) -> Result<Left, Full>
     requires in_bounds { 1 ≤ length entry.now }
     requires in_bounds_2 { 2 ≤ length pattern.now }
     ensures { StrikesEntry entry.now pattern.now marks.now siblings.now (length copy.old) n out.old out.new result }
 {
     // A name or 255 fits every situation.
     if 127 < pattern[1] {
-        return Left::Bytes(n, 0);
+        return Ok(Left {
+            bytes: n,
+            entries: 0,
+        });
     }
     match meetings::meet(&entry[1..], &pattern[1..], marks) {
-        Meeting::Apart => keep(entry, n, out),
-        Meeting::Shares(todo) => {
-            match cuts::cut_entry(copy, entry, pattern, siblings, todo, n, out) {
-                Cut::Full => Left::Full,
-                Cut::Bytes(end) => Left::Bytes(end, todo),
-            }
+        None => keep(entry, n, out),
+        Some(entries) => {
+            let bytes = cuts::cut_entry(copy, entry, pattern, siblings, entries, n, out)?;
+            Ok(Left { bytes, entries })
         }
     }
 }
@@ -74,28 +77,25 @@ fn strike_area(
     copy: &mut [u8],
     siblings: &[u8; 384],
     out: &mut [u8],
-) -> Left
+) -> Result<Left, Full>
     requires { 2 ≤ length pattern.now }
     ensures { StrikesNoted area.now pattern.now marks.now siblings.now (length copy.old) out.old out.new result }
 {
+    // Kept: entries differ in size, so no iterator counts the offset, and only a walk over its bytes finds where one ends.
     let mut at = 0;
     let mut n = 0;
     let mut entries = 0;
     while at < area.len() {
         let end = entry_end(area, at);
-        match strike_entry(&area[at..end], pattern, marks, copy, siblings, n, out) {
-            Left::Full => return Left::Full,
-            Left::Bytes(bytes, more) => {
-                if out.len() - entries < more {
-                    return Left::Full;
-                }
-                n = bytes;
-                entries += more;
-                at = end;
-            }
+        let left = strike_entry(&area[at..end], pattern, marks, copy, siblings, n, out)?;
+        if out.len() - entries < left.entries {
+            return Err(Full);
         }
+        n = left.bytes;
+        entries += left.entries;
+        at = end;
     }
-    Left::Bytes(n, entries)
+    Ok(Left { bytes: n, entries })
 }
 
 // Puts what the entries of an area leave against a pattern at the front of the slice, one directly behind the other. The marks
@@ -107,11 +107,11 @@ pub fn strike(
     copy: &mut [u8],
     siblings: &[u8; 384],
     out: &mut [u8],
-) -> Left
+) -> Result<Left, Full>
     ensures { StrikesArea area.now pattern.now (length marks.old) siblings.now (length copy.old) out.old out.new result }
 {
     if pattern.len() < 2 {
-        return Left::Full;
+        return Err(Full);
     }
     marks::mark(&pattern[1..], siblings, marks);
     strike_area(area, pattern, marks, copy, siblings, out)

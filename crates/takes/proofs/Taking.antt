@@ -38,11 +38,9 @@ use Rattle.slices.proofs.Copying.{copied-whole}
 use Rattle.kinds.specs.Kinds.{SiblingTable}
 use Rattle.others.specs.Listed.{together}
 use Rattle.signature.specs.Tables.{Tabled}
-use Rattle.signature.specs.declared.Missing.{Missing}
+use Rattle.std.specs.Prelude.{Option}
 use Rattle.cuts.specs.Entries.{EntryOf, PatternOf, TablesOf}
-use Rattle.strikes.specs.Calls.{LeftOf, leaves_of, AreaAt, StrikesArea}
-use Rattle.strikes.specs.declared.Left.{Left}
-use Rattle.strikes.specs.declared.Left.TheVariants.{Bytes, Full}
+use Rattle.strikes.specs.Calls.{Struck, leaving, full, LeftOf, leaves_of, AreaAt, StrikesArea}
 use Rattle.takes.specs.Told.{fruitful_by}
 use Rattle.takes.specs.Taking.{ListingTables, BookEntryOf, behind_bytes, TakeAt, TakesPattern, LeavesArea}
 use Rattle.takes.proofs.Tests.{fruitful-told}
@@ -54,10 +52,10 @@ together-patterns W s (t ∷ l) = ap (λ z. encode_term W s t ++ z) (together-pa
 -- ---- an area that stays
 
 module _ (area : List ℕ) (entries : ℕ) (before : List ℕ) where
-  pub area-full : length before < length area → LeavesArea area entries before before Full
+  pub area-full : length before < length area → LeavesArea area entries before before full
   area-full less ls e count short f = let a = f.all in let l = ap length e in omega arith
 
-  pub area-left : length area ≤ length before → {after : List ℕ} → after ≡ copied area before → LeavesArea area entries before after (Bytes (length area) entries)
+  pub area-left : length area ≤ length before → {after : List ℕ} → after ≡ copied area before → LeavesArea area entries before after (leaving (length area) entries)
   area-left room {after} c ls e count short = record {
     listed = record {
       fits = record { each = short; all = let l = ap length e in omega arith };
@@ -68,7 +66,7 @@ module _ (area : List ℕ) (entries : ℕ) (before : List ℕ) where
 
 -- ---- the settled vocabulary
 
-module _ {W : Vocabulary} {siblings settled : List ℕ} {words : ℕ} {missing : Missing} (h : ListingTables W siblings settled words missing) where
+module _ {W : Vocabulary} {siblings settled : List ℕ} {words : ℕ} {missing : Option ℕ} (h : ListingTables W siblings settled words missing) where
   abbrev U : Vocabulary
   U = settled_vocabulary W
 
@@ -115,7 +113,7 @@ module _ {W : Vocabulary} {siblings settled : List ℕ} {words : ℕ} {missing :
 
 -- ---- a pattern is taken
 
-module _ {area pattern siblings settled : List ℕ} {entries copied words : ℕ} {missing : Missing}
+module _ {area pattern siblings settled : List ℕ} {entries copied words : ℕ} {missing : Option ℕ}
     (h : TakeAt area entries pattern copied siblings settled words missing) where
   abbrev W : Vocabulary
   W = h.vocabulary
@@ -144,7 +142,7 @@ module _ {area pattern siblings settled : List ℕ} {entries copied words : ℕ}
     small = h.small;
   }
 
-module _ {area pattern siblings settled : List ℕ} {entries marked copied words : ℕ} {missing : Missing} (before after : List ℕ) (r : Left) where
+module _ {area pattern siblings settled : List ℕ} {entries marked copied words : ℕ} {missing : Option ℕ} (before after : List ℕ) (r : Struck) where
   pub struck_taken : fruitful_by words settled missing pattern ≡ true → StrikesArea area pattern marked siblings copied before after r →
       TakesPattern area entries pattern marked copied siblings settled words missing before after r
   unfolding settled-area

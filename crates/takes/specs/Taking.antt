@@ -19,11 +19,10 @@ use Rattle.extents.specs.Extents.{most_extent}
 use Rattle.kinds.specs.Kinds.{SiblingTable}
 use Rattle.others.specs.Listed.{together}
 use Rattle.signature.specs.Settled.{SettledOf}
-use Rattle.signature.specs.declared.Missing.{Missing}
-use Rattle.strikes.specs.Calls.{LeftOf}
-use Rattle.strikes.specs.declared.Left.{Left}
+use Rattle.std.specs.Prelude.{Option}
+use Rattle.strikes.specs.Calls.{Struck, LeftOf}
 
-pub record ListingTables (W : Vocabulary) (siblings settled : List ℕ) (words : ℕ) (missing : Missing) : Type 0 where
+pub record ListingTables (W : Vocabulary) (siblings settled : List ℕ) (words : ℕ) (missing : Option ℕ) : Type 0 where
   pub in_order : InOrder W
   pub settled_of : SettledOf W words settled missing
   pub siblings_of : SiblingTable (min words most_words) settled siblings
@@ -36,7 +35,7 @@ pub record BookEntryOf (W : Vocabulary) (s : ℕ) (e : Term) : Type 0 where
 abbrev pub behind_bytes : Vocabulary → ℕ → Term → List Term → List (List ℕ)
 behind_bytes W s t es = map (encode_term W s) (left_behind (signature W) s t es)
 
-pub record TakeAt (area : List ℕ) (entries : ℕ) (pattern : List ℕ) (copied : ℕ) (siblings settled : List ℕ) (words : ℕ) (missing : Missing) : Type 0 where
+pub record TakeAt (area : List ℕ) (entries : ℕ) (pattern : List ℕ) (copied : ℕ) (siblings settled : List ℕ) (words : ℕ) (missing : Option ℕ) : Type 0 where
   pub vocabulary : Vocabulary
   pub kind : ℕ
   pub es : List Term
@@ -50,11 +49,11 @@ pub record TakeAt (area : List ℕ) (entries : ℕ) (pattern : List ℕ) (copied
   pub copy : All (λ e. length (encode_term vocabulary kind e) + length (encode_term vocabulary kind term) ≤ copied) es
   pub small : copied ≤ most_extent
 
-abbrev pub TakesPattern : List ℕ → ℕ → List ℕ → ℕ → ℕ → List ℕ → List ℕ → ℕ → Missing → List ℕ → List ℕ → Left → Type 0
+abbrev pub TakesPattern : List ℕ → ℕ → List ℕ → ℕ → ℕ → List ℕ → List ℕ → ℕ → Option ℕ → List ℕ → List ℕ → Struck → Type 0
 TakesPattern area entries pattern marked copied siblings settled words missing before after r =
     (h : TakeAt area entries pattern copied siblings settled words missing) → length pattern ≤ marked →
     LeftOf (behind_bytes h.vocabulary h.kind h.term h.es) 0 before after r
 
-abbrev pub LeavesArea : List ℕ → ℕ → List ℕ → List ℕ → Left → Type 0
+abbrev pub LeavesArea : List ℕ → ℕ → List ℕ → List ℕ → Struck → Type 0
 LeavesArea area entries before after r =
     (ls : List (List ℕ)) → area ≡ together ls → entries ≡ length ls → All (λ l. length l ≤ most_bytes) ls → LeftOf ls 0 before after r

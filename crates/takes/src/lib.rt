@@ -6,43 +6,41 @@ ghost use Rattle.std.specs.Prelude.{◌≡◌, length};
 ghost use Rattle.takes.specs.Told.{fruitful_by, whole_count};
 ghost use Rattle.takes.specs.Taking.{LeavesArea, TakesPattern};
 
-use signature::Missing;
+use others::Full;
 use strikes::Left;
 
 // Whether every word of a pattern is one that some complete situation has.
-fn is_fruitful(pattern: &[u8], words: usize, settled: &[u8; 96], missing: Missing) -> bool
+fn is_fruitful(pattern: &[u8], words: usize, settled: &[u8; 96], missing: Option<usize>) -> bool
     ensures { result ≡ fruitful_by words settled.now missing pattern.now }
 {
     match missing {
-        Missing::Kind(empty) => productive::fruitful(pattern, words, settled, empty),
-        Missing::Nothing => true,
+        Some(empty) => productive::fruitful(pattern, words, settled, empty),
+        None => true,
     }
 }
 
 // How many entries a kind has before any pattern: one, 255, or none where no complete situation has the kind.
-pub fn whole(kind: u8, words: usize, settled: &[u8; 96], missing: Missing) -> usize
+pub fn whole(kind: u8, words: usize, settled: &[u8; 96], missing: Option<usize>) -> usize
     ensures { result ≡ whole_count words settled.now missing kind }
 {
     match missing {
-        Missing::Kind(empty) => {
-            if productive::inhabited(kind as usize, words, settled, empty) {
-                return 1;
-            }
-            0
-        }
-        Missing::Nothing => 1,
+        Some(empty) => productive::inhabited(kind as usize, words, settled, empty) as usize,
+        None => 1,
     }
 }
 
 // Copies an area, which holds so many entries.
-fn leave(area: &[u8], entries: usize, to: &mut [u8]) -> Left
+fn leave(area: &[u8], entries: usize, to: &mut [u8]) -> Result<Left, Full>
     ensures { LeavesArea area.now entries to.old to.new result }
 {
     if to.len() < area.len() {
-        return Left::Full;
+        return Err(Full);
     }
     slices::copy(area, to);
-    Left::Bytes(area.len(), entries)
+    Ok(Left {
+        bytes: area.len(),
+        entries,
+    })
 }
 
 // Puts what the entries of an area leave behind a pattern at the front of the slice, one directly behind the other: all of them
@@ -56,9 +54,9 @@ pub fn take_pattern(
     siblings: &[u8; 384],
     settled: &[u8; 96],
     words: usize,
-    missing: Missing,
+    missing: Option<usize>,
     to: &mut [u8],
-) -> Left
+) -> Result<Left, Full>
     ensures { TakesPattern area.now entries pattern.now (length marks.old) (length copy.old) siblings.now settled.now words missing to.old to.new result }
 {
     if is_fruitful(pattern, words, settled, missing) {

@@ -206,10 +206,10 @@ module _ (b ks ws ps v : List ℕ) (s n : ℕ) (book before : List ℕ) (to : �
 
     module _ (some : 2 ≤ n) (few : n ≤ 64) {space : List ℕ} {r : Reply} (promise : BookPromise v book (replicate 32768 0) space r)
         {numbers : List ℕ} (said : numbers ≡ reply_numbers r) where
-      pub listed-puts : get_or numbers 0 0 ≡ 0 →
-          Adds before to after to' (listed_by (tables_in b ks ws ps (replicate 64 0)) s n (get_or numbers 1 0) space) →
+      pub listed-puts : (vs : List ℕ) → get_or numbers 0 0 ≡ 0 →
+          Adds before to after to' (listed_by (tables_in b ks ws ps vs) s n (get_or numbers 1 0) space) →
           PutsTogether b ks ws ps v s n book before to after to'
-      listed-puts zero adds = puts_by adds (λ X ts h. listed-text h some few promise said (replicate 64 0) zero)
+      listed-puts vs zero adds = puts_by adds (λ X ts h. listed-text h some few promise said vs zero)
 
       pub past-puts : (get_or numbers 0 0 ≡ 0 → ⊥) → {i : ℕ} → i ≡ (get_or numbers 2 0 + 1) % 2 ^ 64 →
           Adds before to after to' (past_by (names b ks) s n i) → PutsTogether b ks ws ps v s n book before to after to'

@@ -1,10 +1,10 @@
 -- Covering: what variables cover is put on the page where a situation fits, and what differs where it does not.
 --
---   cover_none, cover_some                        one token of the pattern, and what it covers
+--   cover_some                                    a variable of the pattern, and what it covers
 --   Covering b from at e before to a s page next  what is left to put from the offsets a and s on
---   covering_all, covering_turn, covering_end     the loop
+--   covering_turn, covering_end                   the loop
 --   covers-fits                                   what is put is what is walked
---   fits-text, differs-text                       the answer
+--   fits-text                                     the answer
 --
 use mathlib.Core.Path.{◌≡◌, refl, sym, ap, ap₂, ◌∙◌}
 use mathlib.Core.Bool.{Bool, true, false, cond}
@@ -22,18 +22,14 @@ use Rattle.texts.specs.Names.{same, opened, is_variable, name_at}
 use Rattle.texts.specs.QuestionReading.{is_open}
 use Rattle.texts.specs.Comparing.{Cover, Walked, fits, unlike, walked_behind, walked_over, walk}
 use Rattle.pages.specs.Pages.{Adds}
-use Rattle.pages.proofs.Turns.{Left, left-all, left_turn, left_end}
-use Rattle.verdicts.specs.Steps.{start_from, behind_token, passed, tokens_in, all_tokens, places_size, step_size, walked, DiffersAt}
-use Rattle.verdicts.specs.Parts.{cover_line, cover_text, covers_text, no_text, walked_text}
+use Rattle.pages.proofs.Turns.{Left, left_turn, left_end}
+use Rattle.verdicts.specs.Steps.{start_from, behind_token, passed, tokens_in, all_tokens, places_size, step_size, walked}
+use Rattle.verdicts.specs.Parts.{cover_line, cover_text, covers_text, walked_text}
 use Rattle.verdicts.proofs.Steps.{stands_none}
 use Rattle.verdicts.proofs.Walking.{first, found, next-drop, next-take, next-all, next-fewer}
 
-module _ (u : Token) (us : List Token) {r : Bool} (v : r ≡ is_variable u) where
-  pub cover_none : r ≡ false → [] ≡ cover_text u us
-  cover_none h = sym (cond_false _ _ _ (sym v ∙ h))
-
-  pub cover_some : r ≡ true → cover_line (record { variable = u; tokens = us }) ≡ cover_text u us
-  cover_some h = sym (cond_true _ _ _ (sym v ∙ h))
+pub cover_some : (u : Token) (us : List Token) {r : Bool} → r ≡ is_variable u → r ≡ true → cover_line (record { variable = u; tokens = us }) ≡ cover_text u us
+cover_some u us v h = sym (cond_true _ _ _ (sym v ∙ h))
 
 -- ---- the loop
 
@@ -43,9 +39,6 @@ pub record Covering (b : List ℕ) (from at e : ℕ) (before : List ℕ) (to a s
   pub enough : length (tokens_in b s e) ≤ steps
   pub left : Left before to page next (covers_text steps (all_tokens b a) (tokens_in b s e))
       (covers_text (length (tokens_in b at e)) (all_tokens b from) (tokens_in b at e))
-
-pub covering_all : (b : List ℕ) (from at e : ℕ) (page : List ℕ) (to : ℕ) → Covering b from at e page to from at page to
-covering_all b from at e page to = record { steps = length (tokens_in b at e); enough = omega arith; left = left-all page to refl }
 
 covers_none : (n : ℕ) (us : List Token) → covers_text n us [] ≡ []
 covers_none zero us = refl
@@ -144,7 +137,3 @@ module _ (b : List ℕ) (from at e : ℕ) (l : Token) where
   fits-text (cs, h) =
       ap (λ x. ascii "# yes\n" ++ x) (covers-fits (length (tokens_in b at e)) (all_tokens b from) (tokens_in b at e) cs h)
       ∙ ap (walked_text l (tokens_in b at e)) (sym h)
-
-  pub differs-text : {due here : ℕ} → DiffersAt b at e (walked b from at e) due here →
-      no_text l (tokens_in b at here) (token_at b due) ≡ walked_text l (tokens_in b at e) (walked b from at e)
-  differs-text {due} h = ap (λ us. no_text l us (token_at b due)) h.same ∙ ap (walked_text l (tokens_in b at e)) (sym h.differs)

@@ -1,29 +1,24 @@
 -- Skipping: how many tokens a term has, and how its end is found.
 --
 --   closing-few, places-few, step-few     no more tokens are passed than stand there
---   level_open, level_close, level-same   the parentheses that are open behind a token
---   level-few                             one more at most
---   close_turn, close_stop, close_end     the loop that finds the ) of a (
---   places_none, places-other, places_some     the places behind a word
---   open_mark, open_variable              the test of something open
---   pass_open, pass_one                   what a token of the pattern stands for
---   admits_open, admits_same              whether it admits a token of the situation
+--   level-few                             behind a token one more parenthesis is open at most
+--   close_turn                            a turn of the loop that finds the ) of a (
+--   places_some                           the places behind a word
 --
 use mathlib.Core.Path.{◌≡◌, refl, sym, ap, ap₂, ◌∙◌}
-use mathlib.Core.Bool.{Bool, true, false, ◌||◌, cond}
+use mathlib.Core.Bool.{Bool, true, false, cond}
 use mathlib.Core.List.{List, [], ◌∷◌}
 use Prim.Native.Nat.{ℕ, zero, suc, ◌+◌, ◌-◌, ◌<◌, ◌≤◌, min}
 use native.Mathlib.Omega.{arith}
-use native.Mathlib.Numerals.{add-one}
 use lib.Dec.{ltb}
 use lib.ListN.{length, drop}
-use Rattle.wire.proofs.Cond.{cond_true, cond_false, choice}
+use Rattle.wire.proofs.Cond.{cond_true, choice}
 use Rattle.texts.specs.Lexemes.{Token, token_size, token_at}
-use Rattle.texts.specs.Names.{same, mark, opening, closing, opened, is_variable}
+use Rattle.texts.specs.Names.{same, mark, opening, closing}
 use Rattle.texts.specs.QuestionReading.{is_open}
 use Rattle.texts.specs.Comparing.{closing_size}
 use Rattle.verdicts.specs.Steps.{start_from, behind_token, passed, tokens_in, level_behind, places_size, step_size}
-use Rattle.verdicts.proofs.Steps.{behind_is, stands-more, stands_none}
+use Rattle.verdicts.proofs.Steps.{behind_is, stands-more}
 
 -- ---- no more tokens than there are
 
@@ -49,17 +44,6 @@ step-few u us = choice (λ n. n ≤ length us) (is_open u) (places_size us) 0 (�
 
 -- ---- parentheses
 
-module _ (u : Token) (d : ℕ) {p : Bool} (o : p ≡ same u (mark opening)) where
-  pub level_open : p ≡ true → d + 1 ≡ level_behind u d
-  level_open h = add-one d ∙ sym (cond_true _ _ _ (sym o ∙ h))
-
-  module _ (h : p ≡ false) {q : Bool} (c : q ≡ same u (mark closing)) where
-    pub level_close : q ≡ true → d - 1 ≡ level_behind u d
-    level_close k = sym (cond_false _ _ _ (sym o ∙ h) ∙ cond_true _ _ _ (sym c ∙ k))
-
-    pub level-same : q ≡ false → d ≡ level_behind u d
-    level-same k = sym (cond_false _ _ _ (sym o ∙ h) ∙ cond_false _ _ _ (sym c ∙ k))
-
 pub level-few : (u : Token) (d : ℕ) → level_behind u d ≤ suc d
 level-few u d =
     choice (λ n. n ≤ suc d) (same u (mark opening)) (suc d) (cond (same u (mark closing)) (d - 1) d) (λ p. omega arith)
@@ -75,20 +59,8 @@ closing_turn u us (suc d) h = ap suc (go (same u (mark opening)) (same u (mark c
     go false true = ap (λ n. closing_size n us) (let e : d ≡ suc d - 1 = omega arith in e)
     go false false = refl
 
-closing-done : (us : List Token) → closing_size 0 us ≡ 0
-closing-done [] = refl
-closing-done (u ∷ us) = refl
-
 module _ (b : List ℕ) (e i d : ℕ) {m : ℕ} (inv : passed b i (closing_size d (tokens_in b i e)) ≡ m) where
-  pub close_end : d ≤ 0 → i ≡ m
-  close_end h =
-      sym (ap (λ n. passed b i (closing_size n (tokens_in b i e))) (let z : d ≡ 0 = omega arith in z) ∙ ap (passed b i) (closing-done (tokens_in b i e)))
-      ∙ inv
-
   module _ {s : ℕ} {r : Bool} (is : s ≡ start_from b i) (test : r ≡ ltb s (min e (length b))) where
-    pub close_stop : r ≡ false → i ≡ m
-    close_stop h = sym (ap (λ us. passed b i (closing_size d us)) (stands_none b i e is test h)) ∙ inv
-
     pub close_turn : r ≡ true → 0 < d → {d' j : ℕ} → d' ≡ level_behind (token_at b s) d → j ≡ s + token_size (drop s b) →
         passed b j (closing_size d' (tokens_in b j e)) ≡ m
     close_turn h k {d'} {j} l f =
@@ -101,16 +73,7 @@ module _ (b : List ℕ) (e i d : ℕ) {m : ℕ} (inv : passed b i (closing_size 
 -- ---- the places behind a word
 
 module _ (b : List ℕ) (at e : ℕ) {s : ℕ} {r : Bool} (is : s ≡ start_from b at) (test : r ≡ ltb s (min e (length b))) where
-  pub places_none : r ≡ false → at ≡ passed b at (places_size (tokens_in b at e))
-  places_none h = sym (ap (λ us. passed b at (places_size us)) (stands_none b at e is test h))
-
   module _ (h : r ≡ true) {p : Bool} (o : p ≡ same (token_at b s) (mark opening)) where
-    pub places-other : p ≡ false → at ≡ passed b at (places_size (tokens_in b at e))
-    places-other k =
-        sym
-        (ap (λ us. passed b at (places_size us)) (stands-more b at e is test h)
-        ∙ ap (passed b at) (cond_false _ _ _ (sym o ∙ k)))
-
     pub places_some : p ≡ true → {j n : ℕ} → j ≡ s + token_size (drop s b) → n ≡ passed b j (closing_size 1 (tokens_in b j e)) →
         n ≡ passed b at (places_size (tokens_in b at e))
     places_some k f g =
@@ -118,29 +81,3 @@ module _ (b : List ℕ) (at e : ℕ) {s : ℕ} {r : Bool} (is : s ≡ start_from
         ∙ sym
         (ap (λ us. passed b at (places_size us)) (stands-more b at e is test h)
         ∙ ap (passed b at) (cond_true _ _ _ (sym o ∙ k)))
-
--- ---- one token of the pattern
-
-module _ (u : Token) {p : Bool} (o : p ≡ same u opened) where
-  pub open_mark : p ≡ true → true ≡ is_open u
-  open_mark h = sym (ap (λ t. t || is_variable u) (sym o ∙ h))
-
-  pub open_variable : p ≡ false → {q : Bool} → q ≡ is_variable u → q ≡ is_open u
-  open_variable h v = v ∙ sym (ap (λ t. t || is_variable u) (sym o ∙ h))
-
-module _ (b : List ℕ) (at e : ℕ) (u : Token) {j : ℕ} (behind : j ≡ behind_token b at) {p : Bool} (o : p ≡ is_open u) where
-  pub pass_open : p ≡ true → {n : ℕ} → n ≡ passed b j (places_size (tokens_in b j e)) →
-      n ≡ passed b at (suc (step_size u (tokens_in b (behind_token b at) e)))
-  pass_open h g =
-      g ∙ ap (λ x. passed b x (places_size (tokens_in b x e))) behind
-      ∙ sym (ap (passed b (behind_token b at)) (cond_true _ _ _ (sym o ∙ h)))
-
-  pub pass_one : p ≡ false → j ≡ passed b at (suc (step_size u (tokens_in b (behind_token b at) e)))
-  pass_one h = behind ∙ sym (ap (passed b (behind_token b at)) (cond_false _ _ _ (sym o ∙ h)))
-
-module _ (u v : Token) {p : Bool} (o : p ≡ is_open u) where
-  pub admits_open : p ≡ true → true ≡ (is_open u || same u v)
-  admits_open h = sym (ap (λ t. t || same u v) (sym o ∙ h))
-
-  pub admits_same : p ≡ false → {q : Bool} → q ≡ same u v → q ≡ (is_open u || same u v)
-  admits_same h e = e ∙ sym (ap (λ t. t || same u v) (sym o ∙ h))

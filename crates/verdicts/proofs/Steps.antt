@@ -1,7 +1,6 @@
 -- Steps: the tokens of a text between offsets, and the offsets behind them.
 --
 --   behind_is                    the offset behind a token, where its beginning is known
---   stand_past, stand_here       the test whether a token begins before an end
 --   later                        a step goes on
 --   tokens-more, tokens_none     the tokens between two offsets: the first one and those behind it, or none
 --   stands_less, stands-more, stands_none     the same by the test of an offset
@@ -34,13 +33,6 @@ side m n = go (ltb m n) refl
     go : (t : Bool) → ltb m n ≡ t → (m < n) ⊎ (n ≤ m)
     go true h = inl (ltb-true m n h)
     go false h = inr (ltb-false m n h)
-
-pub stand_past : (s e l : ℕ) → l ≤ s → false ≡ ltb s (min e l)
-stand_past s e l h = sym (le-ltb s (min e l) (omega arith))
-
-pub stand_here : (s e l : ℕ) → s < l → ltb s e ≡ ltb s (min e l)
-stand_here s e l h =
-    ⊎_elim (λ k. lt-ltb s e k ∙ sym (lt-ltb s (min e l) (omega arith))) (λ k. le-ltb s e k ∙ sym (le-ltb s (min e l) (omega arith))) (side s e)
 
 pub behind_is : (b : List ℕ) (i : ℕ) {s j : ℕ} → s ≡ start_from b i → j ≡ s + token_size (drop s b) → j ≡ behind_token b i
 behind_is b i e f = f ∙ ap (λ s. s + token_size (drop s b)) e

@@ -3,7 +3,7 @@
 --   uncovered w                        w, where what variables cover is left out
 --   walk-on, walk_off, walk_end        the pattern's token admits the situation's, it does not, and there is none
 --   Walking b from at e a s            what is left to walk from the offsets a and s on
---   walking_all, walking_turn, walking_fits, walking_differs      the loop
+--   walking_turn, walking_fits, walking_differs      the loop
 --   first, found                       the tokens at which a step begins
 --   next-drop, next-take, next-all, next-fewer     the tokens behind a step, and those that it passes
 --
@@ -29,10 +29,6 @@ uncovered (fits cs) = fits []
 uncovered (unlike n u) = unlike n u
 
 -- ---- a step
-
-behind_none : (w : Walked) → walked_behind 0 w ≡ w
-behind_none (fits cs) = refl
-behind_none (unlike n u) = ap (λ k. unlike k u) (let e : 0 + n ≡ n = omega arith in e)
 
 behind_add : (m n : ℕ) (w : Walked) → walked_behind m (walked_behind n w) ≡ walked_behind (m + n) w
 behind_add m n (fits cs) = refl
@@ -107,16 +103,6 @@ pub record Walking (b : List ℕ) (from at e a s : ℕ) : Type 0 where
   pub within : count ≤ length (tokens_in b at e)
   pub enough : length (tokens_in b s e) ≤ steps
   pub rest : walked_behind count (uncovered (walk steps (all_tokens b a) (tokens_in b s e))) ≡ uncovered (walked b from at e)
-
-pub walking_all : (b : List ℕ) (from at e : ℕ) → Walking b from at e from at
-walking_all b from at e = record {
-  count = 0;
-  steps = length (tokens_in b at e);
-  here = refl;
-  within = omega arith;
-  enough = omega arith;
-  rest = behind_none (uncovered (walked b from at e));
-}
 
 -- The step from the offsets a and s, where the tokens at due and here stand.
 module _ (b : List ℕ) (e a s : ℕ) {here due : ℕ} {r : Bool} (is : here ≡ start_from b s) (test : r ≡ ltb here (min e (length b))) (more : r ≡ true) (owed : due ≡ start_from b a) where

@@ -1,13 +1,13 @@
 -- Parts: the parts of an answer that functions of their own put; no public contract cites it.
 --
---   drawn h l              the text l, or where h says so a space for each of its characters
+--   drawn i l              the text l, or where i says so a space for each of its characters
 --   cover_line c            what a variable covers, on a line of its own
 --   cover_text u us         .. where the pattern's token u is a variable, and nothing where it is none
 --   covers_text n us vs     what the variables among the pattern's tokens us cover of the situation's tokens vs, in n steps
 --   no_text l us u          that the token u is due, below the place behind the tokens us, where l is the label
 --   walked_text l vs w      the answer, where vs are the tokens of the situation
 --
-use Rattle.std.specs.Prelude.{Bool, cond, List, [], ◌∷◌, ◌++◌, ℕ, zero, suc, take, drop, replicate}
+use Rattle.std.specs.Prelude.{cond, List, [], ◌∷◌, ◌++◌, ℕ, zero, suc, take, drop, replicate}
 use Rattle.wire.specs.Row.{write_row}
 use Rattle.wire.specs.Text.{ascii, newline}
 use Rattle.texts.specs.Lexemes.{Token}
@@ -17,9 +17,12 @@ use Rattle.texts.specs.Complaints.{columns}
 use Rattle.texts.specs.Verdicts.{ask_text}
 use Rattle.texts.specs.Comparing.{Cover, Walked, fits, unlike}
 use Rattle.verdicts.specs.Steps.{step_size}
+use Rattle.verdicts.specs.declared.Ink.{Ink}
+use Rattle.verdicts.specs.declared.Ink.TheVariants.{Letters, Spaces}
 
-abbrev pub drawn : Bool → List ℕ → List ℕ
-drawn h l = cond h (replicate (columns l) 32) l
+abbrev pub drawn : Ink → List ℕ → List ℕ
+drawn Letters l = l
+drawn Spaces l = replicate (columns l) 32
 
 abbrev pub cover_line : Cover → List ℕ
 cover_line c = ascii "# " ++ (c.variable ++ (ascii " = " ++ (spell c.tokens ++ newline)))

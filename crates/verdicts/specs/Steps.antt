@@ -13,13 +13,12 @@
 --   DiffersAt b at e w due here     w differs behind the tokens up to the offset here, where the pattern has the token at due
 --   Compares b at e w r    the answer r says what w says
 --
-use Rattle.std.specs.Prelude.{◌≡◌, cond, List, [], ◌∷◌, ℕ, zero, suc, ◌+◌, ◌-◌, min, ltb, length, take, drop}
+use Rattle.std.specs.Prelude.{◌≡◌, cond, Option, Some, None, List, [], ◌∷◌, ℕ, zero, suc, ◌+◌, ◌-◌, min, ltb, length, take, drop}
 use Rattle.texts.specs.Lexemes.{Token, Lexeme, blanks, token_size, lexemes_from, token_at}
 use Rattle.texts.specs.Names.{same, mark, opening, closing, name_at}
 use Rattle.texts.specs.QuestionReading.{is_open}
 use Rattle.texts.specs.Comparing.{closing_size, Cover, Walked, fits, unlike, walk}
-use Rattle.verdicts.specs.declared.Compared.{Compared}
-use Rattle.verdicts.specs.declared.Compared.TheVariants.{Fits, Differs}
+use Rattle.verdicts.specs.declared.Difference.{Difference}
 
 abbrev pub start_from : List ℕ → ℕ → ℕ
 start_from b i = i + blanks (drop i b)
@@ -59,6 +58,6 @@ pub record DiffersAt (b : List ℕ) (at e : ℕ) (w : Walked) (due here : ℕ) :
   pub differs : w ≡ unlike before (token_at b due)
   pub same : tokens_in b at here ≡ take before (tokens_in b at e)
 
-abbrev pub Compares : List ℕ → ℕ → ℕ → Walked → Compared → Type 0
-Compares b at e w Fits = (cs : List Cover) × (w ≡ fits cs)
-Compares b at e w (Differs due here) = DiffersAt b at e w due here
+abbrev pub Compares : List ℕ → ℕ → ℕ → Walked → Option Difference → Type 0
+Compares b at e w None = (cs : List Cover) × (w ≡ fits cs)
+Compares b at e w (Some d) = DiffersAt b at e w d.due d.here

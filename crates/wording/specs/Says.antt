@@ -1,25 +1,21 @@
 -- Says: what the functions that write a term promise each other; no public contract cites it.
 --
---   Says said entry before to after at next    the text of `said` is added to the page, and what it leaves of the entry begins at the offset at
---   word_tables text ws ps vs                   the tables, of which those of words, places and variables say a term
---   separator i                                what stands before the place of number i
+--   Says said before after left                 the text of `said` is put on the page, and what it leaves of the bytes is left
+--   separator i                                 what stands before the place of number i
 --   say_place sayer m l                         one place: the term at the front of l where the lowest bit of m stands, or an open place
 --   kind_text text ks s                         what is written behind what is of kind s
 --
-use Rattle.std.specs.Prelude.{◌≡◌, cond, List, [], ◌++◌, map, ℕ, ◌%◌, eqb, drop}
+use Rattle.std.specs.Prelude.{◌≡◌, cond, List, ◌++◌, map, ℕ, ◌%◌, eqb}
 use Rattle.wire.specs.Text.{ascii}
 use Rattle.texts.specs.Lexemes.{token_at}
 use Rattle.texts.specs.Names.{opened, mark, opening, colon, name_at}
-use Rattle.texts.specs.Saying.{Tables, Said, comma_text}
-use Rattle.pages.specs.Pages.{Adds}
-use Rattle.wording.specs.Tables.{tables_in}
+use Rattle.texts.specs.Saying.{Said, comma_text}
+use Rattle.pages.specs.declared.Page.{Page}
+use Rattle.pages.specs.Pages.{Puts}
 
-pub record Says (said : Said) (entry before : List ℕ) (to : ℕ) (after : List ℕ) (at next : ℕ) : Type 0 where
-  pub text : Adds before to after next said.text
-  pub rest : said.rest ≡ drop at entry
-
-abbrev pub word_tables : List ℕ → List ℕ → List ℕ → List ℕ → Tables
-word_tables text ws ps vs = tables_in text [] ws ps vs
+pub record Says (said : Said) (before after : Page) (left : List ℕ) : Type 0 where
+  pub text : Puts before after said.text
+  pub rest : said.rest ≡ left
 
 abbrev pub separator : ℕ → List ℕ
 separator i = cond (eqb i 0) (mark opening) comma_text

@@ -1,30 +1,31 @@
 -- `books::list_book` meets its contract.
-use mathlib.Core.Path.{refl, sym, ap, ◌∙◌}
-use Rattle.reader.specs.Answers.{book_numbers}
-use Rattle.reader.proofs.Refused.{vocabulary-refuses, book_refuses}
-use Rattle.books.proofs.Calls.{book_refused_lem, book_at, book_listed_lem}
+use mathlib.Core.Path.{refl}
+use Rattle.books.proofs.Calls.{input_passed_on, turn_passed_on, inputs_refused, book_at, book_listed_lem, turn_refused_is}
 use Rattle.books.proofs.list_book.Goals as goal
+
+pub returns-in_err-missing : goal.returns-in_err-missing
+returns-in_err-missing c =
+    let a = c.args in
+    rw (input_passed_on _ _ c.from_residual.ensures.1) (inputs_refused a.vocabulary.now a.book.now a.out.now
+    (λ i. (c.type_inv.vocabulary i).fits) (λ i. (c.type_inv.book i).fits) _ c.in_err-missing.ensures.answer)
 
 pub list_read-requires : goal.list_read-requires
 list_read-requires c =
-    book_at c.args.vocabulary.now c.args.book.now c.args.out.now
-    (λ i. (c.shared_slice_known-1.given i).fits) (λ i. (c.shared_slice_known-2-1.given i).fits)
-    (ap book_numbers (sym c.in-Read.is) ∙ c.read_book.ensures.answer) refl (c.read_book.ensures.settles _ c.in-Read.is)
+    let a = c.args in
+    book_at a.vocabulary.now a.book.now a.out.now
+    (λ i. (c.type_inv.vocabulary i).fits) (λ i. (c.type_inv.book i).fits)
+    c.in_ok-missing.ensures.answer refl (c.in_ok-missing.ensures.settles _ refl)
 
-pub returns-in-Vocabulary : goal.returns-in-Vocabulary
-returns-in-Vocabulary c =
-    book_refused_lem c.args.vocabulary.now c.args.book.now c.args.out.now
-    (λ i. (c.shared_slice_known-1.given i).fits) (λ i. (c.shared_slice_known-2-1.given i).fits)
-    _ (vocabulary-refuses c.in-Vocabulary.why) (sym (ap book_numbers c.in-Vocabulary.is) ∙ c.read_book.ensures.answer)
+pub returns-in_err-size : goal.returns-in_err-size
+returns-in_err-size c =
+    let a = c.args in
+    rw (turn_passed_on _ _ c.from_residual-in_err-size.ensures.1) (book_listed_lem a.vocabulary.now a.book.now a.out.now
+    (λ i. (c.type_inv.vocabulary i).fits) (λ i. (c.type_inv.book i).fits)
+    c.in_ok-missing.ensures.answer refl (c.in_ok-missing.ensures.settles _ refl) (turn_refused_is _) c.in_err-size.ensures)
 
-pub returns-in-Book : goal.returns-in-Book
-returns-in-Book c =
-    book_refused_lem c.args.vocabulary.now c.args.book.now c.args.out.now
-    (λ i. (c.shared_slice_known-1.given i).fits) (λ i. (c.shared_slice_known-2-1.given i).fits)
-    _ (book_refuses c.in-Book.why) (sym (ap book_numbers c.in-Book.is) ∙ c.read_book.ensures.answer)
-
-pub returns-in-Read : goal.returns-in-Read
-returns-in-Read c =
-    book_listed_lem c.args.vocabulary.now c.args.book.now c.args.out.now
-    (λ i. (c.shared_slice_known-1.given i).fits) (λ i. (c.shared_slice_known-2-1.given i).fits)
-    (ap book_numbers (sym c.in-Read.is) ∙ c.read_book.ensures.answer) refl (c.read_book.ensures.settles _ c.in-Read.is) c.answer.ensures c.list_read.ensures
+pub returns : goal.returns
+returns c =
+    let a = c.args in
+    book_listed_lem a.vocabulary.now a.book.now a.out.now
+    (λ i. (c.type_inv.vocabulary i).fits) (λ i. (c.type_inv.book i).fits)
+    c.in_ok-missing.ensures.answer refl (c.in_ok-missing.ensures.settles _ refl) refl c.in_ok-size.ensures

@@ -1,4 +1,5 @@
 -- `complaints::put_behind` meets its contract.
+use Rattle.std.proofs.Common.{◌≡◌, length, rules, tests}
 use Rattle.texts.specs.Lexemes.{token_at}
 use Rattle.pages.proofs.Pages.{adds_is, adds_then}
 use Rattle.complaints.proofs.Said.{then_some}
@@ -6,4 +7,5 @@ use Rattle.complaints.proofs.put_behind.Goals as goal
 
 pub returns : goal.returns
 returns c = let s = c.args in
-    adds_is (then_some (token_at s.text.now s.at) s.ending.now c.if-ending-eq0.false) (adds_then c.put_token-named.ensures c.put.ensures)
+    let some : length s.ending.now ≡ 0 → ⊥ = search (rules, tests) in
+    adds_is (then_some (token_at s.text.now s.at) s.ending.now some) (adds_then c.put_token.ensures c.put.ensures)

@@ -12,10 +12,10 @@ returns-then-joins_words c =
     cond_true _ _ _ (sym c.joins_words.ensures ∙ c.if-joins_words.true)))
     c.put-then-joins_words.ensures
 
-pub returns : goal.returns
-returns c =
+pub returns-else-joins_words : goal.returns-else-joins_words
+returns-else-joins_words c =
     adds_is
     (sym
     (cond_false _ _ _ (sym c.is_word.ensures ∙ c.if-is_word.false) ∙
     cond_false _ _ _ (sym c.joins_words.ensures ∙ c.if-joins_words.false)))
-    c.put-2.ensures
+    c.put-else-joins_words.ensures

@@ -7,8 +7,8 @@ use Rattle.pages.proofs.Turns.{left_turn, left_end}
 use Rattle.complaints.proofs.Drawing.{row_turn}
 use Rattle.complaints.proofs.put_row.Goals as goal
 
-pub loop-i-preserved : goal.loop-i-preserved
-loop-i-preserved c = left_turn c.loop-i.invariant (row_turn (drawn c.args.padded) c.args.part.now c.loop-i.i c.loop-i-test.true) c.put_drawn-next.ensures
+pub loop-b-preserved : goal.loop-b-preserved
+loop-b-preserved c = left_turn c.loop-b.invariant (row_turn (drawn c.args.row) c.args.part.now c.loop-b.b-index c.loop-b-test.true) c.put_seen.ensures
 
 pub returns : goal.returns
-returns c = left_end c.loop-i.invariant (ap (write_row (drawn c.args.padded)) (drop_of_length-le c.args.part.now c.loop-i-test.false))
+returns c = left_end c.loop-b.invariant (ap (write_row (drawn c.args.row)) (drop_of_length-le c.args.part.now c.loop-b-test.false))

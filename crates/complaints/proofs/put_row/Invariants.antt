@@ -1,13 +1,10 @@
 -- `complaints::put_row` meets its contract.
-use Prim.Native.Nat.{◌-◌}
-use lib.ListN.{length, drop}
+use lib.ListN.{drop}
 use Rattle.wire.specs.Row.{write_row}
 use Rattle.complaints.specs.Parts.{drawn}
 use Rattle.pages.proofs.Turns.{Left}
 use Rattle.complaints.proofs.put_row.Given as goal
 
-abbrev pub invariant-loop-i : goal.invariant-loop-i
-invariant-loop-i l = Left l.initial.page l.to l.page l.next (write_row (drawn l.padded) (drop l.i l.part)) (write_row (drawn l.padded) l.part)
-
-abbrev pub decreases-loop-i : goal.decreases-loop-i
-decreases-loop-i l = length l.part - l.i
+abbrev pub invariant-loop-b : goal.invariant-loop-b
+invariant-loop-b l =
+    Left l.initial.page.bytes l.initial.page.end l.page.bytes l.page.end (write_row (drawn l.row) (drop l.b-index l.part)) (write_row (drawn l.row) l.part)

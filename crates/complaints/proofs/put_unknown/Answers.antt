@@ -10,8 +10,8 @@ returns-then-is_mark c = let s = c.args in
 
 pub returns-then-is_variable : goal.returns-then-is_variable
 returns-then-is_variable c = let s = c.args in
-    adds_is (unknown-blank (token_at s.text.now s.at) (behind_is s.text.now s.at c.end.ensures c.start-behind.ensures) c.is_mark.ensures c.if-is_mark.false c.is_variable.ensures c.if-is_variable.true) (adds_then c.put-opened.ensures (adds_then c.put_token-named.ensures (adds_then c.put-known.ensures c.put-then-is_variable.ensures)))
+    adds_is (unknown-blank (token_at s.text.now s.at) (behind_is s.text.now s.at c.end.ensures c.start-behind.ensures) c.is_mark.ensures c.if-is_mark.false c.is_variable.ensures c.if-is_variable.true) (adds_then c.put-2.ensures (adds_then c.put_token.ensures (adds_then c.put-3.ensures c.put-then-is_variable.ensures)))
 
-pub returns : goal.returns
-returns c = let s = c.args in
-    adds_is (unknown-plain (token_at s.text.now s.at) (behind_is s.text.now s.at c.end.ensures c.start-behind.ensures) c.is_mark.ensures c.if-is_mark.false c.is_variable.ensures c.if-is_variable.false) (adds_then c.put-opened.ensures (adds_then c.put_token-named.ensures c.put-known.ensures))
+pub returns-else-is_variable : goal.returns-else-is_variable
+returns-else-is_variable c = let s = c.args in
+    adds_is (unknown-plain (token_at s.text.now s.at) (behind_is s.text.now s.at c.end.ensures c.start-behind.ensures) c.is_mark.ensures c.if-is_mark.false c.is_variable.ensures c.if-is_variable.false) (adds_then c.put-2.ensures (adds_then c.put_token.ensures c.put-3.ensures))

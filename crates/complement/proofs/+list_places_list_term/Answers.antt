@@ -1,5 +1,5 @@
 -- `complement::list_places` and `complement::list_term` meet their contracts.
-use mathlib.Core.Path.{sym, ◌∙◌}
+use mathlib.Core.Path.{refl, sym, ◌∙◌}
 use Prim.Native.Nat.{◌+◌}
 use native.Mathlib.Omega.{arith}
 use Rattle.maps.proofs.Reading.{map_at_lem}
@@ -10,7 +10,7 @@ use Rattle.complement.proofs.+list_places_list_term.Goals as goal
 -- ---- list_places, at the loop
 
 pub list_places-loop-bits-init : goal.list_places-loop-bits-init
-list_places-loop-bits-init t c = λ h. reached_none _ h c.wide-bits.ensures.same
+list_places-loop-bits-init t c = λ h. reached_none _ h refl
 
 pub list_places-overflow_add-b : goal.list_places-overflow_add-b
 list_places-overflow_add-b t c = let low = (c.loop-bits.invariant c.requires).low in omega arith
@@ -69,7 +69,7 @@ list_term-returns-then-first-gt127 t c = λ h. name-listed h c.if-first-gt127.tr
 pub list_term-write_others-n-requires : goal.list_term-write_others-n-requires
 list_term-write_others-n-requires t c =
     let h = c.requires in
-    own-others_at c.args.out.now h (term-word h c.if-first-gt127.false) c.wide-f.ensures.same
+    own-others_at c.args.out.now h (term-word h c.if-first-gt127.false) refl
     (c.read-map.ensures ∙ sym (map_at_lem c.args.copy.now (c.args.at + 1))) c.lowest.ensures.same
 
 -- Its own entries are written.
@@ -78,16 +78,16 @@ list_term-slice_bounds-list_places-count t c =
     let h = c.requires in
     let w = term-word h c.if-first-gt127.false in
     let mapped = c.read-map.ensures ∙ sym (map_at_lem c.args.copy.now (c.args.at + 1)) in
-    own-inside c.args.out.now h w c.wide-f.ensures.same mapped
-    (c.write_others-n.ensures (own-others_at c.args.out.now h w c.wide-f.ensures.same mapped c.lowest.ensures.same))
+    own-inside c.args.out.now h w refl mapped
+    (c.write_others-n.ensures (own-others_at c.args.out.now h w refl mapped c.lowest.ensures.same))
 
 pub list_term-slice_bounds-list_places-start : goal.list_term-slice_bounds-list_places-start
 list_term-slice_bounds-list_places-start t c =
     let h = c.requires in
     let w = term-word h c.if-first-gt127.false in
     let mapped = c.read-map.ensures ∙ sym (map_at_lem c.args.copy.now (c.args.at + 1)) in
-    own-inside c.args.out.now h w c.wide-f.ensures.same mapped
-    (c.write_others-n.ensures (own-others_at c.args.out.now h w c.wide-f.ensures.same mapped c.lowest.ensures.same))
+    own-inside c.args.out.now h w refl mapped
+    (c.write_others-n.ensures (own-others_at c.args.out.now h w refl mapped c.lowest.ensures.same))
 
 -- The terms of its bits stand in the copy, and have room in the part that is left.
 pub list_term-list_places-below-requires : goal.list_term-list_places-below-requires
@@ -95,8 +95,8 @@ list_term-list_places-below-requires t c =
     let h = c.requires in
     let w = term-word h c.if-first-gt127.false in
     let mapped = c.read-map.ensures ∙ sym (map_at_lem c.args.copy.now (c.args.at + 1)) in
-    let own = c.write_others-n.ensures (own-others_at c.args.out.now h w c.wide-f.ensures.same mapped c.lowest.ensures.same) in
-    let p = word-places c.args.out.now h w c.wide-f.ensures.same mapped own in
+    let own = c.write_others-n.ensures (own-others_at c.args.out.now h w refl mapped c.lowest.ensures.same) in
+    let p = word-places c.args.out.now h w refl mapped own in
     (omega (arith, c.decreases, p.deep), p)
 
 -- ---- list_term, at a word whose terms are listed
@@ -106,9 +106,9 @@ list_term-overflow_add-written t c =
     let h = c.requires in
     let w = term-word h c.if-first-gt127.false in
     let mapped = c.read-map.ensures ∙ sym (map_at_lem c.args.copy.now (c.args.at + 1)) in
-    let own = c.write_others-n.ensures (own-others_at c.args.out.now h w c.wide-f.ensures.same mapped c.lowest.ensures.same) in
-    let p = word-places c.args.out.now h w c.wide-f.ensures.same mapped own in
-    let l = word-listed c.args.out.now h w c.wide-f.ensures.same mapped own (c.list_places-below.ensures p) in
+    let own = c.write_others-n.ensures (own-others_at c.args.out.now h w refl mapped c.lowest.ensures.same) in
+    let p = word-places c.args.out.now h w refl mapped own in
+    let l = word-listed c.args.out.now h w refl mapped own (c.list_places-below.ensures p) in
     record { fits = omega (arith, h.fits, l.written.count) }
 
 pub list_term-returns : goal.list_term-returns
@@ -116,6 +116,6 @@ list_term-returns t c =
     λ h.
     let w = term-word h c.if-first-gt127.false in
     let mapped = c.read-map.ensures ∙ sym (map_at_lem c.args.copy.now (c.args.at + 1)) in
-    let own = c.write_others-n.ensures (own-others_at c.args.out.now h w c.wide-f.ensures.same mapped c.lowest.ensures.same) in
-    let p = word-places c.args.out.now h w c.wide-f.ensures.same mapped own in
-    word-listed c.args.out.now h w c.wide-f.ensures.same mapped own (c.list_places-below.ensures p)
+    let own = c.write_others-n.ensures (own-others_at c.args.out.now h w refl mapped c.lowest.ensures.same) in
+    let p = word-places c.args.out.now h w refl mapped own in
+    word-listed c.args.out.now h w refl mapped own (c.list_places-below.ensures p)

@@ -1,4 +1,5 @@
 -- `complement::list_settled` meets its contract.
+use mathlib.Core.Path.{refl}
 use Rattle.complement.proofs.Sifting.{fruitful-told, fruitful_patterned, fruitful-listed, inhabited-told, barren_listed}
 use Rattle.complement.proofs.list_settled.Goals as goal
 
@@ -12,4 +13,4 @@ returns-then-fruitful c =
 
 pub returns : goal.returns
 returns c =
-    λ h. barren_listed h (fruitful-told h c.fruitful.ensures c.if-fruitful.false) c.args.out.now (inhabited-told h c.wide.ensures.same c.inhabited-some.ensures) c.list_whole.ensures
+    λ h. barren_listed h (fruitful-told h c.fruitful.ensures c.if-fruitful.false) c.args.out.now (inhabited-told h refl c.inhabited-some.ensures) c.list_whole.ensures

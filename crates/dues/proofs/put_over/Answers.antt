@@ -11,5 +11,6 @@ pub returns-then-more-eq0 : goal.returns-then-more-eq0
 returns-then-more-eq0 c = adds_is (sym (cond_true _ _ _ (sym c.is_mark.ensures ∙ c.if-not-is_mark.false) ∙ cond_true _ _ _ (eq-eqb _ 0 (sym c.count_commas-more.ensures.value ∙ c.if-more-eq0.true)))) c.put-then-more-eq0.ensures
 
 pub returns : goal.returns
-returns c = let said = ap decimal (ap₂ (λ a b. a + b) c.wide.ensures c.count_commas-more.ensures.value) in
-    adds_is (sym (cond_true _ _ _ (sym c.is_mark.ensures ∙ c.if-not-is_mark.false) ∙ cond_false _ _ _ (ne_eqb _ 0 (λ e. c.if-more-eq0.false (c.count_commas-more.ensures.value ∙ e))))) (adds_then c.put-begun.ensures (adds_then (adds_is said c.put_number-counted.ensures) c.put-2.ensures))
+returns c =
+    let said = ap decimal (ap₂ (λ a b. a + b) c.from.ensures c.count_commas-more.ensures.value) in
+    adds_is (sym (cond_true _ _ _ (sym c.is_mark.ensures ∙ c.if-not-is_mark.false) ∙ cond_false _ _ _ (ne_eqb _ 0 (λ e. c.if-more-eq0.false (c.count_commas-more.ensures.value ∙ e))))) (adds_then c.put-2.ensures (adds_then (adds_is said c.put_number.ensures) c.put-3.ensures))

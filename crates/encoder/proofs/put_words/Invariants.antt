@@ -1,10 +1,6 @@
--- `encoder::put_words` meets its contract. The loop's invariant: the words before f are written. The measure is the number of words left.
-use Prim.Native.Nat.{◌-◌}
+-- `encoder::put_words` meets its contract. The loop's invariant: the words before f are written.
 use Rattle.encoder.proofs.Words.{PutTo}
 use Rattle.encoder.proofs.put_words.Given as goal
 
 abbrev pub invariant-loop-f : goal.invariant-loop-f
 invariant-loop-f l = PutTo l.k l.n l.records l.f l.at l.out
-
-abbrev pub decreases-loop-f : goal.decreases-loop-f
-decreases-loop-f l = l.n - l.f

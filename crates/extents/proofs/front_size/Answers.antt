@@ -14,14 +14,14 @@ returns-then-due-eq0 c = from_none c.loop-at.invariant (no_ones _ c.if-due-eq0.t
 pub loop-at-preserved-then-due-eq0-2 : goal.loop-at-preserved-then-due-eq0-2
 loop-at-preserved-then-due-eq0-2 c = subst (DueFrom _ _ _) (beside_ones _ _ c.if-due-eq0-2.true c.node_at-node.ensures.small) (from-node c.loop-at.invariant c.node_at-node.ensures _ c.passed-due.ensures)
 
-pub pass_terms-requires-then-due-ge72057594037927936 : goal.pass_terms-requires-then-due-ge72057594037927936
-pass_terms-requires-then-due-ge72057594037927936 c = (from-below _ _ (from-node c.loop-at.invariant c.node_at-node.ensures _ c.passed-due.ensures) c.pass_terms.ensures).inside
+pub pass_terms-requires-else-due-lt-ROOM : goal.pass_terms-requires-else-due-lt-ROOM
+pass_terms-requires-else-due-lt-ROOM c = (from-below _ _ (from-node c.loop-at.invariant c.node_at-node.ensures _ c.passed-due.ensures) c.pass_terms.ensures).inside
 
-pub returns-then-due-ge72057594037927936 : goal.returns-then-due-ge72057594037927936
-returns-then-due-ge72057594037927936 c = c.pass_terms-then-due-ge72057594037927936.ensures ∙ (from-below _ _ (from-node c.loop-at.invariant c.node_at-node.ensures _ c.passed-due.ensures) c.pass_terms.ensures).left
+pub returns-else-due-lt-ROOM : goal.returns-else-due-lt-ROOM
+returns-else-due-lt-ROOM c = c.pass_terms-else-due-lt-ROOM.ensures ∙ (from-below _ _ (from-node c.loop-at.invariant c.node_at-node.ensures _ c.passed-due.ensures) c.pass_terms.ensures).left
 
-pub loop-at-preserved-else-due-eq0-2 : goal.loop-at-preserved-else-due-eq0-2
-loop-at-preserved-else-due-eq0-2 c = subst (DueFrom _ _ _) (joined-ones _ _ c.node_at-node.ensures.small) (from-node c.loop-at.invariant c.node_at-node.ensures _ c.passed-due.ensures)
+pub loop-at-preserved-then-due-lt-ROOM : goal.loop-at-preserved-then-due-lt-ROOM
+loop-at-preserved-then-due-lt-ROOM c = subst (DueFrom _ _ _) (joined-ones _ _ c.node_at-node.ensures.small) (from-node c.loop-at.invariant c.node_at-node.ensures _ c.passed-due.ensures)
 
 pub loop-at-preserved : goal.loop-at-preserved
 loop-at-preserved c = subst (DueFrom _ _ _) (bare-ones _ _ c.if-map-ne0.false) (from-node c.loop-at.invariant c.node_at-node.ensures _ c.passed-due.ensures)

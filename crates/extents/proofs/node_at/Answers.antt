@@ -10,5 +10,5 @@ use Rattle.extents.proofs.node_at.Goals as goal
 pub returns-then-next-bytes : goal.returns-then-next-bytes
 returns-then-next-bytes c =
     let bytes = c.args.bytes.now in
-    let behind : c.read-map.result ≡ get_or bytes (c.args.at + 1) 0 = c.read-map.ensures ∙ sym (map_at_lem bytes (c.args.at + 1)) in
+    let behind : c.read.result ≡ get_or bytes (c.args.at + 1) 0 = c.read.ensures ∙ sym (map_at_lem bytes (c.args.at + 1)) in
     node-word bytes _ c.requires behind (rw behind (c.type_inv.bytes (c.args.at + 1)).fits) c.if-bytes-at-lt128.true c.if-next-bytes.true

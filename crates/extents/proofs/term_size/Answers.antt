@@ -9,4 +9,4 @@ use Rattle.extents.proofs.term_size.Goals as goal
 pub returns : goal.returns
 returns c =
     let bytes = c.args.bytes.now in
-    c.front_size.ensures ∙ ap (λ l. due_size l 1) (ap (λ n. take n bytes) c.least-end.ensures ∙ front_is most_extent bytes)
+    c.front_size.ensures ∙ ap (λ l. due_size l 1) (ap (λ n. take n bytes) c.min.ensures ∙ front_is most_extent bytes)

@@ -1,5 +1,4 @@
 -- `files::places_of` meets its contract.
-use Prim.Native.Nat.{◌-◌}
 use mathlib.Core.Path.{refl}
 use Rattle.files.proofs.Placing.{placed_turn, placed-all}
 use Rattle.files.proofs.places_of.Goals as goal

@@ -4,5 +4,5 @@ use Rattle.files.proofs.put_file.Goals as goal
 
 pub returns : goal.returns
 returns c =
-    file_puts c.encode-size.ensures.encoded c.places_of-places.ensures c.put-a.ensures c.put_tails-b.ensures
-    c.put-c.ensures c.put_number-d.ensures c.put.ensures
+    file_puts c.encode-size.ensures.encoded c.places_of-places.ensures c.put.ensures c.put_tails.ensures
+    c.put-2.ensures c.put_number.ensures c.put-3.ensures

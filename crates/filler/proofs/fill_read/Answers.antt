@@ -3,28 +3,26 @@ use mathlib.Core.Path.{refl}
 use Rattle.filler.proofs.Calls.{measurable, size-known, writable, fill-large, fill-short, fill-written}
 use Rattle.filler.proofs.fill_read.Goals as goal
 
-pub measure-n-requires : goal.measure-n-requires
-measure-n-requires c =
+pub measure-requires : goal.measure-requires
+measure-requires c =
     measurable c.requires c.args.out.now c.most_levels.ensures refl
 
-pub returns-then-n-gt4096 : goal.returns-then-n-gt4096
-returns-then-n-gt4096 c = λ a.
+pub returns-in_default : goal.returns-in_default
+returns-in_default c = λ a.
     let out = c.args.out.now in
-    fill-large a out _ (size-known a out c.most_levels.ensures refl c.measure-n.ensures) c.if-n-gt4096.true
+    fill-large a out (size-known a out c.most_levels.ensures refl c.in_default.ensures)
 
 pub returns-then-out-n : goal.returns-then-out-n
 returns-then-out-n c = λ a.
     let out = c.args.out.now in
-    fill-short a out _ (size-known a out c.most_levels.ensures refl c.measure-n.ensures) c.if-n-gt4096.false c.if-out-n.true
+    fill-short a out _ (size-known a out c.most_levels.ensures refl c.in-Some.ensures) c.if-out-n.true
 
 pub write-requires : goal.write-requires
 write-requires c =
     let out = c.args.out.now in
-    writable c.requires out _ (size-known c.requires out c.most_levels.ensures refl c.measure-n.ensures) c.if-n-gt4096.false
-    c.if-out-n.false
+    writable c.requires out _ (size-known c.requires out c.most_levels.ensures refl c.in-Some.ensures) c.if-out-n.false
 
 pub returns : goal.returns
 returns c = λ a.
     let out = c.args.out.now in
-    fill-written a out _ (size-known a out c.most_levels.ensures refl c.measure-n.ensures) c.if-n-gt4096.false c.if-out-n.false _
-    c.write.ensures
+    fill-written a out _ (size-known a out c.most_levels.ensures refl c.in-Some.ensures) c.if-out-n.false _ c.write.ensures

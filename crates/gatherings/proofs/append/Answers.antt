@@ -6,4 +6,4 @@ use Rattle.gatherings.proofs.append.Goals as goal
 pub returns : goal.returns
 returns c =
     let a = c.args in
-    appended a.pattern.now a.n a.book.now a.at (omega arith) (omega arith) (omega arith) c.copy.ensures
+    appended a.pattern.now a.n a.book.now a.at (omega (arith, c.told-pattern)) (omega arith) (omega arith) c.copy.ensures

@@ -1,18 +1,23 @@
 -- `gatherings::read_one` meets its contract.
+use mathlib.Core.Path.{refl, sym, subst}
+use Rattle.std.proofs.lemmas.Result.{err_from_is_err_and}
+use Rattle.gatherings.specs.Gathering.{ReadsOne}
 use Rattle.gatherings.proofs.Readings.{one_none, one-refused, one-read}
 use Rattle.gatherings.proofs.read_one.Goals as goal
 
-pub returns-in-Bad : goal.returns-in-Bad
-returns-in-Bad c =
-    let a = c.args in
-    one_none a.text.now a.at a.kinds.now a.k a.words.now a.n a.records.now c.requires _ _ _ c.read_phrase.ensures c.in-Bad.is
+pub returns-in_err-p : goal.returns-in_err-p
+returns-in_err-p c =
+    let a = c.args in let g = a.glossary.now in
+    let z = err_from_is_err_and c.from_residual.result c.from_residual.ensures.1 in
+    subst (ReadsOne g.text.now a.at a.kinds.now a.k g.words.now g.n g.records.now c.read_phrase.new.out) (sym z.1) (one_none g.text.now a.at a.kinds.now a.k g.words.now g.n g.records.now c.requires _ _ _ c.in_err-p.ensures refl)
 
-pub returns-in-Bad-read_questions : goal.returns-in-Bad-read_questions
-returns-in-Bad-read_questions c =
-    let a = c.args in
-    one-refused a.text.now a.at a.kinds.now a.k a.words.now a.n a.records.now c.requires _ _ _ c.read_phrase.ensures c.in-Read.is _ c.read_questions.ensures c.in-Bad-read_questions.is
+pub returns-in_err-behind : goal.returns-in_err-behind
+returns-in_err-behind c =
+    let a = c.args in let g = a.glossary.now in
+    let z = err_from_is_err_and c.from_residual-in_err-behind.result c.from_residual-in_err-behind.ensures.1 in
+    subst (ReadsOne g.text.now a.at a.kinds.now a.k g.words.now g.n g.records.now c.read_phrase.new.out) (sym z.1) (one-refused g.text.now a.at a.kinds.now a.k g.words.now g.n g.records.now c.requires _ _ _ c.in_ok-p.ensures refl _ c.in_err-behind.ensures refl)
 
-pub returns-in-Read-read_questions : goal.returns-in-Read-read_questions
-returns-in-Read-read_questions c =
-    let a = c.args in
-    one-read a.text.now a.at a.kinds.now a.k a.words.now a.n a.records.now c.requires _ _ _ c.read_phrase.ensures c.in-Read.is _ c.read_questions.ensures c.in-Read-read_questions.is
+pub returns : goal.returns
+returns c =
+    let a = c.args in let g = a.glossary.now in
+    one-read g.text.now a.at a.kinds.now a.k g.words.now g.n g.records.now c.requires _ _ _ c.in_ok-p.ensures refl _ c.in_ok-behind.ensures refl

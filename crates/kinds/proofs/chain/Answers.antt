@@ -1,10 +1,10 @@
--- `kinds::chain` meets its contract. The loop's invariant: the words from h on are chained. The measure is h.
+-- `kinds::chain` meets its contract. The loop's invariant: the words from h on are chained.
 use native.Mathlib.Omega.{arith}
 use Rattle.kinds.proofs.Chaining.{chained_none, chained_turn}
 use Rattle.kinds.proofs.chain.Goals as goal
 
 pub loop-h-init : goal.loop-h-init
-loop-h-init c = chained_none c.tabled-h.ensures
+loop-h-init c = chained_none c.min-n.ensures
 
 pub loop-h-preserved : goal.loop-h-preserved
 loop-h-preserved c =

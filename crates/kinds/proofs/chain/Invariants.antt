@@ -1,4 +1,4 @@
--- `kinds::chain` meets its contract. The loop's invariant: the words from h on are chained. The measure is h.
+-- `kinds::chain` meets its contract. The loop's invariant: the words from h on are chained.
 use Prim.Native.Nat.{min}
 use Rattle.wire.specs.Vocabulary.{most_words}
 use Rattle.kinds.proofs.Chaining.{ChainedFrom}
@@ -6,6 +6,3 @@ use Rattle.kinds.proofs.chain.Given as goal
 
 abbrev pub invariant-loop-h : goal.invariant-loop-h
 invariant-loop-h l = ChainedFrom (min l.words most_words) l.results l.chains l.h
-
-abbrev pub decreases-loop-h : goal.decreases-loop-h
-decreases-loop-h l = l.h

@@ -1,8 +1,9 @@
 -- `lexer::token` meets its contract: its end lies in the text.
-use native.Mathlib.Omega.{arith}
-use Rattle.texts.proofs.Scanning.{end-within}
+use Rattle.std.proofs.Common.{arith}
+use Rattle.std.proofs.lemmas.Grind.{common_steps}
+use Rattle.lexer.proofs.Tokens.{token-part}
+use Rattle.texts.proofs.Scanning.{end-within, token_none}
 use Rattle.lexer.proofs.token.Goals as goal
 
-pub slice_bounds-result-end-2 : goal.slice_bounds-result-end-2
-slice_bounds-result-end-2 c =
-    omega (arith, c.end-e.ensures, end-within c.args.text.now c.args.at (omega arith))
+pub returns : goal.returns
+returns c = grind (arith, common_steps, token-part, end-within, token_none)

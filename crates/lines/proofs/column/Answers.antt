@@ -1,5 +1,5 @@
 -- `lines::column` meets its contract.
-use native.Mathlib.Omega.{arith}
+use Rattle.std.proofs.Common.{arith}
 use Rattle.lines.proofs.Counting.{columns-few}
 use Rattle.lines.proofs.column.Goals as goal
 

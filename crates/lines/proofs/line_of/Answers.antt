@@ -1,16 +1,28 @@
 -- `lines::line_of` meets its contract.
-use native.Mathlib.Omega.{arith}
-use Rattle.lines.proofs.Lines.{line-within, lines_turn, lines_none}
+use Rattle.std.proofs.Common.{◌≡◌, ◌+◌, ◌-◌, length, drop, length-drop, ap, ◌∙◌, rules, tests, arith}
+use Rattle.lines.specs.Lines.{line_of}
+use Rattle.lines.proofs.Lines.{lines_nothing, lines_turn}
+use Rattle.lines.proofs.Counting.{line-few}
 use Rattle.lines.proofs.line_of.Goals as goal
 
-pub returns-then-text-at : goal.returns-then-text-at
-returns-then-text-at c = lines_none c.args.text.now c.loop-left.at c.loop-left.left c.loop-left.invariant c.if-text-at.true
+pub returns-then-is_empty : goal.returns-then-is_empty
+returns-then-is_empty c =
+    let none : length c.loop-i.left.now ≡ 0 = search (rules, tests) in
+    lines_nothing c.loop-i.left.now (c.args.number - c.loop-i._i) none ∙ c.loop-i.invariant.0
 
-pub overflow_add-at : goal.overflow_add-at
-overflow_add-at c = omega (arith, line-within c.args.text.now c.loop-left.at c.if-text-at.false c.rest.ensures c.line_size.ensures)
+pub overflow_add-line_size : goal.overflow_add-line_size
+overflow_add-line_size c =
+    let few = c.loop-i.invariant.1 in
+    omega (arith, line-few c.loop-i.left.now, c.line_size.ensures)
 
-pub overflow_add-at-in-loop-left : goal.overflow_add-at-in-loop-left
-overflow_add-at-in-loop-left c = omega (arith, line-within c.args.text.now c.loop-left.at c.if-text-at.false c.rest.ensures c.line_size.ensures)
-
-pub loop-left-preserved : goal.loop-left-preserved
-loop-left-preserved c = lines_turn c.args.text.now c.loop-left.at c.loop-left.left c.loop-left.invariant c.loop-left-test.true c.rest.ensures c.line_size.ensures
+pub loop-i-preserved : goal.loop-i-preserved
+loop-i-preserved c =
+    let left = c.loop-i.left.now in
+    let n = c.args.number in
+    let i = c.loop-i._i in (
+      ap (line_of (n - (i + 1))) (c.rest-left.ensures ∙ ap (λ k. drop (k + 1) left) c.line_size.ensures)
+          ∙ lines_turn left i n c.loop-i-test.true
+          ∙ c.loop-i.invariant.0,
+      let few = c.loop-i.invariant.1 in
+          omega (arith, ap length c.rest-left.ensures, length-drop (c.line_size.result + 1) left),
+    )

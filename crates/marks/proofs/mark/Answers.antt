@@ -8,4 +8,4 @@ use Rattle.marks.proofs.mark.Goals as goal
 
 pub returns : goal.returns
 returns c =
-    sym (ap table_of (sym (ap (λ l. mark_term 32 c.args.siblings.now l 0 c.args.marks.now) (ap (λ n. take n c.args.term.now) c.least-end.ensures ∙ front_is most_bytes c.args.term.now)) ∙ c.mark_term.ensures.same))
+    sym (ap table_of (sym (ap (λ l. mark_term 32 c.args.siblings.now l 0 c.args.marks.now) (ap (λ n. take n c.args.term.now) c.min-end.ensures ∙ front_is most_bytes c.args.term.now)) ∙ c.mark_term.ensures.same))

@@ -23,7 +23,7 @@ meet_places-loop-ours-preserved-then-here-eq0 t c =
 -- .. where the entry has too
 pub meet_places-loop-ours-preserved : goal.meet_places-loop-ours-preserved
 meet_places-loop-ours-preserved t c =
-    coming_both c.loop-ours.invariant c.loop-ours-test.true c.if-there-eq0.false c.mark_at-mark.ensures c.if-here-eq0.false c.meet_term.ensures c.in-Came.is
+    coming_both c.loop-ours.invariant c.loop-ours-test.true c.if-there-eq0.false c.mark_at-mark.ensures c.if-here-eq0.false c.meet_term.ensures c.in_ok-below.was
 
 pub meet_places-returns : goal.meet_places-returns
 meet_places-returns t c = coming_all c.loop-ours.invariant c.loop-ours-test.false

@@ -13,7 +13,7 @@ decreases-meet_term l = 2 * l.left
 
 abbrev pub invariant-meet_places-loop-ours : goal.invariant-meet_places-loop-ours
 invariant-meet_places-loop-ours l =
-    Coming (meet_word (meet_term l.left l.entry l.pattern l.marks) l.entry l.pattern l.marks l.i l.j) (meet_term l.left l.entry l.pattern l.marks) l.entry l.marks l.left l.i l.at l.from l.n l.ours l.theirs
+    Coming (meet_word (meet_term l.left l.entry l.pattern l.marks) l.entry l.pattern l.marks l.i l.j) (meet_term l.left l.entry l.pattern l.marks) l.entry l.marks l.left l.i l.at l.from l.entries l.ours l.theirs
 
 abbrev pub decreases-meet_places-loop-ours : goal.decreases-meet_places-loop-ours
 decreases-meet_places-loop-ours l = l.ours + l.theirs

@@ -4,10 +4,10 @@ use Rattle.meetings.specs.Walking.{answer}
 use Rattle.meetings.proofs.Coming.{front-meeting}
 use Rattle.meetings.proofs.meet.Goals as goal
 
-pub returns-in-Parted : goal.returns-in-Parted
-returns-in-Parted c =
-    sym (ap answer c.in-Parted.is) ∙ front-meeting c.args.entry.now c.args.pattern.now c.args.marks.now c.least-e.result c.least-p.result c.least-e.ensures c.least-p.ensures c.meet_term.ensures.same
+pub returns : goal.returns
+returns c =
+    sym (ap answer c.in_ok-end.was) ∙ front-meeting c.args.entry.now c.args.pattern.now c.args.marks.now c.min-e.result c.min-p.result c.min-e.ensures c.min-p.ensures c.meet_term.ensures.same
 
-pub returns-in-Came : goal.returns-in-Came
-returns-in-Came c =
-    sym (ap answer c.in-Came.is) ∙ front-meeting c.args.entry.now c.args.pattern.now c.args.marks.now c.least-e.result c.least-p.result c.least-e.ensures c.least-p.ensures c.meet_term.ensures.same
+pub returns-in_err-end : goal.returns-in_err-end
+returns-in_err-end c =
+    c.from_residual.ensures ∙ sym (ap answer c.in_err-end.was) ∙ front-meeting c.args.entry.now c.args.pattern.now c.args.marks.now c.min-e.result c.min-p.result c.min-e.ensures c.min-p.ensures c.meet_term.ensures.same

@@ -1,5 +1,4 @@
--- `namemaps::first_difference` meets its contract. The invariant: map and table are the same below byte i. The measure is
--- the number of bytes left.
+-- `namemaps::first_difference` meets its contract. The invariant: map and table are the same below byte i.
 use Rattle.namemaps.proofs.Comparing.{alike_turn, alike-found}
 use Rattle.namemaps.proofs.first_difference.Goals as goal
 

@@ -3,10 +3,10 @@ use Rattle.pages.proofs.Pages.{adds_then}
 use Rattle.notes.proofs.Noting.{note_none, note_said}
 use Rattle.notes.proofs.put_note.Goals as goal
 
-pub returns-then-not-is_empty : goal.returns-then-not-is_empty
-returns-then-not-is_empty c = note_none c.is_empty.ensures c.if-not-is_empty.true
+pub returns-else-is_empty : goal.returns-else-is_empty
+returns-else-is_empty c = note_none c.is_empty.ensures c.if-is_empty.false
 
-pub returns : goal.returns
-returns c =
-    note_said c.is_empty.ensures c.if-not-is_empty.false
-    (adds_then c.put-a.ensures (adds_then c.put_name-b.ensures c.put.ensures))
+pub returns-then-is_empty : goal.returns-then-is_empty
+returns-then-is_empty c =
+    note_said c.is_empty.ensures c.if-is_empty.true
+    (adds_then c.put.ensures (adds_then c.put_name.ensures c.put-then-is_empty.ensures))

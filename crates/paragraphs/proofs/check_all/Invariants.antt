@@ -6,7 +6,7 @@ use Rattle.paragraphs.proofs.Checking.{Checking}
 use Rattle.paragraphs.proofs.check_all.Given as goal
 
 abbrev pub invariant-loop-s : goal.invariant-loop-s
-invariant-loop-s l = (fits : Readable l.text l.from l.k l.n) → Checking l.text l.kinds l.k l.words l.n l.records l.from fits l.count l.at l.s
+invariant-loop-s l = (fits : Readable l.glossary.text.now l.from l.k l.glossary.n) → Checking l.glossary.text.now l.kinds l.k l.glossary.words.now l.glossary.n l.glossary.records.now l.from fits l.count l.at l.s
 
 abbrev pub decreases-loop-s : goal.decreases-loop-s
-decreases-loop-s l = length (lexemes_from l.text l.at)
+decreases-loop-s l = length (lexemes_from l.glossary.text.now l.at)

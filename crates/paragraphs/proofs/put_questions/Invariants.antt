@@ -5,7 +5,7 @@ use Rattle.paragraphs.proofs.Asking.{Asks}
 use Rattle.paragraphs.proofs.put_questions.Given as goal
 
 abbrev pub invariant-loop-page : goal.invariant-loop-page
-invariant-loop-page l = Asks l.text l.s l.label l.kind l.words l.n l.records l.from l.initial.page l.front l.at l.to l.page
+invariant-loop-page l = Asks l.glossary.text.now l.s l.label l.kind l.glossary.words.now l.glossary.n l.glossary.records.now l.from l.initial.page.bytes l.initial.page.end l.at l.page.end l.page.bytes
 
 abbrev pub decreases-loop-page : goal.decreases-loop-page
-decreases-loop-page l = length (lexemes_from l.text l.at)
+decreases-loop-page l = length (lexemes_from l.glossary.text.now l.at)

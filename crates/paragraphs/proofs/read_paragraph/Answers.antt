@@ -1,14 +1,17 @@
 -- `paragraphs::read_paragraph` meets its contract.
+use mathlib.Core.Path.{refl}
+use Rattle.std.proofs.lemmas.Result.{err_from_is_err_and}
 use Rattle.paragraphs.proofs.Checking.{paragraph_bad, paragraph_goes}
 use Rattle.paragraphs.proofs.read_paragraph.Goals as goal
 
-pub returns-in-Bad : goal.returns-in-Bad
-returns-in-Bad c =
-    let a = c.args in
-    paragraph_bad a.text.now a.at a.kinds.now a.k a.words.now a.n a.records.now c.requires c.read_phrase.new.out c.read_phrase.new.variables c.read_phrase.result c.read_phrase.ensures c.in-Bad.is
+pub returns-in_err-p : goal.returns-in_err-p
+returns-in_err-p c =
+    let a = c.args in let g = a.glossary.now in
+    let z = err_from_is_err_and c.from_residual.result c.from_residual.ensures.1 in
+    rw (z.1, z.2) (paragraph_bad g.text.now a.at a.kinds.now a.k g.words.now g.n g.records.now c.requires c.read_phrase.new.out c.read_phrase.new.variables _ c.in_err-p.ensures refl)
 
-pub returns-in-Read : goal.returns-in-Read
-returns-in-Read c =
-    let a = c.args in
-    paragraph_goes a.text.now a.at a.kinds.now a.k a.words.now a.n a.records.now c.requires c.read_phrase.new.out c.read_phrase.new.variables c.read_phrase.result c.read_phrase.ensures c.in-Read.is
+pub returns : goal.returns
+returns c =
+    let a = c.args in let g = a.glossary.now in
+    paragraph_goes g.text.now a.at a.kinds.now a.k g.words.now g.n g.records.now c.requires c.read_phrase.new.out c.read_phrase.new.variables _ c.in_ok-p.ensures refl
     c.read_questions.result c.read_questions.ensures

@@ -4,8 +4,8 @@ use Rattle.texts.specs.Lexemes.{lexemes_from}
 use Rattle.questions.proofs.Rounds.{Turned}
 use Rattle.questions.proofs.read_all.Given as goal
 
-abbrev pub invariant-loop-x : goal.invariant-loop-x
-invariant-loop-x l = Turned l.text l.words l.records l.at l.label l.kind l.n l.from
+abbrev pub invariant-loop-from : goal.invariant-loop-from
+invariant-loop-from l = Turned l.glossary.text.now l.glossary.words.now l.glossary.records.now l.at l.label l.kind l.glossary.n l.from
 
-abbrev pub decreases-loop-x : goal.decreases-loop-x
-decreases-loop-x l = length (lexemes_from l.text l.from)
+abbrev pub decreases-loop-from : goal.decreases-loop-from
+decreases-loop-from l = length (lexemes_from l.glossary.text.now l.from)

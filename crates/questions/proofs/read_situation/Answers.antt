@@ -4,10 +4,10 @@ use mathlib.Core.Path.{refl}
 use Rattle.questions.proofs.Situations.{situation-refused, situation-read}
 use Rattle.questions.proofs.read_situation.Goals as goal
 
-pub returns-in-Bad : goal.returns-in-Bad
-returns-in-Bad c = let a = c.args in
-    situation-refused a.text.now a.words.now a.records.now _ [] c.read.new.out c.read.new.variables a.from a.n a.kind c.read.result c.read.ensures _ _ c.unless_open.result c.in-Bad.is refl c.unless_open.ensures
+pub returns-in-Err : goal.returns-in-Err
+returns-in-Err c = let a = c.args in let g = a.glossary.now in
+    situation-refused g.text.now g.words.now g.records.now _ [] c.read.new.out c.read.new.variables a.from g.n a.kind c.in-Err.x _ c.unless_open.result c.in-Err.ensures refl c.unless_open.ensures
 
-pub returns-in-Read : goal.returns-in-Read
-returns-in-Read c = let a = c.args in
-    situation-read a.text.now a.words.now a.records.now _ [] c.read.new.out c.read.new.variables a.from a.n a.kind c.read.result c.read.ensures _ c.start-e.result c.unless_open-in-Read.result c.in-Read.is c.start-e.ensures c.unless_open-in-Read.ensures
+pub returns-in-Ok : goal.returns-in-Ok
+returns-in-Ok c = let a = c.args in let g = a.glossary.now in
+    situation-read g.text.now g.words.now g.records.now _ [] c.read.new.out c.read.new.variables a.from g.n a.kind c.in-Ok.p c.start.result c.unless_open-in-Ok.result c.in-Ok.ensures c.start.ensures c.unless_open-in-Ok.ensures

@@ -1,11 +1,12 @@
 -- `reader::read_book` meets its contract.
+use Rattle.std.proofs.lemmas.Result.{err_from_is_err_and}
 use Rattle.reader.proofs.BookTables.{book_refused_lem, book_loaded}
 use Rattle.reader.proofs.read_book.Goals as goal
 
-pub returns-in-Refused-read : goal.returns-in-Refused-read
-returns-in-Refused-read c =
-    book_refused_lem c.load_settled.ensures _ _ c.in-Loaded.is c.read.result c.read.ensures _ c.in-Refused-read.is
+pub returns-in_err-read : goal.returns-in_err-read
+returns-in_err-read c =
+    let p = err_from_is_err_and c.from_residual-in_err-read.result c.from_residual-in_err-read.ensures.1 in
+    rw (p.1, p.2) (book_refused_lem c.load_settled.ensures _ _ c.in_ok-missing.was c.read.result c.read.ensures _ c.in_err-read.was)
 
-pub returns-in-Read : goal.returns-in-Read
-returns-in-Read c =
-    book_loaded c.load_settled.ensures _ _ c.in-Loaded.is c.read.result c.read.ensures c.in-Read.is
+pub returns : goal.returns
+returns c = book_loaded c.load_settled.ensures _ _ c.in_ok-missing.was c.read.result c.read.ensures c.in_ok-read.was

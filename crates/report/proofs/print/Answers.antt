@@ -3,4 +3,4 @@ use Rattle.report.proofs.Reported.{prints}
 use Rattle.report.proofs.print.Goals as goal
 
 pub returns-clause-prints : goal.returns-clause-prints
-returns-clause-prints c = (prints c.args.input.now (λ i. (c.shared_slice_known-1.given i).fits) c.vocabulary.ensures c.pattern.ensures c.print_from.ensures).0
+returns-clause-prints c = (prints c.args.input.now (λ i. (c.type_inv.input i).fits) c.vocabulary.ensures c.pattern.ensures c.print_from.ensures).0

@@ -1,11 +1,7 @@
 -- `runs::words` meets its contract: at each turn the words passed are shared.
-use Prim.Native.Nat.{◌-◌, ◌≤◌}
-use lib.ListN.{length}
+use Prim.Native.Nat.{◌*◌}
 use Rattle.runs.specs.Shared.{SharedWords}
 use Rattle.runs.proofs.words.Given as goal
 
-abbrev pub invariant-loop-n : goal.invariant-loop-n
-invariant-loop-n l = SharedWords l.a l.b l.i l.j l.n × (l.n ≤ l.most) × (l.most ≤ length l.a - l.i) × (l.most ≤ length l.b - l.j)
-
-abbrev pub decreases-loop-n : goal.decreases-loop-n
-decreases-loop-n l = l.most - l.n
+abbrev pub invariant-loop-node : goal.invariant-loop-node
+invariant-loop-node l = SharedWords l.a l.b l.i l.j (l.node * 2)

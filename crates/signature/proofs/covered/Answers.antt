@@ -1,13 +1,12 @@
--- `signature::covered` meets its contract. The loop's invariant: the kinds passed are marked. The measure is the number of kinds left.
+-- `signature::covered` meets its contract.
 use native.Mathlib.Omega.{arith}
 use Rattle.signature.proofs.Marking.{covers_true, covers_false}
 use Rattle.signature.proofs.covered.Goals as goal
 
-pub returns-then-marked-wide-eq0 : goal.returns-then-marked-wide-eq0
-returns-then-marked-wide-eq0 c =
-    covers_false _ _ _ c.requires.n_in_bounds c.requires.markable c.args.marked.now _ c.loop-i-test.true
-    (rw c.wide.ensures at c.if-marked-wide-eq0.true)
+pub returns-then-not-marked-v : goal.returns-then-not-marked-v
+returns-then-not-marked-v c =
+    covers_false _ _ _ c.requires.n_in_bounds c.requires.markable c.args.marked.now _ c.loop-i-test.true c.if-not-marked-v.true
 
 pub returns : goal.returns
 returns c =
-    covers_true _ _ _ c.requires.n_in_bounds c.requires.markable c.args.marked.now (λ j h. c.loop-i.invariant.1 j (omega arith))
+    covers_true _ _ _ c.requires.n_in_bounds c.requires.markable c.args.marked.now (λ j h. c.loop-i.invariant j (omega arith))

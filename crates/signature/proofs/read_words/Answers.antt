@@ -4,30 +4,27 @@
 --   cast-offsets to loop-again    a record in order goes into the four tables, and the next one is due
 --   the returns                   a record that ends too soon or names no kind, bytes behind the last one, and no more records
 --
-use Rattle.signature.proofs.RecordsRead.{record_as, tabled-next, tabled-ends, tabled-unknown, tabled_continues, tabled-filled}
+use mathlib.Core.Path.{refl}
+use Rattle.std.proofs.lemmas.Result.{err_from_is_err_and}
+use Rattle.signature.proofs.RecordsRead.{record_as, tabled-next, tabled-stops, tabled_continues, tabled-filled}
 use Rattle.signature.proofs.read_words.Goals as goal
 
 pub loop-w-preserved : goal.loop-w-preserved
 loop-w-preserved c =
     tabled-next _ _ _ _ _ _ _ _ _ _ _ _ c.loop-w.invariant c.requires.words_bound c.requires.sized c.loop-w-test.true _
-    (record_as c.read_word.ensures c.in-Whole.is c.requires.kinds_value) _
+    (record_as c.in_ok-places.ensures refl c.requires.kinds_value) _
     c.read.ensures
 
-pub returns-in-Ends-clause-words_loaded : goal.returns-in-Ends-clause-words_loaded
-returns-in-Ends-clause-words_loaded c = (tabled-ends _ _ _ _ _ _ _ _ _ _ _ _ c.loop-w.invariant c.loop-w-test.true
-    (record_as c.read_word.ensures c.in-Ends.is c.requires.kinds_value)).0
+pub returns-in_err-places-clause-words_loaded : goal.returns-in_err-places-clause-words_loaded
+returns-in_err-places-clause-words_loaded c =
+    let p = err_from_is_err_and c.from_residual.result c.from_residual.ensures.1 in
+    rw (p.1, p.2) (tabled-stops _ _ _ _ _ _ _ _ _ _ _ _ c.loop-w.invariant c.loop-w-test.true _
+    (record_as c.in_err-places.ensures refl c.requires.kinds_value)).0
 
-pub returns-in-Ends-clause-words_counted : goal.returns-in-Ends-clause-words_counted
-returns-in-Ends-clause-words_counted c = (tabled-ends _ _ _ _ _ _ _ _ _ _ _ _ c.loop-w.invariant c.loop-w-test.true
-    (record_as c.read_word.ensures c.in-Ends.is c.requires.kinds_value)).1
-
-pub returns-in-NoSuchKind-clause-words_loaded : goal.returns-in-NoSuchKind-clause-words_loaded
-returns-in-NoSuchKind-clause-words_loaded c = (tabled-unknown _ _ _ _ _ _ _ _ _ _ _ _ c.loop-w.invariant _ c.loop-w-test.true
-    (record_as c.read_word.ensures c.in-NoSuchKind.is c.requires.kinds_value)).0
-
-pub returns-in-NoSuchKind-clause-words_counted : goal.returns-in-NoSuchKind-clause-words_counted
-returns-in-NoSuchKind-clause-words_counted c = (tabled-unknown _ _ _ _ _ _ _ _ _ _ _ _ c.loop-w.invariant _ c.loop-w-test.true
-    (record_as c.read_word.ensures c.in-NoSuchKind.is c.requires.kinds_value)).1
+pub returns-in_err-places-clause-words_counted : goal.returns-in_err-places-clause-words_counted
+returns-in_err-places-clause-words_counted c =
+    (tabled-stops _ _ _ _ _ _ _ _ _ _ _ _ c.loop-w.invariant c.loop-w-test.true _
+    (record_as c.in_err-places.ensures refl c.requires.kinds_value)).1
 
 pub returns-then-at-v-clause-words_loaded : goal.returns-then-at-v-clause-words_loaded
 returns-then-at-v-clause-words_loaded c = (tabled_continues _ _ _ _ _ _ _ _ _ _ _ _ c.loop-w.invariant c.loop-w-test.false c.if-at-v.true).0

@@ -11,6 +11,6 @@ pub returns : goal.returns
 returns c =
     let p = c.args.p.now in
     subst (λ l. Summed (min c.args.words most_words) c.args.results.now l c.measure_front.result.entries c.measure_front.result.bytes)
-    (ap (λ i. take i p) c.least-end.ensures ∙ front_is p)
-    (subst (λ n. Summed n c.args.results.now (take c.least-end.result p) c.measure_front.result.entries c.measure_front.result.bytes)
-    c.least.ensures c.measure_front.ensures)
+    (ap (λ i. take i p) c.min-end.ensures ∙ front_is p)
+    (subst (λ n. Summed n c.args.results.now (take c.min-end.result p) c.measure_front.result.entries c.measure_front.result.bytes)
+    c.min.ensures c.measure_front.ensures)

@@ -1,13 +1,14 @@
 -- `spans::count_four` meets its contract.
-use Prim.Native.Nat.{◌+◌, ◌*◌, ◌≤◌}
+use mathlib.Core.Path.{◌≡◌}
+use Prim.Native.Nat.{◌+◌, ◌*◌}
 use native.Mathlib.Omega.{arith}
-use lib.Count.{ones}
 use Rattle.spans.proofs.Counts.{ones_four, four_few}
 use Rattle.spans.proofs.count_four.Goals as goal
 
 pub returns : goal.returns
 returns c =
-    let few : let a = c.args in ones (a.a + 256 * a.b + 65536 * (a.c + 256 * a.d)) ≤ 32 = let a = c.args in
-    four_few a.a a.b a.c a.d (omega arith) (omega arith) (omega arith) (omega arith) in
-    let a = c.args in
-    (ones_four a.a a.b a.c a.d (omega arith) (omega arith) (omega arith), few)
+    let joined : c.from_le_bytes.result ≡ c.args.a + 256 * c.args.b + 65536 * (c.args.c + 256 * c.args.d) = omega arith in
+    rw joined (
+      ones_four c.args.a c.args.b c.args.c c.args.d (omega arith) (omega arith) (omega arith),
+      four_few c.args.a c.args.b c.args.c c.args.d (omega arith) (omega arith) (omega arith) (omega arith),
+    )

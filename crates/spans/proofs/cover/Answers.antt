@@ -5,4 +5,4 @@ use Rattle.spans.proofs.cover.Goals as goal
 
 pub returns-then-s-end : goal.returns-then-s-end
 returns-then-s-end c =
-    covered_broken _ _ _ _ _ (sym c.wide16-n.ensures.0 ∙ c.if-n-eq0.true) c.if-s-end.true c.end_of-end.ensures.1
+    covered_broken _ _ _ _ _ (sym c.from-n.ensures ∙ c.if-n-eq0.true) c.if-s-end.true c.end_of-end.ensures.1

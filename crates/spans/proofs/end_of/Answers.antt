@@ -2,17 +2,23 @@
 -- more than the number of nodes that are left to pass.
 --   Inv-loop, μ-loop    the invariant and the measure
 --   one, four           a turn that passes one word, and one that passes four
-use Prim.Native.Nat.{◌-◌}
+use mathlib.Core.Path.{refl}
+use native.Mathlib.Omega.{arith}
+use lib.Count.{ones-le}
 use Rattle.spans.proofs.Ending.{ending_ends, seeking_begins, seeking_one, seeking_four}
 use Rattle.spans.proofs.end_of.Goals as goal
 
 pub loop-due-init : goal.loop-due-init
 loop-due-init c =
-    seeking_begins _ _ c.requires.0 c.requires.1 c.map_at.ensures c.count-due.ensures.0 c.count-due.ensures.1
+    seeking_begins _ _ c.requires.0 c.requires.1 c.map_at.ensures refl (ones-le 8 c.map_at.result (omega arith))
+
+pub loop-due-smaller-then-due-lt4 : goal.loop-due-smaller-then-due-lt4
+loop-due-smaller-then-due-lt4 c =
+    (seeking_one c.loop-due.invariant c.loop-due-test.true c.map_at-then-due-lt4.ensures refl (ones-le 8 c.map_at-then-due-lt4.result (omega arith))).fewer
 
 pub loop-due-preserved-then-due-lt4 : goal.loop-due-preserved-then-due-lt4
 loop-due-preserved-then-due-lt4 c =
-    (seeking_one c.loop-due.invariant c.loop-due-test.true c.map_at-then-due-lt4.ensures c.count.ensures.0 c.count.ensures.1).seeking
+    (seeking_one c.loop-due.invariant c.loop-due-test.true c.map_at-then-due-lt4.ensures refl (ones-le 8 c.map_at-then-due-lt4.result (omega arith))).seeking
 
 pub loop-due-preserved : goal.loop-due-preserved
 loop-due-preserved c =

@@ -2,7 +2,6 @@
 -- more than the number of nodes that are left to pass.
 --   Inv-loop, μ-loop    the invariant and the measure
 --   one, four           a turn that passes one word, and one that passes four
-use Prim.Native.Nat.{◌-◌}
 use Rattle.spans.proofs.Ending.{nodes_left, Seeking}
 use Rattle.spans.proofs.end_of.Given as goal
 

@@ -5,11 +5,10 @@
 --   turn, written              what is known of the place that a turn takes off the frame
 --
 use mathlib.Core.Path.{sym, ◌∙◌}
-use borrow.Author.Tests.{ltb-false}
 use Rattle.spans.specs.Walking.{InputsRead}
 use Rattle.spans.proofs.Offsets.{offset-fits, offset-low}
 use Rattle.spans.proofs.Going.{shared-situation}
-use Rattle.spans.proofs.Framing.{framing_begins, framing_ends, framing_rest, framing_fails, turn_leave}
+use Rattle.spans.proofs.Framing.{framing_begins, framing_ends, framing_rest, turn_leave}
 use Rattle.spans.proofs.Framing.{Turn, turn_gap, open_part, turn_opened}
 use Rattle.spans.proofs.Framing.{Written, place-stands, word_room, turn_stopped, word-later, turn_leaf, turn_pushed, turn_named}
 use Rattle.spans.proofs.Left.{left_word}
@@ -42,18 +41,18 @@ loop-depth-preserved-then-written-eq0 c =
     let turn : let a = c.args in let l = c.loop-depth in Turn a.p.now a.s.now l.frames l.spans a.from l.due l.depth l.i l.j c.passed-due.result = record { inv = c.loop-depth.invariant; some = c.loop-depth-test.true; shifted = c.passed-due.ensures } in
     turn_opened (turn) c.if-places-eq1.true c.if-written-eq0.true _ c.end_of-j.ensures.1
 
-pub pass_place-next-requires : goal.pass_place-next-requires
-pass_place-next-requires c =
+pub pass_place-requires : goal.pass_place-requires
+pass_place-requires c =
     let read : let a = c.args in InputsRead a.p.now a.s.now = c.requires.inputs_read in
     let turn : let a = c.args in let l = c.loop-depth in Turn a.p.now a.s.now l.frames l.spans a.from l.due l.depth l.i l.j c.passed-due.result = record { inv = c.loop-depth.invariant; some = c.loop-depth-test.true; shifted = c.passed-due.ensures } in
     let written : let a = c.args in let l = c.loop-depth in Written a.p.now a.s.now l.frames l.spans a.from l.due l.depth l.i l.j c.passed-due.result = record { turn = turn; place = c.if-places-eq1.true; bit = c.if-written-eq0.false } in
     place-stands (written) (read)
 
-pub returns-then-next-eq0 : goal.returns-then-next-eq0
-returns-then-next-eq0 c =
+pub returns-in_err-next : goal.returns-in_err-next
+returns-in_err-next c =
     let turn : let a = c.args in let l = c.loop-depth in Turn a.p.now a.s.now l.frames l.spans a.from l.due l.depth l.i l.j c.passed-due.result = record { inv = c.loop-depth.invariant; some = c.loop-depth-test.true; shifted = c.passed-due.ensures } in
     let written : let a = c.args in let l = c.loop-depth in Written a.p.now a.s.now l.frames l.spans a.from l.due l.depth l.i l.j c.passed-due.result = record { turn = turn; place = c.if-places-eq1.true; bit = c.if-written-eq0.false } in
-    framing_fails (turn_stopped (written) c.pass_place-next.ensures c.if-next-eq0.true) c.if-next-eq0.true
+    rw c.from_residual.ensures (turn_stopped (written) c.in_err-next.ensures)
 
 pub map_at-map-requires : goal.map_at-map-requires
 map_at-map-requires c =
@@ -77,27 +76,27 @@ loop-depth-smaller-then-map-ne0 c =
     let low = c.if-p-i-lt128.true in
     let here = written in
     left_word (turn) c.if-places-eq0.false _ _ (word_room here low (read)) ((place-stands here (read)).nodes low).1
-    (word-later here c.pass_place-next.ensures low c.if-next-eq0.false)
+    (word-later here c.in_ok-next.ensures low)
 
 pub loop-depth-preserved-then-map-ne0 : goal.loop-depth-preserved-then-map-ne0
 loop-depth-preserved-then-map-ne0 c =
     let read : let a = c.args in InputsRead a.p.now a.s.now = c.requires.inputs_read in
     let turn : let a = c.args in let l = c.loop-depth in Turn a.p.now a.s.now l.frames l.spans a.from l.due l.depth l.i l.j c.passed-due.result = record { inv = c.loop-depth.invariant; some = c.loop-depth-test.true; shifted = c.passed-due.ensures } in
     let written : let a = c.args in let l = c.loop-depth in Written a.p.now a.s.now l.frames l.spans a.from l.due l.depth l.i l.j c.passed-due.result = record { turn = turn; place = c.if-places-eq1.true; bit = c.if-written-eq0.false } in
-    turn_pushed (written) c.pass_place-next.ensures c.if-p-i-lt128.true c.if-next-eq0.false (read) _
+    turn_pushed (written) c.in_ok-next.ensures c.if-p-i-lt128.true (read) _
     (rw (c.map_at-map.ensures, c.map_at-then-map-ne0.ensures) at c.frame-due-then-map-ne0.ensures)
 
 pub loop-depth-preserved-else-map-ne0 : goal.loop-depth-preserved-else-map-ne0
 loop-depth-preserved-else-map-ne0 c =
     let turn : let a = c.args in let l = c.loop-depth in Turn a.p.now a.s.now l.frames l.spans a.from l.due l.depth l.i l.j c.passed-due.result = record { inv = c.loop-depth.invariant; some = c.loop-depth-test.true; shifted = c.passed-due.ensures } in
     let written : let a = c.args in let l = c.loop-depth in Written a.p.now a.s.now l.frames l.spans a.from l.due l.depth l.i l.j c.passed-due.result = record { turn = turn; place = c.if-places-eq1.true; bit = c.if-written-eq0.false } in
-    turn_leaf (written) c.pass_place-next.ensures c.if-p-i-lt128.true c.if-next-eq0.false (sym c.map_at-map.ensures ∙ c.if-map-ne0.false)
+    turn_leaf (written) c.in_ok-next.ensures c.if-p-i-lt128.true (sym c.map_at-map.ensures ∙ c.if-map-ne0.false)
 
 pub loop-depth-preserved-else-p-i-lt128 : goal.loop-depth-preserved-else-p-i-lt128
 loop-depth-preserved-else-p-i-lt128 c =
     let turn : let a = c.args in let l = c.loop-depth in Turn a.p.now a.s.now l.frames l.spans a.from l.due l.depth l.i l.j c.passed-due.result = record { inv = c.loop-depth.invariant; some = c.loop-depth-test.true; shifted = c.passed-due.ensures } in
     let written : let a = c.args in let l = c.loop-depth in Written a.p.now a.s.now l.frames l.spans a.from l.due l.depth l.i l.j c.passed-due.result = record { turn = turn; place = c.if-places-eq1.true; bit = c.if-written-eq0.false } in
-    turn_named (written) c.pass_place-next.ensures c.if-p-i-lt128.false c.if-next-eq0.false
+    turn_named (written) c.in_ok-next.ensures c.if-p-i-lt128.false
 
 pub loop-depth-preserved : goal.loop-depth-preserved
 loop-depth-preserved c =

@@ -4,4 +4,4 @@ use Rattle.tails.proofs.put_kind.Goals as goal
 
 pub returns : goal.returns
 returns c =
-    kind-puts c.put_note-noted.ensures c.gather-gathered.ensures c.front.ensures c.put_together.ensures
+    kind-puts c.put_note.ensures c.gather-gathered.ensures c.front.ensures c.put_together.ensures

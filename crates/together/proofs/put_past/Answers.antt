@@ -3,4 +3,4 @@ use Rattle.pages.proofs.Pages.{adds_then}
 use Rattle.together.proofs.put_past.Goals as goal
 
 pub returns : goal.returns
-returns c = adds_then c.put-a.ensures (adds_then c.put_subject-b.ensures (adds_then c.put-c.ensures (adds_then c.put_number-d.ensures c.put.ensures)))
+returns c = adds_then c.put.ensures (adds_then c.put_subject.ensures (adds_then c.put-2.ensures (adds_then c.put_number.ensures c.put-3.ensures)))

@@ -5,4 +5,4 @@ use Rattle.verdicts.proofs.put_question.Goals as goal
 
 pub returns : goal.returns
 returns c = puts_question c.args.text.now c.args.label c.args.at c.next.ensures c.skip_places-end.ensures c.next-2.ensures c.next-from.ensures
-    (adds_then c.put-a.ensures (adds_then c.put_token-b.ensures (adds_then c.put-c.ensures (adds_then c.put_tokens-d.ensures (adds_then c.put-e.ensures (adds_then c.put_verdict-f.ensures c.put.ensures))))))
+    (adds_then c.put.ensures (adds_then c.put_token.ensures (adds_then c.put-2.ensures (adds_then c.put_tokens.ensures (adds_then c.put-3.ensures (adds_then c.put_verdict.ensures c.put-4.ensures))))))

@@ -9,3 +9,6 @@ measure_bytes-requires c =
 pub returns-then-reach-le32 : goal.returns-then-reach-le32
 returns-then-reach-le32 c =
     λ a. c.measure_bytes.ensures _ (measurable_wider a c.if-reach-le32.true)
+
+pub returns : goal.returns
+returns c = λ a. c.measure_levels.ensures _ a

@@ -22,11 +22,11 @@ loop-i-preserved-then-c-lt128 c =
 
 pub overflow_sub-size : goal.overflow_sub-size
 overflow_sub-size c =
-    starts-up c.requires.1.ready (get_or c.args.p.now c.loop-i.i 0 - 128) (omega (arith, c.if-c-lt128.false, c.if-c-lt192.true))
+    rw c.from-name.ensures (starts-up c.requires.1.ready (get_or c.args.p.now c.loop-i.i 0 - 128) (omega (arith, c.if-c-lt128.false, c.if-c-lt192.true)))
 
 pub returns-then-size-gt4096 : goal.returns-then-size-gt4096
 returns-then-size-gt4096 c =
-    λ depths a. too_long a (counted-large a.ready (c.loop-i.invariant depths a) c.loop-i-test.true c.if-c-lt128.false c.if-c-lt192.true c.if-size-gt4096.true)
+    λ depths a. too_long a (counted-large a.ready (c.loop-i.invariant depths a) c.loop-i-test.true c.if-c-lt128.false c.if-c-lt192.true (rw c.from-name.ensures at c.if-size-gt4096.true))
 
 pub overflow_add-n-then-c-lt192 : goal.overflow_add-n-then-c-lt192
 overflow_add-n-then-c-lt192 c =
@@ -36,7 +36,7 @@ overflow_add-n-then-c-lt192 c =
 
 pub loop-i-preserved-then-c-lt192 : goal.loop-i-preserved-then-c-lt192
 loop-i-preserved-then-c-lt192 c =
-    λ depths a. counted-name a.ready (c.loop-i.invariant depths a) c.loop-i-test.true c.if-c-lt128.false c.if-c-lt192.true c.if-size-gt4096.false
+    rw c.from-name.ensures (λ depths a. counted-name a.ready (c.loop-i.invariant depths a) c.loop-i-test.true c.if-c-lt128.false c.if-c-lt192.true (rw c.from-name.ensures at c.if-size-gt4096.false))
 
 pub overflow_add-n-else-c-lt192 : goal.overflow_add-n-else-c-lt192
 overflow_add-n-else-c-lt192 c =

@@ -54,19 +54,20 @@ loop-i-preserved-else-map-ne0 c =
 
 pub overflow_sub-size : goal.overflow_sub-size
 overflow_sub-size c =
-    starts-up c.requires.1.ready (get_or c.args.p.now c.loop-i.i 0 - 128) (omega (arith, c.if-c-lt128.false, c.if-c-lt192.true))
+    rw c.from-name.ensures (starts-up c.requires.1.ready (get_or c.args.p.now c.loop-i.i 0 - 128) (omega (arith, c.if-c-lt128.false, c.if-c-lt192.true)))
 
 pub returns-then-size-gt4096 : goal.returns-then-size-gt4096
 returns-then-size-gt4096 c =
-    λ reach a. measuring_large a (c.loop-i.invariant reach a) c.loop-i-test.true (omega (arith, c.if-left-eq0.false)) c.if-c-lt128.false c.if-c-lt192.true c.if-size-gt4096.true
+    λ reach a. measuring_large a (c.loop-i.invariant reach a) c.loop-i-test.true (omega (arith, c.if-left-eq0.false)) c.if-c-lt128.false c.if-c-lt192.true (rw c.from-name.ensures at c.if-size-gt4096.true)
 
 pub overflow_add-depth-then-c-lt192 : goal.overflow_add-depth-then-c-lt192
 overflow_add-depth-then-c-lt192 c =
-    omega (arith, c.wide.ensures.1, (c.loop-i.invariant c.requires.0 c.requires.1).low)
+    let low = (c.loop-i.invariant c.requires.0 c.requires.1).low in
+    search rules
 
-pub returns-then-depth-wide-gt32 : goal.returns-then-depth-wide-gt32
-returns-then-depth-wide-gt32 c =
-    λ reach a. measuring_deep a (c.loop-i.invariant reach a) c.loop-i-test.true (omega (arith, c.if-left-eq0.false)) c.if-c-lt128.false c.if-c-lt192.true (omega (arith, c.if-depth-wide-gt32.true, c.wide.ensures.0))
+pub returns-then-depth-from-gt32 : goal.returns-then-depth-from-gt32
+returns-then-depth-from-gt32 c =
+    λ reach a. measuring_deep a (c.loop-i.invariant reach a) c.loop-i-test.true (omega (arith, c.if-left-eq0.false)) c.if-c-lt128.false c.if-c-lt192.true (omega (arith, c.if-depth-from-gt32.true, rw c.from-name.ensures at c.from.ensures))
 
 pub overflow_add-n-then-c-lt192 : goal.overflow_add-n-then-c-lt192
 overflow_add-n-then-c-lt192 c =
@@ -76,7 +77,7 @@ overflow_add-n-then-c-lt192 c =
 
 pub loop-i-preserved-then-c-lt192 : goal.loop-i-preserved-then-c-lt192
 loop-i-preserved-then-c-lt192 c =
-    λ reach a. measuring_name a (c.loop-i.invariant reach a) c.loop-i-test.true (omega (arith, c.if-left-eq0.false)) c.if-c-lt128.false c.if-c-lt192.true c.if-size-gt4096.false (omega (arith, c.if-depth-wide-gt32.false, c.wide.ensures.0))
+    rw c.from-name.ensures (λ reach a. measuring_name a (c.loop-i.invariant reach a) c.loop-i-test.true (omega (arith, c.if-left-eq0.false)) c.if-c-lt128.false c.if-c-lt192.true (rw c.from-name.ensures at c.if-size-gt4096.false) (omega (arith, c.if-depth-from-gt32.false, rw c.from-name.ensures at c.from.ensures)))
 
 pub overflow_add-n-else-c-lt192 : goal.overflow_add-n-else-c-lt192
 overflow_add-n-else-c-lt192 c =

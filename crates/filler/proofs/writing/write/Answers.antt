@@ -18,15 +18,15 @@ loop-i-preserved-then-c-lt128 c =
 
 pub put_value-requires : goal.put_value-requires
 put_value-requires c =
-    name-room c.loop-i.invariant c.loop-i-test.true c.requires.ready c.if-c-lt128.false c.if-c-lt192.true
+    rw c.from-name.ensures (name-room c.loop-i.invariant c.loop-i-test.true c.requires.ready c.if-c-lt128.false c.if-c-lt192.true)
 
 pub overflow_sub-n : goal.overflow_sub-n
 overflow_sub-n c =
-    (name-room c.loop-i.invariant c.loop-i-test.true c.requires.ready c.if-c-lt128.false c.if-c-lt192.true).up
+    rw c.from-name.ensures (name-room c.loop-i.invariant c.loop-i-test.true c.requires.ready c.if-c-lt128.false c.if-c-lt192.true).up
 
 pub loop-i-preserved-then-c-lt192 : goal.loop-i-preserved-then-c-lt192
 loop-i-preserved-then-c-lt192 c =
-    begun-name c.loop-i.invariant c.loop-i-test.true c.requires.ready c.if-c-lt128.false c.if-c-lt192.true c.put_value.ensures
+    rw c.from-name.ensures (begun-name c.loop-i.invariant c.loop-i-test.true c.requires.ready c.if-c-lt128.false c.if-c-lt192.true (rw c.from-name.ensures at c.put_value.ensures))
 
 pub bounds-out-at-else-c-lt192 : goal.bounds-out-at-else-c-lt192
 bounds-out-at-else-c-lt192 c =

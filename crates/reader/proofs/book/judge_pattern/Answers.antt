@@ -7,11 +7,11 @@ use Rattle.reader.proofs.book.judge_pattern.Goals as goal
 
 pub overflow_add-result : goal.overflow_add-result
 overflow_add-result c = let a = c.args in
-    omega (arith, repeat_within a.b.now a.at (le_trans c.requires.1 c.requires.2) (a.end - a.at) a.words c.first_repeat.result c.first_repeat.ensures c.in-At.is, c.well_formed.0.0)
+    omega (arith, repeat_within a.b.now a.at (le_trans c.requires.1 c.requires.2) (a.end - a.at) a.words c.first_repeat.result c.first_repeat.ensures c.in-Some.is, c.well_formed.0.0)
 
-pub returns-in-At : goal.returns-in-At
-returns-in-At c = let a = c.args in
-    λ W in_order known x. pattern_repeated W a.b.now a.at in_order known c.requires.1 c.requires.2 x c.first_repeat.result c.first_repeat.ensures c.in-At.is
+pub returns-in-Some : goal.returns-in-Some
+returns-in-Some c = let a = c.args in
+    λ W in_order known x. pattern_repeated W a.b.now a.at in_order known c.requires.1 c.requires.2 x c.first_repeat.result c.first_repeat.ensures c.in-Some.is
 
 pub returns-then-b-at : goal.returns-then-b-at
 returns-then-b-at c = let a = c.args in

@@ -14,18 +14,18 @@ use Rattle.reader.proofs.Fronts.{window, part-fault, part-ends}
 use Rattle.reader.proofs.Books.{pattern-fault, pattern-between}
 use Rattle.reader.proofs.book.read_pattern.Goals as goal
 
-pub returns-in-Fault : goal.returns-in-Fault
-returns-in-Fault c =
-    let fault : let a = c.args in Refuses (window (drop a.at a.b.now)) c.in-Fault.why (front_run (vocabulary_in a.v.now) (window (drop a.at a.b.now))) = part-fault c.args.v.now c.args.b.now c.args.at c.requires.at_in_bounds c.least-limit.ensures c.read_front.new.names
-    c.read_front.result c.read_front.ensures c.in-Fault.is in
+pub returns-in-Err : goal.returns-in-Err
+returns-in-Err c =
+    let fault : let a = c.args in Refuses (window (drop a.at a.b.now)) c.in-Err.why (front_run (vocabulary_in a.w.v.now) (window (drop a.at a.b.now))) = part-fault c.args.w.v.now c.args.b.now c.args.at c.requires c.min-limit.ensures c.read_front.new.names
+    c.read_front.result c.read_front.ensures c.in-Err.is in
     let a = c.args in
-    pattern-fault (vocabulary_in a.v.now) a.b.now a.at c.requires.at_in_bounds (fault) refl c.in_window.ensures c.placed.ensures
+    pattern-fault (vocabulary_in a.w.v.now) a.b.now a.at c.requires (fault) refl c.in_window.ensures c.placed.ensures
 
-pub returns-in-Read : goal.returns-in-Read
-returns-in-Read c =
-    let fronted : let a = c.args in Fronted (vocabulary_in a.v.now) (drop a.at a.b.now) c.in-Read.c.at = part-ends c.args.v.now c.args.b.now c.args.at c.requires.at_in_bounds c.least-limit.ensures c.read_front.new.names c.read_front.result
-    c.read_front.ensures (in_order c.requires.tables (λ i. (c.shared_slice_known-1.given i).fits))
-    (bytes_of c.args.b.now (λ i. (c.shared_slice_known-2-1.given i).fits)) c.in-Read.is in
+pub returns-in-Ok : goal.returns-in-Ok
+returns-in-Ok c =
+    let fronted : let a = c.args in Fronted (vocabulary_in a.w.v.now) (drop a.at a.b.now) c.in-Ok.c.at = part-ends c.args.w.v.now c.args.b.now c.args.at c.requires c.min-limit.ensures c.read_front.new.names c.read_front.result
+    c.read_front.ensures (in_order c.args.w.tables c.args.w.bytes)
+    (bytes_of c.args.b.now (λ i. (c.type_inv.b i).fits)) c.in-Ok.is in
     let a = c.args in
-    let x = pattern-between (vocabulary_in a.v.now) a.b.now a.at (fronted) in
-    c.judge_pattern.ensures (vocabulary_in a.v.now) (in_order c.requires.tables (λ i. (c.shared_slice_known-1.given i).fits)) c.requires.tables.tabled.words x
+    let x = pattern-between (vocabulary_in a.w.v.now) a.b.now a.at (fronted) in
+    c.judge_pattern.ensures (vocabulary_in a.w.v.now) (in_order c.args.w.tables c.args.w.bytes) c.args.w.tables.tabled.words x

@@ -19,39 +19,39 @@ use mathlib.Core.Bool.{true}
 use Prim.Native.Nat.{◌-◌, ◌<◌}
 use native.Mathlib.Nat.{lt_of_lt_of_le}
 use native.Mathlib.Omega.{arith}
-use mathlib.Core.Path.{◌≡◌, ap, subst, ◌∙◌}
+use mathlib.Core.Path.{◌≡◌, refl, ap, subst, ◌∙◌}
 use lib.ListN.{length, get_or, take, drop, replicate}
 use borrow.Author.Rules.{rules}
 use Rattle.reader.proofs.filling.read_value.Goals as goal
 
 pub full_word-requires : goal.full_word-requires
-full_word-requires c = few_words c.requires.tables (λ i. (c.shared_slice_known-1.given i).fits)
+full_word-requires c = few_words c.args.w.tables c.args.w.bytes
 
 pub fault_at-requires : goal.fault_at-requires
-fault_at-requires c = (search rules, few_words c.requires.tables (λ i. (c.shared_slice_known-1.given i).fits))
+fault_at-requires c = (search rules, few_words c.args.w.tables c.args.w.bytes)
 
 pub bounds-maps-f : goal.bounds-maps-f
 bounds-maps-f c =
-    let at-word : let a = c.args in FullNode a.v.now a.b.now (replicate 32 0) (started a.from) a.words a.offsets.now a.results.now a.maps.now a.kind c.wide-f.result = let a = c.args in
+    let at-word : let a = c.args in FullNode a.w.v.now a.b.now (replicate 32 0) (started a.from) a.w.count a.w.offsets.now a.w.results.now a.w.maps.now a.kind (get_or c.args.b.now c.args.from 0) = let a = c.args in
     record {
-      going = root-going a.v.now a.b.now a.from a.kind c.requires.from_in_bounds;
+      going = root-going a.w.v.now a.b.now a.from a.kind c.requires;
       room = omega arith;
-      tables = c.requires.tables;
-      bytes = λ i. (c.shared_slice_known-1.given i).fits;
-      here = full-here c.requires.tables (c.full_word.ensures.stands c.if-not-full_word.false) c.wide-f.ensures;
+      tables = c.args.w.tables;
+      bytes = c.args.w.bytes;
+      here = full-here c.args.w.tables (c.full_word.ensures.stands c.if-not-full_word.false) refl;
     } in
-    let known : c.wide-f.result < 96 = lt_of_lt_of_le (at-word).here.known (few_words (at-word).tables (at-word).bytes) in
+    let known : (get_or c.args.b.now c.args.from 0) < 96 = lt_of_lt_of_le (at-word).here.known (few_words (at-word).tables (at-word).bytes) in
     known
 
 pub returns-then-maps-f-eq0 : goal.returns-then-maps-f-eq0
 returns-then-maps-f-eq0 c =
-    let at-word : let a = c.args in FullNode a.v.now a.b.now (replicate 32 0) (started a.from) a.words a.offsets.now a.results.now a.maps.now a.kind c.wide-f.result = let a = c.args in
+    let at-word : let a = c.args in FullNode a.w.v.now a.b.now (replicate 32 0) (started a.from) a.w.count a.w.offsets.now a.w.results.now a.w.maps.now a.kind (get_or c.args.b.now c.args.from 0) = let a = c.args in
     record {
-      going = root-going a.v.now a.b.now a.from a.kind c.requires.from_in_bounds;
+      going = root-going a.w.v.now a.b.now a.from a.kind c.requires;
       room = omega arith;
-      tables = c.requires.tables;
-      bytes = λ i. (c.shared_slice_known-1.given i).fits;
-      here = full-here c.requires.tables (c.full_word.ensures.stands c.if-not-full_word.false) c.wide-f.ensures;
+      tables = c.args.w.tables;
+      bytes = c.args.w.bytes;
+      here = full-here c.args.w.tables (c.full_word.ensures.stands c.if-not-full_word.false) refl;
     } in
     let past : let a = c.args in c.whole_word-past.result ≡ past_word true (started a.from) = let node = at-word in
     let begun = c.start in
@@ -59,19 +59,19 @@ returns-then-maps-f-eq0 c =
     word_asks begun.result node.going (ap (λ d. d.at) begun.ensures) (ap (λ d. d.words) begun.ensures) node.here.long
     c.well_formed.1.0.0 in
     c.whole_word-past.ensures asks.0 asks.1 ∙ ap (past_word true) begun.ensures in
-    let bare_ends : get_or c.args.maps.now c.wide-f.result 0 ≡ 0 → ValueEnds c.args.v.now c.args.b.now c.args.from c.args.kind c.whole_word-past.result.at c.whole_word-past.result.deepest = λ e. let node = at-word in
-    came_ends (in_order node.tables node.bytes) (came_as (past) (came_bare node e)) c.requires.from_in_bounds (ap (λ d. d.depth) (past)) in
+    let bare_ends : get_or c.args.w.maps.now (get_or c.args.b.now c.args.from 0) 0 ≡ 0 → ValueEnds c.args.w.v.now c.args.b.now c.args.from c.args.kind c.whole_word-past.result.at c.whole_word-past.result.deepest = λ e. let node = at-word in
+    came_ends (in_order node.tables node.bytes) (came_as (past) (came_bare node e)) c.requires (ap (λ d. d.depth) (past)) in
     bare_ends c.if-maps-f-eq0.true
 
-pub full_words-c-requires-clause-going : goal.full_words-c-requires-clause-going
-full_words-c-requires-clause-going c =
-    let at-word : let a = c.args in FullNode a.v.now a.b.now (replicate 32 0) (started a.from) a.words a.offsets.now a.results.now a.maps.now a.kind c.wide-f.result = let a = c.args in
+pub full_words-c-requires : goal.full_words-c-requires
+full_words-c-requires c =
+    let at-word : let a = c.args in FullNode a.w.v.now a.b.now (replicate 32 0) (started a.from) a.w.count a.w.offsets.now a.w.results.now a.w.maps.now a.kind (get_or c.args.b.now c.args.from 0) = let a = c.args in
     record {
-      going = root-going a.v.now a.b.now a.from a.kind c.requires.from_in_bounds;
+      going = root-going a.w.v.now a.b.now a.from a.kind c.requires;
       room = omega arith;
-      tables = c.requires.tables;
-      bytes = λ i. (c.shared_slice_known-1.given i).fits;
-      here = full-here c.requires.tables (c.full_word.ensures.stands c.if-not-full_word.false) c.wide-f.ensures;
+      tables = c.args.w.tables;
+      bytes = c.args.w.bytes;
+      here = full-here c.args.w.tables (c.full_word.ensures.stands c.if-not-full_word.false) refl;
     } in
     let past : let a = c.args in c.whole_word-past.result ≡ past_word true (started a.from) = let node = at-word in
     let begun = c.start in
@@ -79,20 +79,20 @@ full_words-c-requires-clause-going c =
     word_asks begun.result node.going (ap (λ d. d.at) begun.ensures) (ap (λ d. d.words) begun.ensures) node.here.long
     c.well_formed.1.0.0 in
     c.whole_word-past.ensures asks.0 asks.1 ∙ ap (past_word true) begun.ensures in
-    let came-first : let a = c.args in Came a.v.now a.b.now a.from a.kind (replicate 32 0) c.down-first.result = let depth = ap (λ d. d.depth) (past) in
+    let came-first : let a = c.args in Came a.w.v.now a.b.now a.from a.kind (replicate 32 0) c.down-first.result = let depth = ap (λ d. d.depth) (past) in
     came_as (c.down-first.ensures (omega arith) ∙ ap (went_down c.full.result) (past))
     (came_down (at-word) c.if-maps-f-eq0.false c.full.ensures) in
     (came-first).going
 
 pub overflow_cast-result-then-depth-eq0 : goal.overflow_cast-result-then-depth-eq0
 overflow_cast-result-then-depth-eq0 c =
-    let at-word : let a = c.args in FullNode a.v.now a.b.now (replicate 32 0) (started a.from) a.words a.offsets.now a.results.now a.maps.now a.kind c.wide-f.result = let a = c.args in
+    let at-word : let a = c.args in FullNode a.w.v.now a.b.now (replicate 32 0) (started a.from) a.w.count a.w.offsets.now a.w.results.now a.w.maps.now a.kind (get_or c.args.b.now c.args.from 0) = let a = c.args in
     record {
-      going = root-going a.v.now a.b.now a.from a.kind c.requires.from_in_bounds;
+      going = root-going a.w.v.now a.b.now a.from a.kind c.requires;
       room = omega arith;
-      tables = c.requires.tables;
-      bytes = λ i. (c.shared_slice_known-1.given i).fits;
-      here = full-here c.requires.tables (c.full_word.ensures.stands c.if-not-full_word.false) c.wide-f.ensures;
+      tables = c.args.w.tables;
+      bytes = c.args.w.bytes;
+      here = full-here c.args.w.tables (c.full_word.ensures.stands c.if-not-full_word.false) refl;
     } in
     let past : let a = c.args in c.whole_word-past.result ≡ past_word true (started a.from) = let node = at-word in
     let begun = c.start in
@@ -100,22 +100,22 @@ overflow_cast-result-then-depth-eq0 c =
     word_asks begun.result node.going (ap (λ d. d.at) begun.ensures) (ap (λ d. d.words) begun.ensures) node.here.long
     c.well_formed.1.0.0 in
     c.whole_word-past.ensures asks.0 asks.1 ∙ ap (past_word true) begun.ensures in
-    let came-first : let a = c.args in Came a.v.now a.b.now a.from a.kind (replicate 32 0) c.down-first.result = let depth = ap (λ d. d.depth) (past) in
+    let came-first : let a = c.args in Came a.w.v.now a.b.now a.from a.kind (replicate 32 0) c.down-first.result = let depth = ap (λ d. d.depth) (past) in
     came_as (c.down-first.ensures (omega arith) ∙ ap (went_down c.full.result) (past))
     (came_down (at-word) c.if-maps-f-eq0.false c.full.ensures) in
-    let down_ends : c.full_words-c.result.depth ≡ 0 → ValueEnds c.args.v.now c.args.b.now c.args.from c.args.kind c.full_words-c.result.at c.full_words-c.result.deepest = λ e. let node = at-word in
-    came_ends (in_order node.tables node.bytes) (came_passed (came-first) c.full_words-c.ensures) c.requires.from_in_bounds e in
+    let down_ends : c.full_words-c.result.depth ≡ 0 → ValueEnds c.args.w.v.now c.args.b.now c.args.from c.args.kind c.full_words-c.result.at c.full_words-c.result.deepest = λ e. let node = at-word in
+    came_ends (in_order node.tables node.bytes) (came_passed (came-first) c.full_words-c.ensures) c.requires e in
     let x = (down_ends c.if-depth-eq0.true).shallow in omega arith
 
 pub returns-then-depth-eq0 : goal.returns-then-depth-eq0
 returns-then-depth-eq0 c =
-    let at-word : let a = c.args in FullNode a.v.now a.b.now (replicate 32 0) (started a.from) a.words a.offsets.now a.results.now a.maps.now a.kind c.wide-f.result = let a = c.args in
+    let at-word : let a = c.args in FullNode a.w.v.now a.b.now (replicate 32 0) (started a.from) a.w.count a.w.offsets.now a.w.results.now a.w.maps.now a.kind (get_or c.args.b.now c.args.from 0) = let a = c.args in
     record {
-      going = root-going a.v.now a.b.now a.from a.kind c.requires.from_in_bounds;
+      going = root-going a.w.v.now a.b.now a.from a.kind c.requires;
       room = omega arith;
-      tables = c.requires.tables;
-      bytes = λ i. (c.shared_slice_known-1.given i).fits;
-      here = full-here c.requires.tables (c.full_word.ensures.stands c.if-not-full_word.false) c.wide-f.ensures;
+      tables = c.args.w.tables;
+      bytes = c.args.w.bytes;
+      here = full-here c.args.w.tables (c.full_word.ensures.stands c.if-not-full_word.false) refl;
     } in
     let past : let a = c.args in c.whole_word-past.result ≡ past_word true (started a.from) = let node = at-word in
     let begun = c.start in
@@ -123,25 +123,25 @@ returns-then-depth-eq0 c =
     word_asks begun.result node.going (ap (λ d. d.at) begun.ensures) (ap (λ d. d.words) begun.ensures) node.here.long
     c.well_formed.1.0.0 in
     c.whole_word-past.ensures asks.0 asks.1 ∙ ap (past_word true) begun.ensures in
-    let came-first : let a = c.args in Came a.v.now a.b.now a.from a.kind (replicate 32 0) c.down-first.result = let depth = ap (λ d. d.depth) (past) in
+    let came-first : let a = c.args in Came a.w.v.now a.b.now a.from a.kind (replicate 32 0) c.down-first.result = let depth = ap (λ d. d.depth) (past) in
     came_as (c.down-first.ensures (omega arith) ∙ ap (went_down c.full.result) (past))
     (came_down (at-word) c.if-maps-f-eq0.false c.full.ensures) in
-    let down_ends : c.full_words-c.result.depth ≡ 0 → ValueEnds c.args.v.now c.args.b.now c.args.from c.args.kind c.full_words-c.result.at c.full_words-c.result.deepest = λ e. let node = at-word in
-    came_ends (in_order node.tables node.bytes) (came_passed (came-first) c.full_words-c.ensures) c.requires.from_in_bounds e in
+    let down_ends : c.full_words-c.result.depth ≡ 0 → ValueEnds c.args.w.v.now c.args.b.now c.args.from c.args.kind c.full_words-c.result.at c.full_words-c.result.deepest = λ e. let node = at-word in
+    came_ends (in_order node.tables node.bytes) (came_passed (came-first) c.full_words-c.ensures) c.requires e in
     down_ends c.if-depth-eq0.true
 
 pub fault_at-requires-2 : goal.fault_at-requires-2
-fault_at-requires-2 c = (lent_fits c.args.b.now c.full_words-c.result.at c.full_words-c.ensures.going.inside c.well_formed.1.0.0, few_words c.requires.tables (λ i. (c.shared_slice_known-1.given i).fits))
+fault_at-requires-2 c = (lent_fits c.args.b.now c.full_words-c.result.at c.full_words-c.ensures.going.inside c.well_formed.1.0.0, few_words c.args.w.tables c.args.w.bytes)
 
 pub returns : goal.returns
 returns c =
-    let at-word : let a = c.args in FullNode a.v.now a.b.now (replicate 32 0) (started a.from) a.words a.offsets.now a.results.now a.maps.now a.kind c.wide-f.result = let a = c.args in
+    let at-word : let a = c.args in FullNode a.w.v.now a.b.now (replicate 32 0) (started a.from) a.w.count a.w.offsets.now a.w.results.now a.w.maps.now a.kind (get_or c.args.b.now c.args.from 0) = let a = c.args in
     record {
-      going = root-going a.v.now a.b.now a.from a.kind c.requires.from_in_bounds;
+      going = root-going a.w.v.now a.b.now a.from a.kind c.requires;
       room = omega arith;
-      tables = c.requires.tables;
-      bytes = λ i. (c.shared_slice_known-1.given i).fits;
-      here = full-here c.requires.tables (c.full_word.ensures.stands c.if-not-full_word.false) c.wide-f.ensures;
+      tables = c.args.w.tables;
+      bytes = c.args.w.bytes;
+      here = full-here c.args.w.tables (c.full_word.ensures.stands c.if-not-full_word.false) refl;
     } in
     let past : let a = c.args in c.whole_word-past.result ≡ past_word true (started a.from) = let node = at-word in
     let begun = c.start in
@@ -149,14 +149,14 @@ returns c =
     word_asks begun.result node.going (ap (λ d. d.at) begun.ensures) (ap (λ d. d.words) begun.ensures) node.here.long
     c.well_formed.1.0.0 in
     c.whole_word-past.ensures asks.0 asks.1 ∙ ap (past_word true) begun.ensures in
-    let came-first : let a = c.args in Came a.v.now a.b.now a.from a.kind (replicate 32 0) c.down-first.result = let depth = ap (λ d. d.depth) (past) in
+    let came-first : let a = c.args in Came a.w.v.now a.b.now a.from a.kind (replicate 32 0) c.down-first.result = let depth = ap (λ d. d.depth) (past) in
     came_as (c.down-first.ensures (omega arith) ∙ ap (went_down c.full.result) (past))
     (came_down (at-word) c.if-maps-f-eq0.false c.full.ensures) in
     let a = c.args in
     let b = a.b.now in
-    let v = a.v.now in
+    let v = a.w.v.now in
     let p = c.full_words-c.ensures in
     let low = positive _ c.if-depth-eq0.false in
     let x = c.full_words-c.result in
-    came_stuck c.requires.tables.tabled (came_passed (came-first) p) (p.due low) (p.stuck low)
-    (subst (λ j. FaultAt (take (length b - x.at) (drop x.at b)) x.at x.depth (get_or v j 0) a.words a.results.now c.fault_at-2.result) c.kinds.ensures c.fault_at-2.ensures)
+    came_stuck c.args.w.tables.tabled (came_passed (came-first) p) (p.due low) (p.stuck low)
+    (subst (λ j. FaultAt (take (length b - x.at) (drop x.at b)) x.at x.depth (get_or v j 0) a.w.count a.w.results.now c.fault_at-2.result) c.kinds.ensures c.fault_at-2.ensures)

@@ -5,7 +5,7 @@
 --   known         the word's number is one of the tables'
 --   past, below   the cursor behind the word, and at its places
 --
-use mathlib.Core.Path.{◌≡◌, sym, ap, subst, ◌∙◌}
+use mathlib.Core.Path.{◌≡◌, refl, sym, ap, subst, ◌∙◌}
 use mathlib.Core.Bool.{true}
 use mathlib.Core.Logic.{inl, inr}
 use Prim.Native.Nat.{◌<◌}
@@ -23,7 +23,7 @@ use Rattle.reader.proofs.Turns.{first-due, none_due, advance_asks, pass_asks, ki
 use Rattle.reader.proofs.term.full_words.Goals as goal
 
 pub loop-c-init : goal.loop-c-init
-loop-c-init c = turned_none c.requires.going
+loop-c-init c = turned_none c.requires
 
 pub loop-c-smaller-then-written-eq0 : goal.loop-c-smaller-then-written-eq0
 loop-c-smaller-then-written-eq0 c =
@@ -49,8 +49,8 @@ loop-c-preserved-else-written-eq0 c =
     turned_as c.onto-c.ensures
     (turned_advanced c.loop-c.invariant c.loop-c-test.true (c.advanced.ensures asks.0 asks.1 asks.2) (none_due _ c.if-due-eq0.true))
 
-pub bounds-v-kinds : goal.bounds-v-kinds
-bounds-v-kinds c =
+pub bounds-w-kinds : goal.bounds-w-kinds
+bounds-w-kinds c =
     kind-inside c.loop-c.invariant.going.due (first-due c.loop-c.c.due c.if-due-eq0.false) c.kinds.ensures
 
 pub returns-then-depth-gt31 : goal.returns-then-depth-gt31
@@ -59,20 +59,20 @@ returns-then-depth-gt31 c =
 
 pub full_word-requires : goal.full_word-requires
 full_word-requires c =
-    few_words c.requires.tables (λ i. (c.shared_slice_known-1.given i).fits)
+    few_words c.args.w.tables c.args.w.bytes
 
 pub returns-then-not-full_word : goal.returns-then-not-full_word
 returns-then-not-full_word c =
-    let v = c.args.v.now in
+    let v = c.args.w.v.now in
     let t = c.args.t.now in
     turned-ends c.loop-c.invariant (λ low. first-due c.loop-c.c.due c.if-due-eq0.false)
     (λ low. inr
     (subst (λ j. NotFull (vocabulary_in v) (get_or v j 0) (drop c.loop-c.c.at t)) c.kinds.ensures
-    (not_full c.requires.tables t c.loop-c.c.at (c.full_word.ensures.other c.if-not-full_word.true))))
+    (not_full c.args.w.tables t c.loop-c.c.at (c.full_word.ensures.other c.if-not-full_word.true))))
 
 pub bounds-maps-f : goal.bounds-maps-f
 bounds-maps-f c =
-    let word-turn : let a = c.args in WordTurn a.v.now a.t.now a.frames.now c.loop-c.frames a.from c.loop-c.c a.words a.offsets.now a.results.now a.maps.now c.wide-f.result c.passed-rest.result = let a = c.args in
+    let word-turn : let a = c.args in WordTurn a.w.v.now a.t.now a.frames.now c.loop-c.frames a.from c.loop-c.c a.w.count a.w.offsets.now a.w.results.now a.w.maps.now (get_or c.args.t.now c.loop-c.c.at 0) c.passed-rest.result = let a = c.args in
     let first = first-due c.loop-c.c.due c.if-due-eq0.false in
     let asks = pass_asks c.loop-c.invariant.going.due first in
     record {
@@ -81,18 +81,18 @@ bounds-maps-f c =
       first = first;
       behind = c.passed-rest.ensures asks.0 asks.1 asks.2;
       room = c.if-depth-gt31.false;
-      tables = c.requires.tables;
-      bytes = λ i. (c.shared_slice_known-1.given i).fits;
+      tables = c.args.w.tables;
+      bytes = c.args.w.bytes;
       here =
-          subst (λ j. FullHere a.v.now a.t.now a.words c.loop-c.c.at (get_or a.v.now j 0) c.wide-f.result) c.kinds.ensures
-          (full-here c.requires.tables (c.full_word.ensures.stands c.if-not-full_word.false) c.wide-f.ensures);
+          subst (λ j. FullHere a.w.v.now a.t.now a.w.count c.loop-c.c.at (get_or a.w.v.now j 0) (get_or c.args.t.now c.loop-c.c.at 0)) c.kinds.ensures
+          (full-here c.args.w.tables (c.full_word.ensures.stands c.if-not-full_word.false) refl);
     } in
-    let known : c.wide-f.result < 96 = lt_of_lt_of_le (word-turn).here.known (few_words (word-turn).tables (word-turn).bytes) in
+    let known : (get_or c.args.t.now c.loop-c.c.at 0) < 96 = lt_of_lt_of_le (word-turn).here.known (few_words (word-turn).tables (word-turn).bytes) in
     known
 
 pub loop-c-smaller-then-maps-f-ne0 : goal.loop-c-smaller-then-maps-f-ne0
 loop-c-smaller-then-maps-f-ne0 c =
-    let word-turn : let a = c.args in WordTurn a.v.now a.t.now a.frames.now c.loop-c.frames a.from c.loop-c.c a.words a.offsets.now a.results.now a.maps.now c.wide-f.result c.passed-rest.result = let a = c.args in
+    let word-turn : let a = c.args in WordTurn a.w.v.now a.t.now a.frames.now c.loop-c.frames a.from c.loop-c.c a.w.count a.w.offsets.now a.w.results.now a.w.maps.now (get_or c.args.t.now c.loop-c.c.at 0) c.passed-rest.result = let a = c.args in
     let first = first-due c.loop-c.c.due c.if-due-eq0.false in
     let asks = pass_asks c.loop-c.invariant.going.due first in
     record {
@@ -101,11 +101,11 @@ loop-c-smaller-then-maps-f-ne0 c =
       first = first;
       behind = c.passed-rest.ensures asks.0 asks.1 asks.2;
       room = c.if-depth-gt31.false;
-      tables = c.requires.tables;
-      bytes = λ i. (c.shared_slice_known-1.given i).fits;
+      tables = c.args.w.tables;
+      bytes = c.args.w.bytes;
       here =
-          subst (λ j. FullHere a.v.now a.t.now a.words c.loop-c.c.at (get_or a.v.now j 0) c.wide-f.result) c.kinds.ensures
-          (full-here c.requires.tables (c.full_word.ensures.stands c.if-not-full_word.false) c.wide-f.ensures);
+          subst (λ j. FullHere a.w.v.now a.t.now a.w.count c.loop-c.c.at (get_or a.w.v.now j 0) (get_or c.args.t.now c.loop-c.c.at 0)) c.kinds.ensures
+          (full-here c.args.w.tables (c.full_word.ensures.stands c.if-not-full_word.false) refl);
     } in
     let past : c.whole_word-c.result ≡ past_word true (at_frame c.passed-rest.result c.loop-c.c) = let onto = c.onto in
     let turn = word-turn in
@@ -120,7 +120,7 @@ loop-c-smaller-then-maps-f-ne0 c =
 
 pub loop-c-preserved-then-maps-f-ne0 : goal.loop-c-preserved-then-maps-f-ne0
 loop-c-preserved-then-maps-f-ne0 c =
-    let word-turn : let a = c.args in WordTurn a.v.now a.t.now a.frames.now c.loop-c.frames a.from c.loop-c.c a.words a.offsets.now a.results.now a.maps.now c.wide-f.result c.passed-rest.result = let a = c.args in
+    let word-turn : let a = c.args in WordTurn a.w.v.now a.t.now a.frames.now c.loop-c.frames a.from c.loop-c.c a.w.count a.w.offsets.now a.w.results.now a.w.maps.now (get_or c.args.t.now c.loop-c.c.at 0) c.passed-rest.result = let a = c.args in
     let first = first-due c.loop-c.c.due c.if-due-eq0.false in
     let asks = pass_asks c.loop-c.invariant.going.due first in
     record {
@@ -129,11 +129,11 @@ loop-c-preserved-then-maps-f-ne0 c =
       first = first;
       behind = c.passed-rest.ensures asks.0 asks.1 asks.2;
       room = c.if-depth-gt31.false;
-      tables = c.requires.tables;
-      bytes = λ i. (c.shared_slice_known-1.given i).fits;
+      tables = c.args.w.tables;
+      bytes = c.args.w.bytes;
       here =
-          subst (λ j. FullHere a.v.now a.t.now a.words c.loop-c.c.at (get_or a.v.now j 0) c.wide-f.result) c.kinds.ensures
-          (full-here c.requires.tables (c.full_word.ensures.stands c.if-not-full_word.false) c.wide-f.ensures);
+          subst (λ j. FullHere a.w.v.now a.t.now a.w.count c.loop-c.c.at (get_or a.w.v.now j 0) (get_or c.args.t.now c.loop-c.c.at 0)) c.kinds.ensures
+          (full-here c.args.w.tables (c.full_word.ensures.stands c.if-not-full_word.false) refl);
     } in
     let past : c.whole_word-c.result ≡ past_word true (at_frame c.passed-rest.result c.loop-c.c) = let onto = c.onto in
     let turn = word-turn in
@@ -148,7 +148,7 @@ loop-c-preserved-then-maps-f-ne0 c =
 
 pub loop-c-preserved : goal.loop-c-preserved
 loop-c-preserved c =
-    let word-turn : let a = c.args in WordTurn a.v.now a.t.now a.frames.now c.loop-c.frames a.from c.loop-c.c a.words a.offsets.now a.results.now a.maps.now c.wide-f.result c.passed-rest.result = let a = c.args in
+    let word-turn : let a = c.args in WordTurn a.w.v.now a.t.now a.frames.now c.loop-c.frames a.from c.loop-c.c a.w.count a.w.offsets.now a.w.results.now a.w.maps.now (get_or c.args.t.now c.loop-c.c.at 0) c.passed-rest.result = let a = c.args in
     let first = first-due c.loop-c.c.due c.if-due-eq0.false in
     let asks = pass_asks c.loop-c.invariant.going.due first in
     record {
@@ -157,11 +157,11 @@ loop-c-preserved c =
       first = first;
       behind = c.passed-rest.ensures asks.0 asks.1 asks.2;
       room = c.if-depth-gt31.false;
-      tables = c.requires.tables;
-      bytes = λ i. (c.shared_slice_known-1.given i).fits;
+      tables = c.args.w.tables;
+      bytes = c.args.w.bytes;
       here =
-          subst (λ j. FullHere a.v.now a.t.now a.words c.loop-c.c.at (get_or a.v.now j 0) c.wide-f.result) c.kinds.ensures
-          (full-here c.requires.tables (c.full_word.ensures.stands c.if-not-full_word.false) c.wide-f.ensures);
+          subst (λ j. FullHere a.w.v.now a.t.now a.w.count c.loop-c.c.at (get_or a.w.v.now j 0) (get_or c.args.t.now c.loop-c.c.at 0)) c.kinds.ensures
+          (full-here c.args.w.tables (c.full_word.ensures.stands c.if-not-full_word.false) refl);
     } in
     let past : c.whole_word-c.result ≡ past_word true (at_frame c.passed-rest.result c.loop-c.c) = let onto = c.onto in
     let turn = word-turn in

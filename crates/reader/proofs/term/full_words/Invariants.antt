@@ -10,7 +10,7 @@ use Rattle.reader.proofs.Turns.{turns_left}
 use Rattle.reader.proofs.term.full_words.Given as goal
 
 abbrev pub invariant-loop-c : goal.invariant-loop-c
-invariant-loop-c l = Turned l.v l.t l.initial.frames l.initial.c l.frames l.c
+invariant-loop-c l = Turned l.w.v.now l.t l.initial.frames l.initial.c l.frames l.c
 
 abbrev pub decreases-loop-c : goal.decreases-loop-c
 decreases-loop-c l = turns_left l.t l.frames l.c

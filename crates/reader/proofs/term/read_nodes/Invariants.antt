@@ -8,9 +8,9 @@ use Rattle.reader.specs.Terms.{node_run}
 use Rattle.reader.proofs.Places.{AtNode}
 use Rattle.reader.proofs.term.read_nodes.Given as goal
 
-abbrev pub invariant-loop-why : goal.invariant-loop-why
-invariant-loop-why l =
-    AtNode l.v l.t l.initial.names (λ seen. node_run (vocabulary_in l.v) l.v l.t (replicate 32 0) seen false l.initial.kind l.initial.c) l.names l.frames l.c l.kind
+abbrev pub invariant-loop-x : goal.invariant-loop-x
+invariant-loop-x l =
+    AtNode l.w.v.now l.t l.initial.names (λ seen. node_run (vocabulary_in l.w.v.now) l.w.v.now l.t (replicate 32 0) seen false l.initial.kind l.initial.c) l.names l.frames l.c l.kind
 
-abbrev pub decreases-loop-why : goal.decreases-loop-why
-decreases-loop-why l = length l.t - l.c.at
+abbrev pub decreases-loop-x : goal.decreases-loop-x
+decreases-loop-x l = length l.t - l.c.at

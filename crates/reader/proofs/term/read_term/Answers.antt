@@ -10,15 +10,15 @@ use Rattle.reader.proofs.term.read_term.Goals as goal
 pub returns-then-whole_at : goal.returns-then-whole_at
 returns-then-whole_at c =
     let there = c.whole_at.ensures.there c.if-whole_at.true in
-    let few = few_words c.requires.tables (λ i. (c.shared_slice_known-1.given i).fits) in
-    let words = c.requires.tables.tabled.words in
+    let few = few_words c.args.w.tables c.args.w.bytes in
+    let words = c.args.w.tables.tabled.words in
     λ seen named.
     let at = ap (λ (d : Cursor). d.at) c.start-c.ensures in
-    ends_as (c.leaf.ensures (let long = there.0 in let most = c.requires.from_in_bounds.2 in omega arith) (let long = there.0 in let most = c.requires.from_in_bounds.2 in omega arith) ∙ ap past_leaf c.start-c.ensures)
-    (root-whole c.args.v.now c.args.t.now c.args.from c.args.kind c.requires.from_in_bounds.0 c.requires.from_in_bounds.2 there.0 there.1
+    ends_as (c.leaf.ensures (let long = there.0 in let most = c.requires.2 in omega arith) (let long = there.0 in let most = c.requires.2 in omega arith) ∙ ap past_leaf c.start-c.ensures)
+    (root-whole c.args.w.v.now c.args.t.now c.args.from c.args.kind c.requires.0 c.requires.2 there.0 there.1
     (omega arith) seen named)
 
 pub returns : goal.returns
 returns c =
-    root-read c.args.v.now c.args.t.now c.args.from c.args.kind c.requires.from_in_bounds.0 c.start-c.ensures c.args.names.now c.read_nodes.new.names c.read_nodes.result
+    root-read c.args.w.v.now c.args.t.now c.args.from c.args.kind c.requires.0 c.start-c.ensures c.args.names.now c.read_nodes.new.names c.read_nodes.result
     (c.whole_at.ensures.other c.if-whole_at.false) c.read_nodes.ensures

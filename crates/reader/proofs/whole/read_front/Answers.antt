@@ -6,5 +6,5 @@ use Rattle.reader.proofs.whole.read_front.Goals as goal
 
 pub returns : goal.returns
 returns c = let a = c.args in
-    let kinds = kind-count c.requires.tables (λ i. (c.shared_slice_known-1.given i).fits) in
-    front_read a.v.now a.t.now c.read_term.new.names c.read_term.result c.if-t-lt2.false c.if-t-gt4096.false (omega (arith, kinds, c.if-v-kind.false)) c.requires.names_value c.read_term.ensures
+    let kinds = kind-count c.args.w.tables c.args.w.bytes in
+    front_read a.w.v.now a.t.now c.read_term.new.names c.read_term.result c.if-t-lt2.false c.if-t-gt4096.false (omega (arith, kinds, c.if-w-kind.false)) c.requires c.read_term.ensures

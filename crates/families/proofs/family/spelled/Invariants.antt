@@ -1,4 +1,0 @@
-use Rattle.families.proofs.family.spelled.Given as goal
-
-abbrev pub decreases-loop-rest : goal.decreases-loop-rest
-decreases-loop-rest l = l.rest

@@ -1,0 +1,2 @@
+-- The lemmas on reasons and their numbers.
+pub mod Numbers

@@ -1,0 +1,2 @@
+-- The reasons by which a text is refused.
+pub mod Reasons
