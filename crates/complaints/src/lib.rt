@@ -16,6 +16,7 @@ use pages::Page;
 
 // ---- reasons that have something of their own to say
 
+// Kept: reasons are numbers here, as `complain`, which README names, promises a text for every number.
 const KIND_DUE: usize = 1;
 
 const PATTERN_DUE: usize = 14;

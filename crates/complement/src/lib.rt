@@ -134,7 +134,6 @@ fn list_term(
 
 // The listing of the terms of a word's written bits, the lowest first, each into the rest of the lent slice behind
 // the one before it. The word's map keeps only the bits up to each term in turn; at the highest it is the pattern's again.
-// Kept: the walk ends at the highest bit and carries two offsets, so a `for` over the eight places would be no plainer.
 #[cycle(list_places_list_term)]
 fn list_places(
     copy: &mut [u8],

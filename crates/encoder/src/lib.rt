@@ -44,7 +44,7 @@ fn put_words(k: u8, n: usize, records: &[u8; 960], out: &mut [u8; 962]) -> usize
 
 // Writes the bytes of the vocabulary of k kinds and the first n words of the table, and says how many they are. Nothing is written
 // where a count is too large for its byte or the table.
-// Kept: 0 says that nothing is written. The one caller has both counts in range, so an Option would ask it for an arm that never runs.
+// Kept: 0 and not an Option, as whoever takes that many of the bytes takes none of them then, and an Option would be unwrapped to 0.
 pub fn encode(k: usize, n: usize, records: &[u8; 960], out: &mut [u8; 962]) -> usize
     ensures encoded { k < 256 → n ≤ most_words → Encoded k n records.now result out.new }
     ensures upper_bound { result ≤ length out.new }

@@ -111,7 +111,7 @@ impl<'a> Terms<'a> {
 
     // A kind, and behind it the tokens that the digits of a number stand for, the lowest first: digit 1 is for the
     // first token of the alphabet, and there is no digit 0, so each row of tokens has one number from 1 on.
-    // Kept: the loop is over a number's digits, so what is left of it shrinks by a division, which no iterator counts.
+    // Kept: an iterator over a number's digits would be a type of its own for this one loop, and no plainer.
     fn spelled(&self, number: usize) -> Term {
         let (tokens, _) = self.alphabet.as_chunks::<2>();
         let mut term = Term {

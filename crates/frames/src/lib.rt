@@ -1,6 +1,6 @@
 // The places of a word that are due, packed into a number: those that follow each other in a run, a bit for each, the
 // offset in the vocabulary of the first one's kind, and the written map and the place map of those behind the run.
-// Kept: one number a level and no struct of four, which is for speed (docs/SPEED.md, "What was done").
+// Kept: one number a level and no struct of four, as the clauses of the public functions speak of the number (`kinds_in`, `WordFrame`).
 #![tactic(auto)]
 
 ghost use Rattle.std.specs.Prelude.{◌≡◌, ◌-◌, ◌%◌, ◌<◌, ◌≤◌};

@@ -60,7 +60,7 @@ fn read_word(v: &[u8], at: usize, kinds: u8) -> Result<usize, VocabularyRefusal>
 }
 
 // Reads all records into the tables, and sees that nothing follows the last. An array that is lent on as a slice is known by
-// its length. Kept: four tables, as `load` and `load_settled` are lent them and promise the entries of each, old and new.
+// its length. Kept: the tables apart from one another, as `load` is lent three of them and promises the entries of each, old and new.
 fn read_words(
     v: &[u8],
     words: usize,
