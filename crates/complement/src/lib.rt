@@ -56,7 +56,7 @@ fn write_entry(copy: &[u8], n: usize, word: u8, out: &mut [u8])
     out[n + 1] = 0;
 }
 
-// The lowest word of the result kind of f, by the tables.
+// The lowest word of the result kind of f, by the tables. Kept: 255 for none and not an Option, as `Chained` of `kinds` has it.
 fn lowest(f: usize, results: &[u8; 96], chains: &[u8; 112]) -> usize
     requires { f < 96 }
     ensures { Byte (get_or chains.now (96 + kind_in results.now f) 0) result }

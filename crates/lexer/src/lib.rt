@@ -93,7 +93,7 @@ pub fn same_token(text: &[u8], a: usize, b: usize) -> bool
 }
 
 // The number of the token at an offset among those that begin at the first n offsets of a table; as many as there are where
-// it is none of them.
+// it is none of them. Kept: that number and not an Option, as the contract cites `index_in`, by which the texts' names are counted.
 pub fn find(text: &[u8], at: usize, table: &[u16], n: usize) -> usize
     ensures { result ≡ index_in (token_at text.now at) (map (token_at text.now) (take n table.now)) }
 {

@@ -49,7 +49,8 @@ fn lowest_apart(a: u8, b: u8) -> usize
 }
 
 // The lowest name at which the bit map at the front of some bytes and a table of names differ, 64 where they are the same.
-// A byte of the map that is missing counts as 0. Eight names are compared at once.
+// A byte of the map that is missing counts as 0. Eight names are compared at once. Kept: 64 and not an Option, as the contract cites
+// `DifferenceAt`.
 pub fn first_difference(map: &[u8], names: &[u16; 64]) -> usize
     ensures { DifferenceAt map.now names.now result }
 {

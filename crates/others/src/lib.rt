@@ -38,6 +38,7 @@ fn first_word(siblings: &[u8; 384], f: usize) -> usize
 }
 
 // The next word of the result kind of g, by the table, 255 for none. It is a higher one, whatever the table has.
+// Kept: 255 and not an Option, as the table of siblings that the contract of `siblings` fixes has it for none.
 fn next_word(siblings: &[u8; 384], g: usize) -> usize
     requires { g < 96 }
     ensures { NextWord siblings.now g result }

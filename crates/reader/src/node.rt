@@ -68,7 +68,8 @@ pub(crate) fn node_at<'a>(
     Ok(Node::Name(b - 128))
 }
 
-// Whether a name stood at another kind. One that has not stood yet has the entry 65535.
+// Whether a name stood at another kind. One that has not stood yet has the entry 65535. Kept: a number and not an Option, as
+// `first_difference` of `namemaps`, which is public, takes this table.
 pub(crate) fn clashes(before: u16, kind: u8) -> bool
     ensures { result ≡ clashing before kind }
 {
