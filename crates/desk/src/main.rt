@@ -2,6 +2,8 @@
 // names, and prints the leftovers of each pattern. What cannot be opened, read or written is told in a line on the error output.
 #![tactic(auto)]
 
+ghost use Rattle.std.specs.Prelude.{◌≤◌, length};
+
 use pages::Page;
 use std::env::{Env, FillError};
 use std::fs;
@@ -21,11 +23,21 @@ fn answer_from(rt: &(impl Print + Eprint + Files), input: &mut impl Read) {
         return;
     };
     let mut page = Page::new();
-    answers::answer(&bytes[..n], &mut page);
-    let text = page.bytes.get(..page.end).unwrap_or(&[]);
-    if !outlet::deliver(rt, text) {
+    deliver_answer(rt, &bytes[..n], &mut page);
+}
+
+// Puts the answer for a text on a page and prints it. The page is lent, so that a proof has not a million zeros before it.
+fn deliver_answer(rt: &(impl Print + Eprint + Files), text: &[u8], page: &mut Page) {
+    answers::answer(text, page);
+    if !outlet::deliver(rt, text_on(page)) {
         complain(rt, "the answer could not be written whole");
     }
+}
+
+fn text_on(page: &Page) -> &[u8]
+    requires { page.now.end ≤ length page.now.bytes }
+{
+    &page.bytes[..page.end]
 }
 
 // Prints the answer for the file at a path.
