@@ -12,10 +12,15 @@ fn is_blank(b: u8) -> bool
     matches!(b, b' ' | b'\n' | b'\t' | b'\r')
 }
 
+// Letters and digits are asked for first, by themselves: most bytes are of these, and of one chain of tests the compiler asks
+// for the others first.
 fn is_name(b: u8) -> bool
     ensures { result ≡ is_name_byte b }
 {
-    b.is_ascii_alphanumeric() || b == b'_' || b == b'-' || !b.is_ascii()
+    if b.is_ascii_alphanumeric() {
+        return true;
+    }
+    b == b'_' || b == b'-' || !b.is_ascii()
 }
 
 // Whether a byte ends the blanks before it.
@@ -82,14 +87,14 @@ pub fn token(text: &[u8], at: usize) -> &[u8]
 pub fn is_mark(text: &[u8], at: usize, mark: u8) -> bool
     ensures { result ≡ same (token_at text.now at) (mark ∷ []) }
 {
-    token(text, at) == [mark].as_slice()
+    text.get(at) == Some(&mark) && end(text, at) == at + 1
 }
 
 // Whether the tokens that begin at two offsets have the same bytes.
 pub fn same_token(text: &[u8], a: usize, b: usize) -> bool
     ensures { result ≡ same (token_at text.now a) (token_at text.now b) }
 {
-    token(text, a) == token(text, b)
+    slices::equal(token(text, a), token(text, b))
 }
 
 // The number of the token at an offset among those that begin at the first n offsets of a table; as many as there are where
@@ -105,11 +110,13 @@ pub fn find(text: &[u8], at: usize, table: &[u16], n: usize) -> usize
         .unwrap_or(begins.len())
 }
 
-// Whether the token that begins at an offset has the bytes of a word.
+// Whether the token that begins at an offset has the bytes of a word. These are compared before the token's end is looked for,
+// as most tokens of a table are other words.
 pub fn is_word(text: &[u8], at: usize, word: &[u8]) -> bool
     ensures { result ≡ same (token_at text.now at) word.now }
 {
-    token(text, at) == word
+    let rest = text.get(at..).unwrap_or(&[]);
+    slices::equal(&rest[..word.len().min(rest.len())], word) && end(text, at) - at == word.len()
 }
 
 // Whether a character of names stands at an offset.

@@ -38,7 +38,7 @@ fn same_blocks(a: &[u8], b: &[u8], known: usize, most: usize) -> usize
     let blocks = (most - known) / BLOCK;
     for block in 0..blocks {
         let n = known + block * BLOCK;
-        if a[n..n + BLOCK] != b[n..n + BLOCK] {
+        if !slices::equal(&a[n..n + BLOCK], &b[n..n + BLOCK]) {
             return n;
         }
     }
@@ -50,7 +50,7 @@ pub fn equal(a: &[u8], b: &[u8]) -> bool
     ensures { Equal a.now b.now result }
 {
     if a.len() != maps::NODE {
-        return a == b;
+        return slices::equal(a, b);
     }
     b.len() == maps::NODE && a[0] == b[0] && a[1] == b[1]
 }
