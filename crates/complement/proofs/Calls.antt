@@ -2,7 +2,7 @@
 --
 --   pattern_repeated, pattern-linear   an accepted pattern, where a name stands twice and where none does
 --   refused-listed                     where the check of the term refuses, so does list, in the same way
---   list-vocabulary, list-term         the two refusals of the call
+--   list-refused                       the refusals of the call that reading the inputs gives
 --   some_bytes                         an accepted vocabulary has a word count
 --   patterned, list-pattern            the call where both are accepted
 --

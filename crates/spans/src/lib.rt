@@ -37,12 +37,12 @@ fn end_of(s: &[u8], at: usize) -> usize
     requires { (at ≤ length s.now) × (length s.now ≤ 4096) }
     ensures { (at < result) × ((a : Standing s.now at) → result ≡ ends a) }
 {
-    let mut due = map_at(s, at).count_ones() as usize;
+    let mut due = maps::count(map_at(s, at)) as usize;
     let mut end = at + maps::NODE;
     // Kept: how many words a turn passes depends on the maps of those before, so no iterator counts them.
     while 0 < due {
         if due < 4 {
-            due = due - 1 + map_at(s, end).count_ones() as usize;
+            due = due - 1 + maps::count(map_at(s, end)) as usize;
             end += maps::NODE;
         } else {
             let second = end + maps::NODE;
