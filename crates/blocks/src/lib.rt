@@ -83,11 +83,12 @@ fn put_answer(answer: Result<Size, ListRefusal>, listing: &[u8], tables: &Tables
 pub fn put_block(tables: &Tables, label: usize, vocabulary: &[u8], pattern: &[u8], page: &mut Page)
     ensures { Puts page.old page.new (block_by (tables_of tables.now) (token_at tables.now.text.now label) vocabulary.now pattern.now) }
 {
+    // The space stands first: if it were made behind the puts, the compiled program would clear it twice.
+    let mut space = [0u8; 65536];
     page.put(b"# ");
     put_label(tables.text, label, page);
     tables.write_phrase(pattern, page);
     page.put(b"\n");
-    let mut space = [0u8; 65536];
     let answer = complement::list(vocabulary, pattern, &mut space);
     put_answer(answer, &space, tables, page);
     page.put(b"\n");
