@@ -111,7 +111,8 @@ pub fn find(text: &[u8], at: usize, table: &[u16], n: usize) -> usize
 }
 
 // Whether the token that begins at an offset has the bytes of a word. These are compared before the token's end is looked for,
-// as most tokens of a table are other words.
+// as most tokens of a table are other words. It is put in place where it is called, which `find` does for each entry.
+#[inline(always)]
 pub fn is_word(text: &[u8], at: usize, word: &[u8]) -> bool
     ensures { result ≡ same (token_at text.now at) word.now }
 {
